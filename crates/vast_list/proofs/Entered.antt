@@ -29,10 +29,10 @@ forgotten_at :
 forgotten_at named name other meant true d h = sym h ∙ ap named (d.0 refl)
 forgotten_at named name other meant false d h = refl
 
--- A name that stood for nothing, and is forgotten once it was entered, stands for nothing.
+-- A name that was free, and is forgotten once it was entered, stands for nothing.
 pub forgotten-entered : (named : List ℕ → Option Named) (name : Option (List ℕ)) (meant : Named) → IsFree named name → forgotten (entered named name meant) name ≡ named
 forgotten-entered named None meant h = refl
-forgotten-entered named (Some name) meant h = fun_ext (λ (other : List ℕ). forgotten_at named name other meant (bytes_eq name other) (bytes_eq-Decides name other) h)
+forgotten-entered named (Some name) meant h = fun_ext (λ (other : List ℕ). forgotten_at named name other meant (bytes_eq name other) (bytes_eq-Decides name other) h.1)
 
 place_at : (is_name : Bool) (place : ℕ) (before : Option ℕ) (other : Option Named) → place_or (cond is_name (Some place) before) other ≡ cond is_name (Some (Handle place)) (place_or before other)
 place_at true place before other = refl

@@ -14,3 +14,4 @@ pub mod UntitledLists
 pub mod PlainLists
 pub mod EndedLines
 pub mod Numbered
+pub mod Skipped

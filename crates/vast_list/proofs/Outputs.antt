@@ -1,5 +1,5 @@
 -- What is printed of a list.
-use Rattle.std.proofs.Common.{◌≡◌, ℕ, ◌+◌, ◌-◌, ◌<◌, arith, length, get_or, Bool, List, [], ◌∷◌, ◌++◌, take, drop, All, Option, Some, None, Bor, sym, ap, subst, ◌∙◌}
+use Rattle.std.proofs.Common.{◌≡◌, ℕ, ◌+◌, ◌-◌, ◌<◌, arith, length, get_or, Bool, false, List, [], ◌∷◌, ◌++◌, take, drop, All, Option, Some, None, Bor, sym, ap, subst, ◌∙◌}
 use Rattle.std.proofs.lemmas.List.{map-append, take-append-drop, take_all, take_more, length-drop}
 use Rattle.std.proofs.lemmas.List.Elements.{All-push}
 use Rattle.std.specs.Prelude.{IsTrue, is_some}
@@ -15,7 +15,7 @@ use Rattle.vast_list.specs.Internal.Built.{TakesLine}
 use Rattle.vast_list.proofs.Built.{lines-more}
 use Rattle.vast_list.specs.Lines.{BeginsWithDialect, Passed, dialect_word, line_kind, line_texts, without_return}
 use Rattle.vast_list.specs.Output.{IsOutput, StopsAtFault, is_again, is_made}
-use Rattle.vast_list.specs.Internal.Output.{IsAnswered, IsDesign, IsFinished, IsReport, Prints, TakesOn}
+use Rattle.vast_list.specs.Internal.Output.{IsAnswered, IsAnswering, IsDesign, IsFinished, IsReport, Prints, TakesOn}
 use Rattle.vast_list.specs.Written.{meaning}
 
 -- The lines of a list that stand behind the first that is no comment.
@@ -45,7 +45,7 @@ with_title title words answering verdict output e b = subst (λ (t : Option (Bor
 pub ruleset titles = (without_title, with_title)
 
 -- The file is what the list's lines build.
-list_text :
+pub list_text :
     (tries : Tries) (lines behind : List (List ℕ)) (dialect : VastFileType) (answering : Answering) (text : List ℕ) → BeginsWithDialect lines dialect behind → IsAnswered tries dialect behind answering →
     IsTrue (is_made answering.told.verdict) → IsTextOf (tree answering.session.file) text → IsListText (is_again tries) lines text
 list_text tries lines behind dialect answering text begun answered made is =
@@ -75,13 +75,27 @@ pub lines-next :
 lines-next again dialect lines i line old new l at h takes = rw (texts-more lines i line l at) (lines-more again dialect (line_texts (take i lines)) line.1.now old new h takes)
 
 -- Of a list that is not at fault, one line more is taken.
-pub answered-next :
+answered-next :
     (tries : Tries) (dialect : VastFileType) (lines : List (ℕ × Bor (List ℕ))) (i : ℕ) (line : ℕ × Bor (List ℕ)) (old new : Answering) → i < length lines →
     line ≡ get_or lines i line → is_some old.trial ≡ is_again tries → StopsAtFault old → IsAnswered tries dialect (line_texts (take i lines)) old → TakesOn old new line.1.now →
     IsAnswered tries dialect (line_texts (take (i + 1) lines)) new
 answered-next tries dialect lines i line old new l at trial stops built on made =
     let takes = subst (λ (again : Bool). TakesLine again old.session new.session line.1.now) trial (on.taken stops made) in
     lines-next (is_again tries) dialect lines i line old.session new.session l at (built (on.verdict made)) takes
+
+pub answering-next :
+    (tries : Tries) (dialect : VastFileType) (lines : List (ℕ × Bor (List ℕ))) (i : ℕ) (line : ℕ × Bor (List ℕ)) (old new : Answering) → i < length lines →
+    line ≡ get_or lines i line → IsAnswering tries dialect (line_texts (take i lines)) old → TakesOn old new line.1.now → IsAnswering tries dialect (line_texts (take (i + 1) lines)) new
+answering-next tries dialect lines i line old new l at so on = record {
+  trial = on.trial ∙ so.trial;
+  stopped = on.stopped so.stopped;
+  built = answered-next tries dialect lines i line old new l at so.trial so.stopped so.built on;
+}
+
+pub answering-none :
+    (tries : Tries) (dialect : VastFileType) (answering : Answering) → is_some answering.trial ≡ is_again tries → answering.is_stopped ≡ false → ((again : Bool) → HasBuilt again dialect [] answering.session) →
+    IsAnswering tries dialect [] answering
+answering-none tries dialect answering trial going built = record { trial = trial; stopped = λ stops. absurd (cc (sym going ∙ stops)); built = λ _. built (is_again tries) }
 
 pub next-printed : (old now new : Answering) → Prints old now → Prints now new → Prints old new
 next-printed old now new p q = record { session = q.session ∙ p.session; trial = q.trial ∙ p.trial; report = q.report ∙ p.report; stopped = q.stopped ∙ p.stopped; verdict = λ made. p.verdict (q.verdict made) }

@@ -1,5 +1,5 @@
 -- What the lines of a session leave.
-use Rattle.std.proofs.Common.{◌≡◌, ℕ, Bool, false, if◌then◌else◌, List, [], Result, Ok, Err, Some, None, String, inl, inr, refl, ap, subst, sym, ◌∙◌, append-nil, string_bytes, true, ◌∷◌, ◌&&◌, nat_lt, ltb-true}
+use Rattle.std.proofs.Common.{◌≡◌, ℕ, ◌+◌, ◌-◌, ◌^◌, length, min, Bool, false, if◌then◌else◌, List, [], Result, Ok, Err, Some, None, String, inl, inr, refl, ap, subst, sym, ◌∙◌, append-nil, string_bytes, true, ◌∷◌, ◌&&◌, nat_lt, ltb-true}
 use Rattle.std.specs.declared.alloc.Global.{Global}
 use Rattle.vast_literal.specs.Tree.{FileTree}
 use Rattle.vast_literal.specs.declared.error.VastFault.{VastFault}
@@ -8,6 +8,7 @@ use Rattle.vast_core.specs.FileTree.{tree}
 use Rattle.xlsynth_vast.specs.Reductions.{HasMoreNodes}
 use Rattle.xlsynth_vast.specs.Registers.{HasUnused}
 use Rattle.xlsynth_vast.proofs.RegisterParts.{unused-none}
+use Rattle.vast_print.specs.Derived.{FileDerivesIfPlain}
 use Rattle.vast_print.specs.Emits.{Emits}
 use Rattle.vast_print.specs.Layout.{layout}
 use Rattle.vast_script.specs.declared.answer.Answer.{Answer}
@@ -29,14 +30,14 @@ use Rattle.vast_list.specs.declared.names.Named.{Named}
 use Rattle.vast_list.specs.declared.names.Names.{Names}
 use Rattle.vast_list.specs.declared.questions.Question.{Question}
 use Rattle.vast_list.specs.declared.questions.answered.Value.{Value}
-use Rattle.std.specs.Prelude.{IfSome, Option, option_copied, codes, slice_index, ◌==◌}
-use Rattle.vast_list.specs.Lines.{Asked, HasKind, Helped, Passed, Stepped, behind_call, is_passed, line_arguments, line_kind, line_name, line_word, text_name, without_return, word_kind, NamesDialect}
+use Rattle.std.specs.Prelude.{IfOk, IfSome, Option, is_some, option_copied, codes, slice_index, ◌==◌}
+use Rattle.vast_list.specs.Lines.{Asked, HasKind, Helped, Passed, Stepped, behind_call, call_word, is_call, is_passed, line_arguments, line_kind, line_name, line_word, text_name, without_return, word_kind, NamesDialect}
 use Rattle.vast_list.specs.Names.{IsFree, value_named}
 use Rattle.vast_list.specs.Helpers.{Helps, IsKept}
 use Rattle.vast_list.specs.CallNames.{call_name}
 use Rattle.vast_list.specs.Questions.{Asks}
-use Rattle.vast_list.specs.Session.{Calls, Enters, GivesAnswer, HasMade, IsCallOf, IsCause, IsCausedBy, IsInForm, IsOfLine, IsQuestionIn, IsStepIn, call_kind, IsFileLeft, IsLeft, IsMade, IsTextOf, IsWrittenIn}
-use Rattle.vast_list.specs.Internal.Session.{IsActionOf, IsCallFault, IsQuestionFault, IsRead, IsToldAs, IsToldOf}
+use Rattle.vast_list.specs.Session.{Calls, Enters, GivesAnswer, HasMade, IsCallOf, IsCause, IsCausedBy, IsBegun, IsInForm, IsNumbered, IsOfLine, IsQuestionIn, IsStepIn, NamesCall, call_kind, next_number, told_number, IsFileLeft, IsLeft, IsMade, IsTextOf, IsWrittenIn}
+use Rattle.vast_list.specs.Internal.Session.{IsActionOf, IsAskFault, IsCallFault, IsMisread, IsQuestionFault, IsRead, IsToldAs, IsToldOf, NamesWord}
 use Rattle.vast_list.specs.Written.{meaning}
 use Rattle.std.specs.Str.{IsUtf8, IsAscii}
 use Rattle.std.proofs.lemmas.Bool.{and_parts}
@@ -96,16 +97,26 @@ unused_call old new answers call fault h = unused_kept old new fault (kept_call 
 pub left_call : (old new : Session) (call : Call) (fault : StepFault) (told : Fault) → Calls old.file new.file old.answers.items (Err fault) call → new.answers.items ≡ old.answers.items → IsToldAs fault told → IsFileLeft old new told
 left_call old new call fault told h a t = left_kept old new fault told (kept_call old.file new.file old.answers.items fault call h) a t
 
-pub call_fault :
-    (old new : Session) (call : Call) (number : ℕ) (cause : StepFault) (told : Fault) →
-    Calls old.file new.file old.answers.items (Err cause) call → IsToldOf number (Some cause) told → IsCallFault old new call told
-call_fault old new call number cause (Line f) h e =
-    subst (λ (found : Option StepFault). IfSome found (λ (c : StepFault). Calls old.file new.file old.answers.items (Err c) call)) (sym e.1) h
-call_fault old new call number cause Memory h e = tt
+next-same : (old new : Session) → new.answers.items ≡ old.answers.items → new.skipped.items ≡ old.skipped.items → next_number new ≡ next_number old
+next-same old new a s = λ i. min (length (a i) + length (s i)) (2 ^ 64 - 1)
 
-pub of_line : (number : ℕ) (cause : Option StepFault) (told : Fault) → IsToldOf number cause told → IsOfLine number told
-of_line number cause (Line f) e = e.0
-of_line number cause Memory e = tt
+pub call_fault :
+    (old new : Session) (name : List ℕ) (call : Call) (number : ℕ) (cause : StepFault) (told : Fault) → Calls old.file new.file old.answers.items (Err cause) call →
+    new.answers.items ≡ old.answers.items → new.skipped.items ≡ old.skipped.items → IsToldOf number name (Some (next_number new)) (Some cause) told → IsCallFault old new name call told
+call_fault old new name call number cause (Line f) h a s e = (e.1, e.2 ∙ ap (λ (n : ℕ). Some n) (next-same old new a s), cause, e.3, h)
+call_fault old new name call number cause Memory h a s e = tt
+
+pub ask_fault : (number : ℕ) (name : List ℕ) (cause : StepFault) (told : Fault) → IsToldOf number name None (Some cause) told → IsAskFault number name told
+ask_fault number name cause (Line f) e = (e.0, e.1, e.2, ap is_some e.3)
+ask_fault number name cause Memory e = tt
+
+pub of_line : (number : ℕ) (name : List ℕ) (step : Option ℕ) (cause : Option StepFault) (told : Fault) → IsToldOf number name step cause told → IsOfLine number told
+of_line number name step cause (Line f) e = e.0
+of_line number name step cause Memory e = tt
+
+pub of_ask : (number : ℕ) (name : List ℕ) (told : Fault) → IsAskFault number name told → IsOfLine number told
+of_ask number name (Line f) e = e.0
+of_ask number name Memory e = tt
 
 abbrev are_ascii : List ℕ → Bool
 are_ascii [] = true
@@ -122,8 +133,8 @@ named_dialect line other (SystemVerilog, is) = other (subst IsUtf8 (sym is) (IsU
 
 -- Where memory was refused.
 
-pub memory_call : (old new : Session) (call : Call) (told : Fault) → told ≡ Memory → IsCallFault old new call told
-memory_call old new call told e = subst (λ (f : Fault). IsCallFault old new call f) (sym e) tt
+pub memory_call : (old new : Session) (name : List ℕ) (call : Call) (told : Fault) → told ≡ Memory → IsCallFault old new name call told
+memory_call old new name call told e = subst (λ (f : Fault). IsCallFault old new name call f) (sym e) tt
 
 pub memory_line : (number : ℕ) (told : Fault) → told ≡ Memory → IsOfLine number told
 memory_line number told e = subst (λ (f : Fault). IsOfLine number f) (sym e) tt
@@ -134,6 +145,12 @@ memory_cause old new line told e = subst (λ (f : Fault). IsCausedBy old new lin
 pub file_same : (old new : Session) (fault : Fault) → new.file ≡ old.file → new.answers.items ≡ old.answers.items → IsFileLeft old new fault
 file_same old new (Line f) e a = (e, a)
 file_same old new Memory e a = (ap tree e, a)
+
+pub memory_number : (session : Session) (line : List ℕ) (told : Fault) → told ≡ Memory → IsNumbered session line (Err told)
+memory_number session line told e = subst (λ (f : Fault). IsNumbered session line (Err f)) (sym e) tt
+
+pub memory_name : (session : Session) (line : List ℕ) (told : Fault) → told ≡ Memory → NamesCall session line told
+memory_name session line told e = subst (λ (f : Fault). NamesCall session line f) (sym e) tt
 
 pub ruleset dialects = (of_line)
 
@@ -151,6 +168,11 @@ pub read_known :
 read_known known session text line n s h =
     subst (λ (skipped : List ℕ). IsRead (meaning session.names) skipped text line) s
     (subst (λ (names : Names). IsRead (meaning names) known.skipped.now text line) n h)
+
+pub misread_known :
+    (names : List ℕ → Option Named) (session : Session) (number : ℕ) (text name : List ℕ) (fault : Fault) → names ≡ meaning session.names → NamesWord names text name → IsToldOf number name None None fault →
+    IsMisread (meaning session.names) number text fault
+misread_known names session number text name fault n h e = (name, subst (λ (named : List ℕ → Option Named). NamesWord named text name) n h, e)
 
 pub left_same :
     (old new : Session) (fault : Fault) → new.file ≡ old.file → new.answers.items ≡ old.answers.items → meaning new.names ≡ meaning old.names → new.skipped.items ≡ old.skipped.items → IsLeft old new fault
@@ -218,10 +240,15 @@ other line u h = u h.0
 
 pub ruleset reading = (in_form, step_in, full, other)
 
--- The fault of a line that is not in the form has no cause.
-pub uncaused : (old new : Session) (line : List ℕ) (number : ℕ) (fault : Fault) → IsToldOf number None fault → IsCausedBy old new line fault
-uncaused old new line number (Line f) e = subst (λ (found : Option StepFault). IfSome found (IsCause old new line)) (sym e.1) tt
-uncaused old new line number Memory e = tt
+-- The fault of a line that is not in the form has no cause, and no number.
+
+pub uncaused : (old new : Session) (line : List ℕ) (number : ℕ) (name : List ℕ) (step : Option ℕ) (fault : Fault) → IsToldOf number name step None fault → IsCausedBy old new line fault
+uncaused old new line number name step (Line f) e = subst (λ (found : Option StepFault). IfSome found (IsCause old new line)) (sym e.3) tt
+uncaused old new line number name step Memory e = tt
+
+pub unnumbered : (session : Session) (line : List ℕ) (number : ℕ) (name : List ℕ) (fault : Fault) → IsToldOf number name None None fault → IsNumbered session line (Err fault)
+unnumbered session line number name (Line f) e = e.2 ∙ sym (ap (told_number session line) e.3)
+unnumbered session line number name Memory e = tt
 
 asked_cause :
     (old new : Session) (line : List ℕ) (question : Question) (found : Option StepFault) → IsQuestionIn old question line →
@@ -234,11 +261,11 @@ asked_fault old new line question (Line f) k h = asked_cause old new line questi
 asked_fault old new line question Memory k h = tt
 
 pub question_fault :
-    (session : Session) (question : Question) (number : ℕ) (cause : StepFault) (told : Fault) → Asks session.file session.answers.items (Err cause) question → IsToldOf number (Some cause) told →
-    IsQuestionFault session question told
-question_fault session question number cause (Line f) h e =
-    subst (λ (found : Option StepFault). IfSome found (λ (c : StepFault). Asks session.file session.answers.items (Err c) question)) (sym e.1) h
-question_fault session question number cause Memory h e = tt
+    (session : Session) (question : Question) (number : ℕ) (name : List ℕ) (cause : StepFault) (told : Fault) → Asks session.file session.answers.items (Err cause) question →
+    IsToldOf number name None (Some cause) told → IsQuestionFault session question told
+question_fault session question number name cause (Line f) h e =
+    subst (λ (found : Option StepFault). IfSome found (λ (c : StepFault). Asks session.file session.answers.items (Err c) question)) (sym e.3) h
+question_fault session question number name cause Memory h e = tt
 
 -- The question that a line was read as.
 question_in :
@@ -263,22 +290,110 @@ answered old new text line read question value meant r a p e h f s n is =
     let entered = enters_read old new text line read meant r e n in
     ((question, question_in old text line read question r a p e, h), (f, s), subst (λ (m : Named). Enters old new (line_name line) m) is entered)
 
-call_cause :
-    (old new : Session) (line : List ℕ) (call : Call) (found : Option StepFault) → line_kind line ≡ call_kind call → IsCallOf old call line →
-    IfSome found (λ (cause : StepFault). Calls old.file new.file old.answers.items (Err cause) call) → IfSome found (IsCause old new line)
-call_cause old new line call None k w h = tt
-call_cause old new line call (Some cause) k w h = inr (call, k, w, h)
+none-asked : (session : Session) (line : List ℕ) (cause : Option StepFault) → line_kind line ≡ Asked → told_number session line cause ≡ None
+none-asked session line None k = refl
+none-asked session line (Some cause) k = ap (λ (b : Bool). if b then Some (next_number session) else None) (ap is_call k)
+
+pub asked_number : (session : Session) (line : List ℕ) (number : ℕ) (name : List ℕ) (fault : Fault) → line_kind line ≡ Asked → IsAskFault number name fault → IsNumbered session line (Err fault)
+asked_number session line number name (Line f) k h = h.2 ∙ sym (none-asked session line f.cause k)
+asked_number session line number name Memory k h = tt
 
 -- What became of the call that the line is.
-pub caused : (old new : Session) (line : List ℕ) (call : Call) (fault : Fault) → line_kind line ≡ call_kind call → IsCallOf old call line → IsCallFault old new call fault → IsCausedBy old new line fault
-caused old new line call (Line f) k w h = call_cause old new line call f.cause k w h
-caused old new line call Memory k w h = tt
+pub caused :
+    (old new : Session) (line name : List ℕ) (call : Call) (fault : Fault) → line_kind line ≡ call_kind call → IsCallOf old call line → IsCallFault old new name call fault → IsCausedBy old new line fault
+caused old new line name call (Line f) k w h = subst (λ (found : Option StepFault). IfSome found (IsCause old new line)) (sym h.3) (inr (call, k, w, h.4))
+caused old new line name call Memory k w h = tt
 
-pub ruleset asking = (question_fault, of_line)
+is-counted : (call : Call) → is_call (call_kind call) ≡ true
+is-counted (StepCall step) = refl
+is-counted (HelperCall helper) = refl
 
-pub ruleset lines = (full, other, left_same, has_made, same-unused, uncaused, asked, answered, caused, of_line, memory_line, memory_cause)
+pub numbered :
+    (old new : Session) (line name : List ℕ) (call : Call) (fault : Fault) → line_kind line ≡ call_kind call → IsCallFault old new name call fault → IsNumbered old line (Err fault)
+numbered old new line name call (Line f) k h =
+    h.1 ∙ sym (ap (told_number old line) h.3 ∙ ap (λ (b : Bool). if b then Some (next_number old) else None) (ap is_call k ∙ is-counted call))
+numbered old new line name call Memory k h = tt
 
-pub text_of : (file : FileTree) (text : String Global) (answer : Result (String Global) VastFault) → Emits (layout file) answer → answer ≡ Ok text → IsTextOf file (string_bytes text)
-text_of file text answer h e = let m = subst (λ (r : Result (String Global) VastFault). Emits (layout file) r) e h in (m.0, m.1)
+-- Which call a fault names.
+
+pub called_bytes : (session : Session) (line : List ℕ) (number : ℕ) (fault : Fault) → IsToldOf number [] None None fault → (IsUtf8 (without_return line) → ⊥) → NamesCall session line fault
+called_bytes session line number (Line f) e u = inr ((λ begun. u begun.0), e.3, e.1)
+called_bytes session line number Memory e u = tt
+
+called-word :
+    (session : Session) (line : List ℕ) (number : ℕ) (name : List ℕ) (fault : Fault) → NamesWord (meaning session.names) (without_return line) name → IsToldOf number name None None fault →
+    IsUtf8 (without_return line) → NamesCall session line fault
+called-word session line number name (Line f) (inl (front, is)) e u = inl ((u, front), e.1 ∙ is)
+called-word session line number name (Line f) (inr (unbegun, none)) e u = inr ((λ begun. unbegun begun.1), e.3, e.1 ∙ none)
+called-word session line number name Memory h e u = tt
+
+-- The fault of a line that could not be read.
+
+pub misread_cause : (old new : Session) (text line : List ℕ) (number : ℕ) (fault : Fault) → IsMisread (meaning old.names) number text fault → IsCausedBy old new line fault
+misread_cause old new text line number fault (name, word, told) = uncaused old new line number name None fault told
+
+pub misread_number : (session : Session) (text line : List ℕ) (number : ℕ) (fault : Fault) → IsMisread (meaning session.names) number text fault → IsNumbered session line (Err fault)
+misread_number session text line number fault (name, word, told) = unnumbered session line number name fault told
+
+pub of_misread : (named : List ℕ → Option Named) (text : List ℕ) (number : ℕ) (fault : Fault) → IsMisread named number text fault → IsOfLine number fault
+of_misread named text number fault (name, word, told) = of_line number name None None fault told
+
+pub misread_call :
+    (session : Session) (text line : List ℕ) (number : ℕ) (fault : Fault) → IsMisread (meaning session.names) number text fault → text ≡ without_return line → IsUtf8 (without_return line) →
+    NamesCall session line fault
+misread_call session text line number fault (name, word, told) e u =
+    called-word session line number name fault (subst (λ (t : List ℕ). NamesWord (meaning session.names) t name) e word) told u
+
+begun-read : (session : Session) (text line : List ℕ) (read : ReadLine) → IsRead (meaning session.names) session.skipped.items text read → text ≡ without_return line → IsUtf8 (without_return line) → IsBegun session line
+begun-read session text line read r e u = let found = read_of session text line read r e in (u, (found.4, found.3))
+
+pub called_ask :
+    (session : Session) (text line : List ℕ) (read : ReadLine) (number : ℕ) (fault : Fault) → IsRead (meaning session.names) session.skipped.items text read → text ≡ without_return line →
+    IsUtf8 (without_return line) → IsAskFault number read.call.now fault → NamesCall session line fault
+called_ask session text line read number (Line f) r e u h = inl (begun-read session text line read r e u, h.1 ∙ r.0 ∙ ap call_word e)
+called_ask session text line read number Memory r e u h = tt
+
+pub called :
+    (old new : Session) (text line : List ℕ) (read : ReadLine) (call : Call) (fault : Fault) → IsRead (meaning old.names) old.skipped.items text read → text ≡ without_return line →
+    IsUtf8 (without_return line) → IsCallFault old new read.call.now call fault → NamesCall old line fault
+called old new text line read call (Line f) r e u h = inl (begun-read old text line read r e u, h.0 ∙ r.0 ∙ ap call_word e)
+called old new text line read call Memory r e u h = tt
+
+pub ruleset asking = (ask_fault, question_fault)
+
+pub ruleset lines = (
+  full,
+  other,
+  left_same,
+  has_made,
+  same-unused,
+  uncaused,
+  unnumbered,
+  asked,
+  answered,
+  asked_number,
+  caused,
+  numbered,
+  called_bytes,
+  called_ask,
+  called,
+  misread_cause,
+  misread_number,
+  misread_call,
+  of_misread,
+  of_line,
+  of_ask,
+  memory_line,
+  memory_cause,
+  memory_number,
+  memory_name,
+)
+
+pub text_of :
+    (file : FileTree) (text : String Global) (answer : Result (String Global) VastFault) → Emits (layout file) answer → IfOk answer (λ made. FileDerivesIfPlain (string_bytes made) file) → answer ≡ Ok text →
+    IsTextOf file (string_bytes text)
+text_of file text answer h d e =
+    let m = subst (λ (r : Result (String Global) VastFault). Emits (layout file) r) e h in
+    (m.0, m.1, subst (λ (r : Result (String Global) VastFault). IfOk r (λ made. FileDerivesIfPlain (string_bytes made) file)) e d)
 
 pub ruleset emitted = (text_of)

@@ -14,9 +14,9 @@ use Rattle.vast_list.specs.declared.untitled.Stage.TheVariants.{Before, Behind, 
 use Rattle.vast_list.specs.declared.untitled.UntitledList.{UntitledList}
 use Rattle.vast_list.specs.Built.{HasBuilt, IsListText}
 use Rattle.vast_list.specs.Internal.Built.{TakesLine}
-use Rattle.vast_list.specs.Lines.{BeginsWithDialect, Passed, dialect_word, line_kind, without_return}
+use Rattle.vast_list.specs.Lines.{BeginsWithDialect, HasKind, NamesDialect, Passed, dialect_word, line_kind, without_return}
 use Rattle.vast_list.specs.Internal.Output.{IsDesign, IsFinished, TakesOn}
-use Rattle.vast_list.specs.Untitled.{GoesOnTo, HasAnswered, HaveLedTo, IsPrintedOf}
+use Rattle.vast_list.specs.Untitled.{GoesOnTo, HasAnswered, HaveLedTo, IsPrintedOf, NameNoDialect}
 use Rattle.vast_list.specs.Internal.Untitled.{LeadsTo}
 use Rattle.vast_list.specs.Written.{meaning}
 use Rattle.vast_list.proofs.Built.{lines-more}
@@ -34,8 +34,8 @@ answered_first line dialect answering word trial going built =
     λ lines blank. record { trial = trial; stopped = λ stops. absurd (cc (sym going ∙ stops)); built = λ made. (dialect, [], (lines, line, blank, word, refl), built) }
 
 -- It names none.
-pub led_astray : (line : List ℕ) (fault : LineFault) → LeadsTo line (Astray fault)
-led_astray line fault = λ lines blank. tt
+pub led_astray : (line : List ℕ) (fault : LineFault) → (HasKind line Passed → ⊥) → (NamesDialect line → ⊥) → LeadsTo line (Astray fault)
+led_astray line fault full none = λ lines blank. (lines, line, [], blank, full, none, refl)
 
 -- One line more is answered.
 pub answered-more : (lines : List (List ℕ)) (line : List ℕ) (old new : Answering) → HasAnswered lines old → TakesOn old new line → HasAnswered (lines ++ line ∷ []) new
@@ -61,11 +61,16 @@ pub taken_before : (old new : UntitledList) (line : List ℕ) → old.stage ≡ 
 taken_before old new line was is kind =
     λ lines h. subst (λ (s : Stage). HaveLedTo (lines ++ line ∷ []) s) (sym is) (All-push (λ (l : List ℕ). line_kind l ≡ Passed) lines line (subst (λ (s : Stage). HaveLedTo lines s) was h) kind)
 
-pub taken_first : (old new : UntitledList) (line : List ℕ) → old.stage ≡ Before → LeadsTo line new.stage → GoesOnTo old new line
-taken_first old new line was leads = λ lines h. leads lines (subst (λ (s : Stage). HaveLedTo lines s) was h)
+pub taken_first :
+    (old new : UntitledList) (line : List ℕ) → old.stage ≡ Before → (HasKind line Passed → ⊥) → ((HasKind line Passed → ⊥) → LeadsTo line new.stage) → GoesOnTo old new line
+taken_first old new line was full leads = λ lines h. leads full lines (subst (λ (s : Stage). HaveLedTo lines s) was h)
 
-pub taken_astray : (old new : UntitledList) (line : List ℕ) (fault : LineFault) → new.stage ≡ Astray fault → GoesOnTo old new line
-taken_astray old new line fault is = λ lines h. subst (λ (s : Stage). HaveLedTo (lines ++ line ∷ []) s) (sym is) tt
+pub taken_astray : (old new : UntitledList) (line : List ℕ) (fault : LineFault) → old.stage ≡ Astray fault → new.stage ≡ Astray fault → GoesOnTo old new line
+taken_astray old new line fault was is =
+    λ lines h.
+    let led : NameNoDialect lines = subst (λ (s : Stage). HaveLedTo lines s) was h in
+    subst (λ (s : Stage). HaveLedTo (lines ++ line ∷ []) s) (sym is)
+    (led.0, led.1, led.2 ++ line ∷ [], led.3, led.4, led.5, ap (λ (ls : List (List ℕ)). ls ++ line ∷ []) led.6 ∙ append_assoc led.0 (led.1 ∷ led.2) (line ∷ []))
 
 -- The text of the file that the lines built.
 text-of-lines : (lines : List (List ℕ)) (answering : Answering) (output : List ℕ) → HasAnswered lines answering → IsDesign answering output → IsListText false lines output

@@ -21,6 +21,11 @@ without_return line = if ends_with (λ b c. b == c) line (13 ∷ []) then take (
 abbrev pub is_blank : ℕ → Bool
 is_blank byte = (byte == 32) || (byte == 9)
 
+-- A space or a tab stands at the front.
+abbrev pub begins_blank : List ℕ → Bool
+begins_blank [] = false
+begins_blank (byte ∷ bytes) = is_blank byte
+
 -- What stands behind the blanks at the front.
 abbrev pub behind_blanks : List ℕ → List ℕ
 behind_blanks [] = []

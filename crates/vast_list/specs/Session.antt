@@ -1,12 +1,17 @@
 -- What a line of a list does to a session: to its file and the answers so far.
-use Rattle.std.specs.Prelude.{◌≡◌, ◌⊎◌, ℕ, List, [], ◌∷◌, ◌++◌, length, Option, IfSome, None, Result, Ok, Err, ⊤}
+use Rattle.std.specs.Prelude.{◌≡◌, ◌⊎◌, ℕ, ◌+◌, ◌-◌, ◌^◌, false, List, [], ◌∷◌, ◌++◌, length, min, Option, IfSome, Some, None, Result, Ok, Err, if◌then◌else◌, string_bytes, ⊤}
+use Rattle.std.specs.Str.{IsUtf8}
 use Rattle.vast_core.specs.Bench.{Bench, start}
 use Rattle.vast_core.specs.FileTree.{tree}
 use Rattle.vast_literal.specs.Tree.{FileTree}
+use Rattle.vast_literal.specs.declared.error.VastError.{VastError}
+use Rattle.vast_print.specs.Derived.{FileDerivesIfPlain}
+use Rattle.vast_print.specs.Emits.{words_of}
 use Rattle.vast_print.specs.Layout.{layout}
 use Rattle.vast_print.specs.Page.{print}
 use Rattle.vast_script.specs.declared.answer.Answer.{Answer}
 use Rattle.vast_script.specs.declared.fault.StepFault.{StepFault}
+use Rattle.vast_script.specs.declared.fault.StepFault.TheVariants.{Refused}
 use Rattle.vast_script.specs.declared.step.Step.{Step as ScriptStep}
 use Rattle.vast_script.specs.Outcome.{Replays}
 use Rattle.vast_script.specs.Script.{call_of}
@@ -24,7 +29,7 @@ use Rattle.vast_list.specs.declared.questions.answered.Value.{Value}
 use Rattle.vast_list.specs.CallArguments.{call_pieces}
 use Rattle.vast_list.specs.CallNames.{call_name}
 use Rattle.vast_list.specs.Helpers.{Helps}
-use Rattle.vast_list.specs.Lines.{LineKind, Passed, Asked, Helped, Stepped, line_arguments, line_kind, line_name, line_word}
+use Rattle.vast_list.specs.Lines.{LineKind, Passed, Asked, Helped, Stepped, begins_blank, is_call_line, line_arguments, line_kind, line_name, line_word, text_name, without_return}
 use Rattle.vast_list.specs.Names.{IsEntered, IsFree, value_named}
 use Rattle.vast_list.specs.Questions.{Asks, IsQuestionOf}
 use Rattle.vast_list.specs.Written.{AreWritten, meaning}
@@ -126,6 +131,24 @@ abbrev pub Takes : (old new : Session) → (line : List ℕ) → Result Given Fa
 Takes old new line (Ok given) = Gives old new line given
 Takes old new line (Err fault) = IsLeft old new fault
 
+-- The number of the next step or helper: how many there are so far, those that were passed over included.
+abbrev pub next_number : Session → ℕ
+next_number session = min (length session.answers.items + length session.skipped.items) (2 ^ 64 - 1)
+
+-- The number that is told of a line that gave nothing: of a step or a helper that is in the form the next one, else none.
+abbrev pub told_number : Session → (line : List ℕ) → (cause : Option StepFault) → Option ℕ
+told_number session line None = None
+told_number session line (Some cause) = if is_call_line line then Some (next_number session) else None
+
+-- A step or a helper has the next number, whether it was made or is at fault.
+abbrev pub IsNumbered : Session → (line : List ℕ) → Result Given Fault → Type 0
+IsNumbered session line (Ok Nothing) = ⊤
+IsNumbered session line (Ok (Step number name)) = number ≡ next_number session
+IsNumbered session line (Ok (Helper number name)) = number ≡ next_number session
+IsNumbered session line (Ok (Answered name value)) = ⊤
+IsNumbered session line (Err (Line fault)) = fault.step ≡ told_number session line fault.cause
+IsNumbered session line (Err Memory) = ⊤
+
 -- A session of the dialect in which nothing was done.
 abbrev pub IsNew : VastFileType → Session → Type 0
 IsNew dialect session =
@@ -147,12 +170,45 @@ abbrev pub IsCausedBy : (old new : Session) → (line : List ℕ) → Fault → 
 IsCausedBy old new line (Line fault) = IfSome fault.cause (IsCause old new line)
 IsCausedBy old new line Memory = ⊤
 
--- A line that is passed over changes neither the file nor the answers; names stand for what they did, but that the line's
--- name, which stood for nothing, may stand for what was passed over.
-abbrev pub Skips : (old new : Session) → (line : List ℕ) → Type 0
-Skips old new line =
-    IsSameFile old new × ((meaning new.names ≡ meaning old.names) ⊎ IsEntered (meaning old.names) (meaning new.names) (line_name line) Skipped)
+-- What stands before the call of a text is in the form: no blank is at the front, and the name of the answer is free.
+abbrev pub IsFront : (named : List ℕ → Option Named) → (text : List ℕ) → Type 0
+IsFront named text = (begins_blank text ≡ false) × IsFree named (text_name text)
 
--- The text is the printed layout of the tree, which nothing refuses.
+-- What stands before the call of a line is in the form, and the line is UTF-8.
+abbrev pub IsBegun : Session → (line : List ℕ) → Type 0
+IsBegun session line = IsUtf8 (without_return line) × IsFront (meaning session.names) (without_return line)
+
+-- A line's fault names the call that stands in the line, where what stands before it is in the form; else it names none, and
+-- has no cause.
+abbrev pub NamesCall : Session → (line : List ℕ) → Fault → Type 0
+NamesCall session line (Line fault) =
+    (IsBegun session line × (string_bytes fault.call ≡ line_word line))
+    ⊎ ((IsBegun session line → ⊥) × (fault.cause ≡ None) × (string_bytes fault.call ≡ []))
+NamesCall session line Memory = ⊤
+
+-- The numbers that are passed over with a line: that of a step or a helper.
+abbrev pub passed_numbers : Session → (line : List ℕ) → List ℕ
+passed_numbers session line = if is_call_line line then next_number session ∷ [] else []
+
+-- The line's number is passed over, and its name, if it is free, stands for what was passed over.
+pub record IsSkipped (old new : Session) (line : List ℕ) : Type 0 where
+  pub numbers : new.skipped.items ≡ old.skipped.items ++ passed_numbers old line
+  pub free : IsFree (meaning old.names) (line_name line) → IsEntered (meaning old.names) (meaning new.names) (line_name line) Skipped
+  pub taken : (IsFree (meaning old.names) (line_name line) → ⊥) → meaning new.names ≡ meaning old.names
+
+-- A line that is passed over changes neither the file nor the answers, and one that is no UTF-8 nothing at all.
+pub record Skips (old new : Session) (line : List ℕ) : Type 0 where
+  pub file : IsSameFile old new
+  pub known : IsUtf8 (without_return line) → IsSkipped old new line
+  pub other : (IsUtf8 (without_return line) → ⊥) → IsSameKnown old new
+
+-- The text is the printed layout of the tree, which nothing refuses; where the file is plain, the grammar derives its normal
+-- form from the text, and no other tree.
 abbrev pub IsTextOf : FileTree → (text : List ℕ) → Type 0
-IsTextOf file text = ((layout file).fault ≡ None) × (text ≡ print (layout file))
+IsTextOf file text = ((layout file).fault ≡ None) × (text ≡ print (layout file)) × FileDerivesIfPlain text file
+
+-- A line's fault is the first refusal of the layout of the tree, in its words.
+abbrev pub IsRefusedText : FileTree → Fault → Type 0
+IsRefusedText file (Line fault) =
+    (error : VastError) × (fault.cause ≡ Some (Refused error)) × (words_of (layout file).fault ≡ Some (string_bytes error.0)) × (string_bytes fault.words ≡ string_bytes error.0)
+IsRefusedText file Memory = ⊤

@@ -1,5 +1,5 @@
 -- A list without a title whose lines are taken as they come.
-use Rattle.std.specs.Prelude.{◌≡◌, ℕ, List, [], ◌∷◌, ◌++◌, All, IfSome, IsTrue, false, is_some, ⊤}
+use Rattle.std.specs.Prelude.{◌≡◌, ℕ, List, [], ◌∷◌, ◌++◌, All, IfSome, IsTrue, false, is_some}
 use Rattle.vast_literal.specs.declared.kind.VastFileType.{VastFileType}
 use Rattle.vast_list.specs.declared.answering.Answering.{Answering}
 use Rattle.vast_list.specs.declared.output.ListOutput.{ListOutput}
@@ -7,7 +7,7 @@ use Rattle.vast_list.specs.declared.untitled.Stage.{Stage}
 use Rattle.vast_list.specs.declared.untitled.Stage.TheVariants.{Before, Behind, Astray}
 use Rattle.vast_list.specs.declared.untitled.UntitledList.{UntitledList}
 use Rattle.vast_list.specs.Built.{HasBuilt, IsListText}
-use Rattle.vast_list.specs.Lines.{BeginsWithDialect, Passed, line_kind}
+use Rattle.vast_list.specs.Lines.{BeginsWithDialect, HasKind, NamesDialect, Passed, line_kind}
 use Rattle.vast_list.specs.Output.{StopsAtFault, is_made}
 
 -- The lines name a dialect, and the session is what those behind it build.
@@ -21,11 +21,16 @@ pub record HasAnswered (lines : List (List ℕ)) (answering : Answering) : Type 
   pub stopped : StopsAtFault answering
   pub built : IsTrue (is_made answering.told.verdict) → IsBuiltBy lines answering
 
+-- The first line that is neither blank nor a comment names no dialect.
+abbrev pub NameNoDialect : (lines : List (List ℕ)) → Type 0
+NameNoDialect lines =
+    (passed : List (List ℕ)) × (line : List ℕ) × (behind : List (List ℕ)) × All (λ l. line_kind l ≡ Passed) passed × (HasKind line Passed → ⊥) × (NamesDialect line → ⊥) × (lines ≡ passed ++ line ∷ behind)
+
 -- These lines led to this.
 abbrev pub HaveLedTo : (lines : List (List ℕ)) → Stage → Type 0
 HaveLedTo lines Before = All (λ line. line_kind line ≡ Passed) lines
 HaveLedTo lines (Behind answering) = HasAnswered lines answering
-HaveLedTo lines (Astray fault) = ⊤
+HaveLedTo lines (Astray fault) = NameNoDialect lines
 
 -- The lines of the list so far are these.
 abbrev pub HasTaken : (lines : List (List ℕ)) → UntitledList → Type 0

@@ -1,6 +1,7 @@
 //! A list in the answering.
 
-ghost use Rattle.std.specs.Prelude.{◌≡◌, ◌++◌, IsTrue, OnOk, is_some, false};
+ghost use Rattle.std.specs.Prelude.{◌≡◌, ◌++◌, [], Bool, IsTrue, OnOk, is_some, false};
+ghost use Rattle.vast_list.specs.Built.{HasBuilt};
 ghost use Rattle.vast_list.specs.Internal.Built.{TakesLine};
 ghost use Rattle.vast_list.specs.Output.{is_again, is_made};
 ghost use Rattle.vast_list.specs.Internal.Output.{Prints, TakesOn};
@@ -15,6 +16,7 @@ use crate::tried;
 use crate::tries::Tries;
 use std::alloc::{AllocError, Global};
 use vast_script::StepFault;
+use xlsynth_vast::VastFileType;
 
 /// A list whose lines are taken one by one.
 #[derive(Drop)]
@@ -67,6 +69,28 @@ impl Told {
         tried!(tries, self.faults.reserve(1))?;
         self.faults.push(fault)?;
         Ok(())
+    }
+}
+
+impl<'a> Answering<'a> {
+    /// None of the lines behind the dialect's is taken yet. It takes no memory.
+    pub(crate) fn new(
+        alloc: Global,
+        dialect: VastFileType,
+        trial: Option<Trial<'a>>,
+        report: Option<Vec<u8>>,
+    ) -> Answering<'a>
+        ensures trial { is_some result.trial ≡ is_some trial.entry }
+        ensures going { result.is_stopped ≡ false }
+        ensures built { (again : Bool) → HasBuilt again dialect [] result.session }
+    {
+        Answering {
+            session: Session::new(alloc, dialect),
+            trial,
+            report,
+            is_stopped: false,
+            told: Told::new(alloc),
+        }
     }
 }
 

@@ -1,8 +1,9 @@
 //! Faults of lines.
 
-ghost use Rattle.std.specs.Prelude.{◌≡◌, IfOk, None};
+ghost use Rattle.std.specs.Prelude.{◌≡◌, IfOk, None, Some, string_bytes};
 ghost use Rattle.vast_list.specs.Internal.Session.{IsToldOf};
 ghost use Rattle.vast_list.specs.declared.fault.Fault.TheVariants.{Memory};
+ghost use Rattle.vast_script.specs.declared.fault.StepFault.TheVariants.{Refused};
 
 use crate::nearest::nearest_call;
 use crate::problem::{Misfit, Problem};
@@ -30,7 +31,7 @@ pub struct LineFault {
     pub line: usize,
     /// The character where the line stops being in the form, from 1; `None` where the line is in the form.
     pub column: Option<usize>,
-    /// The call's name as it stands in the line, its sign included; empty where it has none.
+    /// The call's name as it stands in the line, its sign included; empty where what stands before it is not in the form.
     pub call: String,
     /// The number that the step or the helper would have had.
     pub step: Option<usize>,
@@ -90,7 +91,7 @@ pub fn write_on_a_line<W: fmt::Write>(text: &str, f: &mut fmt::Formatter<W>) -> 
 
 /// The fault of a line that is not in the form.
 pub(crate) fn misread(alloc: Global, line: usize, text: &str, call: &str, misfit: Misfit) -> Fault
-    ensures { IsToldOf line None result }
+    ensures { IsToldOf line call.now None None result }
 {
     if let Problem::Memory = misfit.problem {
         return Fault::Memory;
@@ -109,6 +110,8 @@ fn told(
     misfit: Misfit,
 ) -> Result<LineFault, AllocError>
     ensures line { IfOk result (λ fault. fault.line ≡ line) }
+    ensures call { IfOk result (λ fault. string_bytes fault.call ≡ call.now) }
+    ensures step { IfOk result (λ fault. fault.step ≡ None) }
     ensures cause { IfOk result (λ fault. fault.cause ≡ None) }
 {
     let before = text.len().saturating_sub(misfit.left);
@@ -208,9 +211,12 @@ fn push_names(usage: &mut String, parameters: &[Parameter]) -> Result<(), AllocE
 
 /// The fault of a text that is refused; its line is that of the first bit select or part select that is refused in the
 /// same words.
-pub(crate) fn refused_text(session: &Session, error: VastError) -> Result<LineFault, AllocError> {
+pub(crate) fn refused_text(session: &Session, error: VastError) -> Result<LineFault, AllocError>
+    ensures cause { IfOk result (λ fault. fault.cause ≡ Some (Refused error)) }
+    ensures words { IfOk result (λ fault. string_bytes fault.words ≡ string_bytes error.0) }
+{
     let alloc = session.file().allocator();
-    let words = format!(in alloc; "{error}")?;
+    let words = String::from_str(alloc, &error.0)?;
     let mut line = 0;
     for select in session.selects() {
         if is_refused(session.file(), select.expression, &words)? {

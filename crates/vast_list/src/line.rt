@@ -2,11 +2,11 @@
 
 ghost use Rattle.std.specs.Prelude.{◌≡◌, ◌⊎◌, ◌↔◌, [], IfErr, IfOk, IsTrue, MatchOption, MatchResult, OnOk, drop, false, option_copied, true};
 ghost use Rattle.std.specs.Str.{IsUtf8};
-ghost use Rattle.vast_list.specs.Lines.{HasKind, NamesDialect, Passed, Stepped, behind_call, behind_first, behind_word, call_word, dialect_word, first_word, is_equals_front, is_passed, line_word, text_name, without_return};
+ghost use Rattle.vast_list.specs.Lines.{HasKind, NamesDialect, Passed, Stepped, begins_blank, behind_call, behind_first, behind_word, call_word, dialect_word, first_word, is_equals_front, is_passed, line_word, text_name, without_return};
 ghost use Rattle.vast_list.specs.Internal.Lines.{rest_text};
 ghost use Rattle.vast_list.specs.Names.{IsFree};
 ghost use Rattle.vast_list.specs.Session.{IsOfLine};
-ghost use Rattle.vast_list.specs.Internal.Session.{IsActionOf, IsRead};
+ghost use Rattle.vast_list.specs.Internal.Session.{IsActionOf, IsRead, NamesWord};
 ghost use Rattle.vast_list.specs.Written.{meaning};
 ghost use Rattle.vast_list.specs.Internal.Written.{left};
 
@@ -105,12 +105,14 @@ pub(crate) fn split_line(text: &str) -> (Option<&str>, &str, Option<&str>)
 /// # Errors
 /// Where the line is not in the form, and want of memory.
 pub(crate) fn read_line<'a>(known: Known<'_>, text: &'a str) -> Result<Line<'a>, Misread<'a>>
-    ensures { IfOk result
-        (λ line. IsRead (meaning known.entry.names.now) known.entry.skipped.now text.now line) }
+    ensures { MatchResult result
+        (λ line. IsRead (meaning known.entry.names.now) known.entry.skipped.now text.now line)
+        (λ read. NamesWord (meaning known.entry.names.now) text.now read.call.now) }
 {
-    check_begin(text).map_err(|misfit| Misread { call: "", misfit })?;
     let (name, call, rest) = split_line(text);
-    check_name(known, text, name).map_err(|misfit| Misread { call: "", misfit })?;
+    if let Err(misfit) = check_front(known, text, name) {
+        return Err(Misread { call: "", misfit });
+    }
     match read_action(known, call, rest) {
         Ok(action) => Ok(Line { name, call, action }),
         Err(misfit) => {
@@ -132,15 +134,31 @@ fn at_call(call: &str, rest: Option<&str>, misfit: Misfit) -> Misfit {
     }
 }
 
-/// The line does not begin with a space.
-fn check_begin(text: &str) -> Result<(), Misfit> {
-    if !text.starts_with(' ') && !text.starts_with('\t') {
-        return Ok(());
+/// The line does not begin with a blank, and the word, if there is one, may be the name of its answer.
+fn check_front(known: Known<'_>, text: &str, name: Option<&str>) -> Result<(), Misfit>
+    ensures { MatchResult result
+        (λ _. (begins_blank text.now ≡ false)
+        × IsFree (meaning known.entry.names.now) (option_copied name.entry))
+        (λ _. (begins_blank text.now ≡ false)
+        × IsFree (meaning known.entry.names.now) (option_copied name.entry) → ⊥) }
+{
+    check_begin(text)?;
+    check_name(known, text, name)
+}
+
+/// The line does not begin with a space or a tab.
+fn check_begin(text: &str) -> Result<(), Misfit>
+    ensures { MatchResult result
+        (λ _. begins_blank text.now ≡ false) (λ _. begins_blank text.now ≡ true) }
+{
+    let bytes = text.as_bytes();
+    match bytes.first() {
+        Some(b' ' | b'\t') => Err(Misfit {
+            left: text.len(),
+            problem: Problem::Indented,
+        }),
+        _ => Ok(()),
     }
-    Err(Misfit {
-        left: text.len(),
-        problem: Problem::Indented,
-    })
 }
 
 /// The first word, and what stands behind the space after it.
@@ -167,7 +185,9 @@ fn named_call<'a>(rest: Option<&'a str>) -> Option<&'a str>
 
 /// The word, if there is one, may be the name of this line's answer.
 fn check_name(known: Known<'_>, text: &str, name: Option<&str>) -> Result<(), Misfit>
-    ensures { OnOk result (IsFree (meaning known.entry.names.now) (option_copied name.entry)) }
+    ensures { MatchResult result
+        (λ _. IsFree (meaning known.entry.names.now) (option_copied name.entry))
+        (λ _. IsFree (meaning known.entry.names.now) (option_copied name.entry) → ⊥) }
 {
     let Some(name) = name else {
         return Ok(());

@@ -1,21 +1,25 @@
 //! Which line of a list each line of its file's text comes from.
 
-ghost use Rattle.std.specs.Prelude.{IfOk, IfSome};
-ghost use Rattle.vast_print.specs.Layout.{IsFileText};
-ghost use Rattle.vast_list.specs.Origins.{text_of as lines_text};
+ghost use Rattle.std.specs.Prelude.{IfOk};
+ghost use Rattle.vast_list.specs.Lines.{line_texts};
+ghost use Rattle.vast_list.specs.Origins.{IsMapped};
+ghost use Rattle.vast_list.specs.Internal.Output.{IsAnswered};
+ghost use Rattle.vast_list.specs.Internal.Origins.{IsMapOfFile};
 
-use crate::answering::{Answering, Told};
+use crate::answering::Answering;
 use crate::fault::Fault;
 use crate::line::{split_line, text_of};
 use crate::lines::ListLines;
 use crate::origins::Origins;
 use crate::output::{Verdict, dialect_line};
 use crate::session::Session;
+use crate::tries::Tries;
 use std::alloc::{AllocError, Global};
 use vast_literal::VastFault;
+use xlsynth_vast::VastFileType;
 
-/// The lines of the file's text, each with the number of the line of the list whose call wrote it; `None` where the list
-/// has no text.
+/// The lines of the file's text, each with the number of the line of the list whose call wrote it, and how the list was
+/// taken; `None` where the list has no text.
 ///
 /// After each call the file is printed, and the text is compared with the one before, line by line: what both begin and
 /// end with keeps its numbers, and what is between has the call's. A line that the call only changes keeps its number, as
@@ -23,41 +27,37 @@ use vast_literal::VastFault;
 ///
 /// # Errors
 /// Want of memory.
-pub fn list_origins(alloc: Global, list: &ListLines<'_>) -> Result<Option<Origins>, AllocError>
-    ensures { IfOk result (λ found. IfSome found
-        (λ origins. IsFileText (lines_text origins.lines.items))) }
+#[tactic(auto, using(crate::proofs::Mapped::maps))]
+pub fn list_origins(
+    alloc: Global,
+    list: &ListLines<'_>,
+) -> Result<(Option<Origins>, Verdict), AllocError>
+    ensures { IfOk result (λ made. IsMapped (line_texts list.now.lines.items) made.0 made.1) }
 {
-    let (dialect, lines) = match dialect_line(alloc, list) {
-        Ok(found) => found,
-        Err(Fault::Memory) => return Err(AllocError),
-        Err(Fault::Line(_)) => return Ok(None),
-    };
-    let mut origins = Origins::new(alloc);
-    let mut answering = Answering {
-        session: Session::new(alloc, dialect),
-        trial: None,
-        report: list.title.map(|_| Vec::new(alloc)),
-        is_stopped: false,
-        told: Told::new(alloc),
-    };
-    let made = follow_lines(&mut origins, &mut answering, lines);
-    let found = match made {
-        Ok(()) => finished(origins, &answering.session),
-        Err(error) => {
-            drop(origins);
-            Err(error)
+    match dialect_line(alloc, list) {
+        Ok((dialect, lines)) => {
+            let mut origins = Origins::new(alloc);
+            let report = list.title.map(|_| Vec::new(alloc));
+            let answering = followed(alloc, &mut origins, report, dialect, lines)?;
+            finished(origins, answering)
         }
-    };
-    drop(answering);
-    found
+        Err(Fault::Memory) => Err(AllocError),
+        Err(Fault::Line(_)) => Ok((None, Verdict::NotInForm)),
+    }
 }
 
-/// Makes the calls of the lines.
-fn follow_lines(
+/// Makes the calls of the lines, and numbers the text behind each.
+fn followed(
+    alloc: Global,
     origins: &mut Origins,
-    answering: &mut Answering<'_>,
+    report: Option<Vec<u8>>,
+    dialect: VastFileType,
     lines: &[(usize, &[u8])],
-) -> Result<(), AllocError> {
+) -> Result<Answering<'static>, AllocError>
+    ensures { IfOk result (λ answering.
+        IsAnswered Tries.Once dialect (line_texts lines.now) answering) }
+{
+    let mut answering = Answering::new(alloc, dialect, None, report);
     for (number, line) in lines {
         let before = answering.session.answers().len();
         answering.take(*number, line)?;
@@ -65,7 +65,7 @@ fn follow_lines(
             follow(origins, &answering.session, *number)?;
         }
     }
-    Ok(())
+    Ok(answering)
 }
 
 /// Whether the line's call can change the file's text: what a `Make` call answers stands nowhere yet.
@@ -86,18 +86,28 @@ fn follow(origins: &mut Origins, session: &Session, number: usize) -> Result<(),
 }
 
 /// All calls were made.
-#[tactic(auto, using(crate::proofs::Mapped::followed_text))]
-fn finished(mut origins: Origins, session: &Session) -> Result<Option<Origins>, AllocError>
-    ensures { IfOk result (λ found. IfSome found
-        (λ origins. IsFileText (lines_text origins.lines.items))) }
+#[tactic(auto, using(crate::proofs::Mapped::maps))]
+fn finished(
+    mut origins: Origins,
+    answering: Answering<'_>,
+) -> Result<(Option<Origins>, Verdict), AllocError>
+    ensures { IfOk result (λ made. IsMapOfFile answering.entry made.0 made.1) }
 {
+    let Answering {
+        session,
+        mut told,
+        ..
+    } = answering;
     match session.text() {
         Ok(text) => {
             origins.follow(0, text.as_bytes())?;
-            Ok(Some(origins))
+            Ok((Some(origins), told.verdict))
         }
-        Err(Fault::Line(_)) => Ok(None),
         Err(Fault::Memory) => Err(AllocError),
+        Err(Fault::Line(fault)) => {
+            told.keep(Tries::Once, fault)?;
+            Ok((None, told.verdict))
+        }
     }
 }
 
@@ -115,7 +125,7 @@ pub fn json_with_map(
     let mut text = String::from_str(alloc, line.strip_suffix("}\n").unwrap_or(line))?;
     text.push_str(",\"map\":")?;
     let origins = match verdict {
-        Verdict::Made => list_origins(alloc, list)?,
+        Verdict::Made => list_origins(alloc, list)?.0,
         Verdict::Refused | Verdict::NotInForm => None,
     };
     match origins {

@@ -3,7 +3,8 @@
 ghost use Rattle.std.specs.Prelude.{◌≡◌, ℕ, List, IfSome, None, OnErr, OnOk, Some, option_copied};
 ghost use Rattle.std.specs.Map.{update};
 ghost use Rattle.std.specs.Str.{bytes_eq};
-ghost use Rattle.vast_list.specs.Names.{entered};
+ghost use Rattle.std.specs.List.{list_all};
+ghost use Rattle.vast_list.specs.Names.{entered, is_name, is_name_byte};
 ghost use Rattle.vast_list.specs.Internal.Names.{forgotten};
 ghost use Rattle.vast_list.specs.Written.{meaning};
 
@@ -115,13 +116,25 @@ impl Names {
 }
 
 /// A name begins with a letter or `_`, and goes on with those and digits.
-pub(crate) fn is_name(word: &str) -> bool {
-    let is_word = word
-        .bytes()
-        .all(|byte| byte.is_ascii_alphanumeric() || byte == b'_');
-    is_word
-        && word
-            .bytes()
-            .next()
-            .is_some_and(|byte| !byte.is_ascii_digit())
+pub(crate) fn is_name(word: &str) -> bool
+    ensures { result ≡ is_name word.now }
+{
+    let bytes = word.as_bytes();
+    match bytes.first() {
+        Some(first) => !first.is_ascii_digit() && are_name_bytes(bytes),
+        None => false,
+    }
+}
+
+fn are_name_bytes(bytes: &[u8]) -> bool
+    ensures { result ≡ list_all is_name_byte bytes.now }
+{
+    bytes.iter().all(|byte| is_name_byte(*byte))
+}
+
+/// A letter, a digit or `_`.
+fn is_name_byte(byte: u8) -> bool
+    ensures { result ≡ is_name_byte byte }
+{
+    byte.is_ascii_alphanumeric() || byte == b'_'
 }

@@ -151,13 +151,8 @@ fn answered<'a>(
         IsAnswered tries dialect (line_texts lines.now) answering) }
 {
     let trial = trial_of(alloc, tries, dialect, lines)?;
-    let mut answering = Answering {
-        session: Session::new(alloc, dialect),
-        trial,
-        report: title.map(|_| Vec::new(alloc)),
-        is_stopped: false,
-        told: Told::new(alloc),
-    };
+    let report = title.map(|_| Vec::new(alloc));
+    let mut answering = Answering::new(alloc, dialect, trial, report);
     for (number, line) in lines {
         answering.take(*number, line)?;
     }

@@ -1,16 +1,16 @@
 //! A file with the answers so far, whose calls are lines.
 
-ghost use Rattle.std.specs.Prelude.{◌≡◌, ℕ, ◌+◌, ◌-◌, ◌^◌, List, [], IfErr, IfOk, IfSome, MatchResult, None, Ok, OnOk, Some, length, min, option_copied, string_bytes};
+ghost use Rattle.std.specs.Prelude.{◌≡◌, ℕ, List, [], IfErr, IfOk, IfSome, MatchResult, None, Ok, OnErr, OnOk, Some, option_copied, string_bytes};
 ghost use Rattle.vast_core.specs.Bench.{start};
 ghost use Rattle.vast_core.specs.FileTree.{tree};
 ghost use Rattle.xlsynth_vast.specs.Registers.{HasUnused};
 ghost use Rattle.std.specs.Str.{IsUtf8};
 ghost use Rattle.vast_list.specs.Lines.{HasKind, Passed, without_return};
-ghost use Rattle.vast_list.specs.Names.{IsFree, value_named};
+ghost use Rattle.vast_list.specs.Names.{IsFree, entered, value_named};
 ghost use Rattle.vast_list.specs.Replies.{IsAnswerText};
-ghost use Rattle.vast_list.specs.Session.{Calls, IsCausedBy, IsGivenBy, IsInForm, IsOfLine, IsStepIn, IsTextOf, Skips, Takes};
+ghost use Rattle.vast_list.specs.Session.{Calls, IsCausedBy, IsGivenBy, IsInForm, IsNumbered, IsOfLine, IsRefusedText, IsSame, IsStepIn, IsTextOf, NamesCall, Skips, Takes, next_number};
 ghost use Rattle.vast_list.specs.Questions.{Asks};
-ghost use Rattle.vast_list.specs.Internal.Session.{IsCallFault, IsQuestionFault, IsRead, IsToldAs, IsToldOf, Makes, MakesName};
+ghost use Rattle.vast_list.specs.Internal.Session.{IsAskFault, IsCallFault, IsMisread, IsQuestionFault, IsRead, IsToldAs, IsToldOf, Makes, MakesName, made_number};
 ghost use Rattle.vast_list.specs.Written.{meaning};
 
 use crate::arguments::{Known, place_of};
@@ -101,6 +101,8 @@ impl Session {
         ensures given { IfOk result (IsGivenBy line.now) }
         ensures unseen { IfErr result (λ fault. HasUnused self.old.file self.new.file) }
         ensures cause { IfErr result (IsCausedBy self.old self.new line.now) }
+        ensures call { IfErr result (NamesCall self.old line.now) }
+        ensures numbered { IsNumbered self.old line.now result }
         ensures number { IfErr result (IsOfLine number) }
         ensures passed { IfErr result (λ fault. HasKind line.now Passed → ⊥) }
     {
@@ -148,8 +150,10 @@ impl Session {
     ///
     /// # Errors
     /// Want of memory; nothing is then passed over.
+    #[tactic(auto, using(crate::proofs::Skipped::skips))]
     pub fn skip(&mut self, line: &[u8]) -> Result<(), AllocError>
-        ensures { Skips self.old self.new line.now }
+        ensures skipped { OnOk result (Skips self.old self.new line.now) }
+        ensures left { OnErr result (IsSame self.old self.new) }
     {
         let Ok(text) = text_of(line) else {
             return Ok(());
@@ -158,19 +162,34 @@ impl Session {
             return Ok(());
         }
         let (name, call, _) = split_line(text);
-        if !call.starts_with('?') {
-            self.skipped.reserve(1)?;
-        }
-        if let Some(name) = name {
-            if is_name(name) && self.names.get(name).is_none() {
-                self.names.enter(Some(name), Named::Skipped)?;
-            }
-        }
+        self.skipped.reserve(1)?;
+        self.skip_name(name)?;
         if !call.starts_with('?') {
             let number = self.counted();
             self.skipped.push(number)?;
         }
         Ok(())
+    }
+
+    /// The name, if it is free, stands for what was passed over from now on.
+    fn skip_name(&mut self, name: Option<&str>) -> Result<(), AllocError>
+        ensures free { OnOk result (IsFree (meaning self.old.names) (option_copied name.entry)
+            → meaning self.new.names
+            ≡ entered (meaning self.old.names) (option_copied name.entry) Named.Skipped) }
+        ensures taken { OnOk result ((IsFree (meaning self.old.names) (option_copied name.entry)
+            → ⊥) → meaning self.new.names ≡ meaning self.old.names) }
+        ensures left { OnErr result (meaning self.new.names ≡ meaning self.old.names) }
+        ensures file { self.new.file ≡ self.old.file }
+        ensures answers { self.new.answers ≡ self.old.answers }
+        ensures skipped { self.new.skipped ≡ self.old.skipped }
+    {
+        match name {
+            Some(word) if is_name(word) && self.names.get(word).is_none() => {
+                self.names.enter(name, Named::Skipped)?;
+                Ok(())
+            }
+            _ => Ok(()),
+        }
     }
 
     /// The text of the expression that the helper of this number answered, or `ok` where it answers nothing.
@@ -196,7 +215,8 @@ impl Session {
     /// A refusal names the line whose call made what is refused. Want of memory.
     #[tactic(auto, using(crate::proofs::Sessions::emitted))]
     pub fn text(&self) -> Result<String, Fault>
-        ensures { IfOk result (λ text. IsTextOf (tree self.now.file) (string_bytes text)) }
+        ensures text { IfOk result (λ text. IsTextOf (tree self.now.file) (string_bytes text)) }
+        ensures refused { IfErr result (IsRefusedText (tree self.now.file)) }
     {
         match self.file.emit() {
             Ok(text) => Ok(text),
@@ -207,8 +227,7 @@ impl Session {
 
     /// How many steps and helpers there are so far, those that were passed over included.
     pub fn counted(&self) -> usize
-        ensures { result ≡ min
-            (length self.now.answers.items + length self.now.skipped.items) (2 ^ 64 - 1) }
+        ensures { result ≡ next_number self.now }
     {
         self.answers.len().saturating_add(self.skipped.len())
     }
@@ -278,8 +297,9 @@ impl Session {
 
     fn text_of<'a>(&self, number: usize, line: &'a [u8]) -> Result<&'a str, Fault>
         ensures text { MatchResult result
-            (λ text. text.now ≡ without_return line.now) (IsToldOf number None) }
-        ensures utf8 { IfErr result (λ fault. IsUtf8 (without_return line.now) → ⊥) }
+            (λ text. text.now ≡ without_return line.now) (IsToldOf number [] None None) }
+        ensures utf8 { MatchResult result
+            (λ _. IsUtf8 (without_return line.now)) (λ _. IsUtf8 (without_return line.now) → ⊥) }
     {
         match text_of(line) {
             Ok(text) => Ok(text),
@@ -291,7 +311,7 @@ impl Session {
     fn read<'a>(&self, number: usize, text: &'a str) -> Result<Line<'a>, Fault>
         ensures { MatchResult result
             (λ line. IsRead (meaning self.now.names) self.now.skipped.items text.now line)
-            (IsToldOf number None) }
+            (IsMisread (meaning self.now.names) number text.now) }
     {
         match read_line(self.known(), text) {
             Ok(line) => Ok(line),
@@ -313,7 +333,7 @@ impl Session {
         ensures name { IsFree (meaning self.old.names) (option_copied name.entry) →
             MakesName self.old self.new (option_copied name.entry) result }
         ensures unseen { IfErr result (λ fault. HasUnused self.old.file self.new.file) }
-        ensures cause { IfErr result (IsCallFault self.old self.new made.now) }
+        ensures cause { IfErr result (IsCallFault self.old self.new call.now made.now) }
         ensures number { IfErr result (IsOfLine number) }
     {
         self.answers.reserve(1)?;
@@ -344,7 +364,7 @@ impl Session {
         ensures asked { IfOk result (λ value.
             Asks self.now.file self.now.answers.items (Ok value) question.now) }
         ensures cause { IfErr result (IsQuestionFault self.now question.now) }
-        ensures number { IfErr result (IsOfLine number) }
+        ensures told { IfErr result (IsAskFault number call.now) }
     {
         match answer(&self.file, &self.answers, question) {
             Ok(value) => Ok(value),
@@ -362,7 +382,8 @@ impl Session {
         cause: StepFault,
     ) -> Fault
         ensures memory { IsToldAs cause result }
-        ensures told { IsToldOf line (Some cause) result }
+        ensures told { IsToldOf line call.now (made_number self.now made.entry) (Some cause)
+            result }
     {
         if let StepFault::Memory = cause {
             return Fault::Memory;
@@ -370,6 +391,16 @@ impl Session {
         match self.explained(line, text, call, made, cause) {
             Ok(fault) => Fault::Line(fault),
             Err(_) => Fault::Memory,
+        }
+    }
+
+    /// The number of the call, if it is one.
+    fn number_of(&self, made: Option<&Call>) -> Option<usize>
+        ensures { result ≡ made_number self.now made.entry }
+    {
+        match made {
+            Some(_) => Some(self.counted()),
+            None => None,
         }
     }
 
@@ -382,6 +413,8 @@ impl Session {
         cause: StepFault,
     ) -> Result<LineFault, AllocError>
         ensures line { IfOk result (λ fault. fault.line ≡ line) }
+        ensures call { IfOk result (λ fault. string_bytes fault.call ≡ call.now) }
+        ensures step { IfOk result (λ fault. fault.step ≡ made_number self.now made.entry) }
         ensures cause { IfOk result (λ fault. fault.cause ≡ Some cause) }
     {
         let known = self.known();
@@ -391,7 +424,7 @@ impl Session {
             line,
             column: None,
             call: String::from_str(known.alloc, call)?,
-            step: made.map(|_| self.counted()),
+            step: self.number_of(made),
             words: explained(known, &self.file, &self.answers, text, made, &cause)?,
             cause: Some(cause),
             follows,

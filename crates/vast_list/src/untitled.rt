@@ -1,15 +1,15 @@
 //! A list without a title, taken line by line.
 
 ghost use Rattle.std.specs.Prelude.{[], IfOk, OnOk};
+ghost use Rattle.vast_list.specs.Lines.{HasKind, Passed};
 ghost use Rattle.vast_list.specs.Output.{IsPrinted};
 ghost use Rattle.vast_list.specs.Untitled.{GoesOnTo, HasTaken, IsPrintedOf};
 ghost use Rattle.vast_list.specs.Internal.Untitled.{LeadsTo};
 
-use crate::answering::{Answering, Told};
+use crate::answering::Answering;
 use crate::fault::{Fault, LineFault};
 use crate::line::{dialect_missing, dialect_of, is_empty_line};
 use crate::output::{ListOutput, bad_dialect, finished};
-use crate::session::Session;
 use crate::tries::Tries;
 use std::alloc::{AllocError, Global};
 
@@ -86,16 +86,10 @@ impl UntitledList {
 /// What the first line leads to that is neither blank nor a comment.
 #[tactic(auto, using(crate::proofs::UntitledLists::untitled))]
 fn first_stage(alloc: Global, number: usize, line: &[u8]) -> Result<Stage, AllocError>
-    ensures { IfOk result (LeadsTo line.now) }
+    ensures { (HasKind line.now Passed → ⊥) → IfOk result (LeadsTo line.now) }
 {
     match dialect_of(alloc, number, line) {
-        Ok(dialect) => Ok(Stage::Behind(Answering {
-            session: Session::new(alloc, dialect),
-            trial: None,
-            report: None,
-            is_stopped: false,
-            told: Told::new(alloc),
-        })),
+        Ok(dialect) => Ok(Stage::Behind(Answering::new(alloc, dialect, None, None))),
         Err(Fault::Memory) => Err(AllocError),
         Err(Fault::Line(fault)) => Ok(Stage::Astray(fault)),
     }

@@ -298,7 +298,8 @@ fn mapped(
     mut made: ListOutput,
 ) -> Result<ListOutput, AllocError> {
     if let (true, Some(output)) = (manner.map, &made.output) {
-        if let Some(origins) = tried!(manner.tries, list_origins(alloc, list))? {
+        let (origins, _) = tried!(manner.tries, list_origins(alloc, list))?;
+        if let Some(origins) = origins {
             made.output = Some(tried!(manner.tries, origins.mapped(output))?);
         }
     }

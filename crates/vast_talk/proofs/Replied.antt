@@ -1,13 +1,14 @@
 -- What is replied.
 use Rattle.std.proofs.Common.{◌≡◌, ℕ, List, [], ◌++◌, Option, Some, None, Result, Ok, Err, inl, inr, refl, ap, ◌∙◌, Bool, false, IsTrue, sym, ◌↔◌, append_assoc}
-use Rattle.std.specs.Prelude.{codes}
+use Rattle.std.specs.Prelude.{IfErr, IfOk, codes}
 use Rattle.vast_list.specs.declared.fault.Fault.{Fault}
 use Rattle.vast_list.specs.declared.fault.Fault.TheVariants.{Line, Memory}
+use Rattle.vast_list.specs.declared.session.Given.{Given}
 use Rattle.vast_list.specs.declared.session.Session.{Session}
 use Rattle.vast_list.specs.Lines.{HasKind, NamesDialect, Passed}
-use Rattle.vast_list.specs.Replies.{fault_object, line_front}
-use Rattle.vast_list.specs.Session.{IsOfLine}
-use Rattle.vast_talk.specs.Replies.{AsksForWarnings, RepliesLinted, RepliesToFirst, RepliesToLine}
+use Rattle.vast_list.specs.Replies.{AddsGiven, fault_object, line_front}
+use Rattle.vast_list.specs.Session.{IsCausedBy, IsGivenBy, IsNumbered, IsOfLine, NamesCall, Takes}
+use Rattle.vast_talk.specs.Replies.{AsksForWarnings, IsTaken, RepliesLinted, RepliesToFirst, RepliesToLine}
 use Rattle.vast_talk.specs.Internal.Replies.{AddsAnswer, AddsReply, AddsFault}
 use Rattle.vast_talk.specs.Internal.Warnings.{AddsWarningList}
 use Rattle.vast_talk.specs.declared.warnings.LineWarning.{LineWarning}
@@ -29,6 +30,23 @@ first_fault text None number line (Line fault) is_empty none full passes no_dial
     (inr (fault, (of_line, (λ passed. absurd (cc (sym full ∙ passes.1 passed))), no_dialect), refl), refl)
 first_fault text None number line Memory is_empty none full passes no_dialect of_line = tt
 first_fault text (Some session) number line fault is_empty none full passes no_dialect of_line = absurd (cc none)
+
+-- A line that a session took.
+
+pub taken_line :
+    (old new : Session) (line : List ℕ) (taken : Result Given Fault) → Takes old new line taken → IfOk taken (IsGivenBy line) → IfErr taken (IsCausedBy old new line) → IfErr taken (NamesCall old line) →
+    IsNumbered old line taken → IfErr taken (λ fault. HasKind line Passed → ⊥) → IsTaken old new line taken
+taken_line old new line (Ok given) takes is cause call numbered full = record { takes = takes; given = is; fault = tt; numbered = numbered }
+taken_line old new line (Err fault) takes is cause call numbered full = record { takes = takes; given = tt; fault = (full, cause, call); numbered = numbered }
+
+pub replied_fault :
+    (old new : Session) (text line : List ℕ) (number : ℕ) (fault : Fault) → IsTaken old new line (Err fault) → IsOfLine number fault → AddsReply text text (Err fault) (RepliesToLine old new number line)
+replied_fault old new text line number (Line fault) taken of_line = ((Err (Line fault), taken, (of_line, refl)), refl)
+replied_fault old new text line number Memory taken of_line = tt
+
+pub replied_given :
+    (old new : Session) (before after line : List ℕ) (number : ℕ) (given : Given) → IsTaken old new line (Ok given) → AddsGiven new before after number given → AddsReply before after (Ok tt) (RepliesToLine old new number line)
+replied_given old new before after line number given taken (object, is, grown) = (object, (Ok given, taken, is), grown)
 
 -- What is told without warnings is told with a lint, too.
 pub told_linted :
@@ -52,3 +70,5 @@ answered old opening listed new number warnings begun (list, are, grown) ended =
     )
 
 pub ruleset replies = (replied, first_fault)
+
+pub ruleset taken = (taken_line, replied_fault, replied_given)

@@ -1,5 +1,5 @@
 -- What a talk replies to a line: an object of JSON, and a line break. A text is a list of bytes.
-use Rattle.std.specs.Prelude.{◌≡◌, ◌⊎◌, ℕ, ◌==◌, List, ◌++◌, drop, codes, Bool, true, false, Option, Some, None, Result, Ok, Err, IfOk}
+use Rattle.std.specs.Prelude.{◌≡◌, ◌⊎◌, ℕ, ◌==◌, List, ◌++◌, drop, codes, Bool, true, false, Option, Some, None, Result, Ok, Err, IfErr, IfOk}
 use Rattle.std.specs.List.{starts_with}
 use Rattle.std.specs.Str.Lossy.{utf8_lossy}
 use Rattle.vast_literal.specs.declared.kind.VastFileType.{VastFileType}
@@ -11,7 +11,7 @@ use Rattle.vast_list.specs.declared.session.Session.{Session}
 use Rattle.vast_talk.specs.declared.warnings.LineWarning.{LineWarning}
 use Rattle.vast_list.specs.Lines.{HasKind, NamesDialect, Passed, dialect_word, without_return}
 use Rattle.vast_list.specs.Replies.{IsGivenObject, fault_object, line_front, text_member}
-use Rattle.vast_list.specs.Session.{IsGivenBy, IsNew, Takes}
+use Rattle.vast_list.specs.Session.{IsCausedBy, IsGivenBy, IsNew, IsNumbered, NamesCall, Takes}
 use Rattle.vast_talk.specs.Warnings.{IsWarningList}
 use Rattle.vast_talk.specs.declared.talk.Talk.{Talk}
 
@@ -29,10 +29,21 @@ IsObjectOf session line (Ok given) object = IsGivenObject session line given obj
 IsObjectOf session line (Err (Line fault)) object = (fault.line ≡ line) × (object ≡ fault_object fault)
 IsObjectOf session line (Err Memory) object = ⊥
 
+-- What is told of a line at fault is true: the line is not blank, and the fault's cause and its call are the line's.
+abbrev pub IsTrueOf : (old new : Session) → (line : List ℕ) → Fault → Type 0
+IsTrueOf old new line fault = (HasKind line Passed → ⊥) × IsCausedBy old new line fault × NamesCall old line fault
+
+-- What comes of a line that a session takes.
+pub record IsTaken (old new : Session) (line : List ℕ) (taken : Result Given Fault) : Type 0 where
+  pub takes : Takes old new line taken
+  pub given : IfOk taken (IsGivenBy line)
+  pub fault : IfErr taken (IsTrueOf old new line)
+  pub numbered : IsNumbered old line taken
+
 -- The session took the line, and the object tells what came of it.
 abbrev pub RepliesToLine : (old new : Session) → (number : ℕ) → (line object : List ℕ) → Type 0
 RepliesToLine old new number line object =
-    (taken : Result Given Fault) × Takes old new line taken × IfOk taken (IsGivenBy line) × IsObjectOf new number taken object
+    (taken : Result Given Fault) × IsTaken old new line taken × IsObjectOf new number taken object
 
 -- The object itself, or with a list of warnings as its last member.
 abbrev pub IsWarned : (object told : List ℕ) → Type 0

@@ -2,8 +2,9 @@
 
 ghost use Rattle.std.specs.Prelude.{◌≡◌, ◌+◌, IfErr, IfOk, OnOk, false, length};
 ghost use Rattle.vast_lint.specs.Lint.{counted};
-ghost use Rattle.vast_list.specs.Session.{IsGivenBy, IsOfLine, Takes};
+ghost use Rattle.vast_list.specs.Session.{IsOfLine};
 ghost use Rattle.vast_talk.specs.Linted.{HasCounted, IsLevel};
+ghost use Rattle.vast_talk.specs.Replies.{IsTaken};
 ghost use Rattle.vast_talk.specs.Internal.Linted.{is_memory};
 
 use crate::LineWarning;
@@ -114,8 +115,7 @@ pub(crate) fn take_linted<'l>(
 ) -> Result<Given<'l>, Fault>
     ensures level { IsLevel lint.old session.old → is_memory result ≡ false
         → IsLevel lint.new session.new }
-    ensures takes { is_memory result ≡ false → Takes session.old session.new line.now result }
-    ensures given { IfOk result (IsGivenBy line.now) }
+    ensures taken { is_memory result ≡ false → IsTaken session.old session.new line.now result }
     ensures number { IfErr result (IsOfLine number) }
 {
     let step = session.step_of(line)?;
@@ -125,6 +125,7 @@ pub(crate) fn take_linted<'l>(
 }
 
 /// The same, of a line that is this step, if it is one.
+#[tactic(auto, using(crate::proofs::Replied::taken_line))]
 fn take_step<'l>(
     session: &mut Session,
     lint: &mut SessionLint,
@@ -135,8 +136,7 @@ fn take_step<'l>(
 ) -> Result<Given<'l>, Fault>
     ensures level { IsLevel lint.old session.old → is_memory result ≡ false
         → IsLevel lint.new session.new }
-    ensures takes { is_memory result ≡ false → Takes session.old session.new line.now result }
-    ensures given { IfOk result (IsGivenBy line.now) }
+    ensures taken { is_memory result ≡ false → IsTaken session.old session.new line.now result }
     ensures number { IfErr result (IsOfLine number) }
 {
     let given = session.line(number, line)?;

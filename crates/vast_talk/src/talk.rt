@@ -178,6 +178,7 @@ fn lint_of(alloc: Global, has_lint: bool, dialect: VastFileType) -> Option<Sessi
 }
 
 /// Takes the line, and appends what it gave.
+#[tactic(auto, using(crate::proofs::Replied::taken))]
 fn push_line(
     text: &mut String,
     session: &mut Session,
