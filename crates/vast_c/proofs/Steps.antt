@@ -10,13 +10,15 @@ use Rattle.vast_list.specs.declared.fault.Fault.{Fault}
 use Rattle.vast_list.specs.declared.fault.Fault.TheVariants.{Line}
 use Rattle.vast_list.specs.declared.session.Session.{Session}
 use Rattle.vast_list.specs.Lines.{HasKind, Passed, lines_of}
-use Rattle.vast_c.specs.Seen.{Gave, GaveLine, IsFaultOf, IsSameTree, Made, Run, TellsFault}
-use Rattle.vast_c.specs.Internal.Seen.{LeftIfAny}
+use Rattle.vast_c.specs.Seen.{Gave, GaveLine, IsFaultOf, IsSameTree, Made, Run, TellsFault, cause_of, status_of}
+use Rattle.vast_c.specs.Internal.Seen.{IsToldOf, LeftIfAny}
+use Rattle.vast_c.specs.declared.TheConstants.{MEMORY}
 use Rattle.vast_c.specs.declared.kept.Cause.{Cause}
 use Rattle.vast_c.specs.declared.kept.Cause.TheVariants.{Refused, Condition, Form, Memory}
 use Rattle.vast_c.specs.declared.kept.Kept.{Kept}
 use Rattle.vast_c.specs.declared.kept.Told.{Told}
 use Rattle.std.specs.Prelude.{IfSome, Option, None, Some}
+use Rattle.std.specs.Option.{option_map_or}
 
 -- one line more gave something
 pub gave_more : (a : Session) (lines : List (List ℕ)) (b : Session) (line : List ℕ) (c : Session) → Gave a lines b → GaveLine b line c → Gave a (lines ++ line ∷ []) c
@@ -83,3 +85,8 @@ told_of a b c n line fault None same is number cause kind = tt
 told_of a b c n line fault (Some t) same is number cause kind =
     let said : IsFaultOf a b n (line ∷ []) (Line t.fault) = subst (IsFaultOf a b n (line ∷ [])) is (number, cause, kind) in
     subst (λ (s : Session). IsFaultOf a s n (line ∷ []) (Line t.fault)) (sym same) said
+
+-- where a fault of this cause is told, its status is the cause's
+pub status_told : (cause : Cause) (told : Option Told) → IsToldOf cause told → status_of cause ≡ option_map_or (λ (t : Told). status_of (cause_of t.fault.cause)) told MEMORY
+status_told cause None is = ap status_of is
+status_told cause (Some t) is = ap status_of (sym is)

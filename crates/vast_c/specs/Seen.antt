@@ -14,7 +14,7 @@ use Rattle.vast_list.specs.declared.session.Given.{Given}
 use Rattle.vast_list.specs.declared.session.Session.{Session}
 use Rattle.vast_script.specs.declared.fault.StepFault.{StepFault}
 use Rattle.vast_script.specs.declared.fault.StepFault.TheVariants.{NoAnswer, WrongKind, Condition as NotMet, Refused as IsRefused, Memory as OutOfMemory}
-use Rattle.vast_c.specs.declared.TheConstants.{ANSWER, MESSAGE, WORDS, CALL, FILE, COUNT, LINE, COLUMN}
+use Rattle.vast_c.specs.declared.TheConstants.{ANSWER, MESSAGE, WORDS, CALL, FILE, COUNT, LINE, COLUMN, REFUSED, CONDITION, FORM, MEMORY}
 use Rattle.vast_c.specs.declared.kept.Cause.{Cause}
 use Rattle.vast_c.specs.declared.kept.Cause.TheVariants.{Refused, Condition, Form, Memory}
 use Rattle.vast_c.specs.declared.kept.Kept.{Kept}
@@ -113,10 +113,16 @@ cause_of (Some NotMet) = Condition
 cause_of (Some (IsRefused error)) = Refused
 cause_of (Some OutOfMemory) = Memory
 
--- A fault of this cause is told; where none is, memory was refused.
-abbrev pub IsToldOf : Cause → Option Told → Type 0
-IsToldOf cause None = cause ≡ Memory
-IsToldOf cause (Some told) = cause_of told.fault.cause ≡ cause
+-- the status that tells a cause
+abbrev pub status_of : Cause → ℤ
+status_of Refused = REFUSED
+status_of Condition = CONDITION
+status_of Form = FORM
+status_of Memory = MEMORY
+
+-- the status of a fault: its cause's; where none is told, memory was refused
+abbrev pub status_in : Option Kept → ℤ
+status_in kept = option_map_or (λ (told : Told). status_of (cause_of told.fault.cause)) (told_in kept) MEMORY
 
 -- A new session of the dialect is open, with no line, no fault and no text.
 abbrev pub IsFresh : VastFileType → Option Kept → Type 0

@@ -6,8 +6,8 @@ ghost use Rattle.vast_list.specs.Session.{IsLeft};
 ghost use Rattle.vast_list.specs.declared.fault.Fault.TheVariants.{Line};
 ghost use Rattle.vast_list.specs.declared.session.Session.{Session as AnySession};
 ghost use Rattle.vast_list.specs.Lines.{lines_of};
-ghost use Rattle.vast_c.specs.Seen.{GaveLine, IsFresh, IsPrinted, IsToldOf, Run, TellsFault, cause_of, more_lines};
-ghost use Rattle.vast_c.specs.Internal.Seen.{LeftBy, LeftIfAny};
+ghost use Rattle.vast_c.specs.Seen.{GaveLine, IsFresh, IsPrinted, Run, TellsFault, cause_of, more_lines};
+ghost use Rattle.vast_c.specs.Internal.Seen.{IsToldOf, LeftBy, LeftIfAny};
 
 use crate::lines::first_line;
 use std::alloc::Global;

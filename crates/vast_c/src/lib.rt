@@ -6,10 +6,9 @@
 ghost use Rattle.std.specs.Prelude.{◌≡◌, ◌≢◌, ◌<◌, ◌↔◌, Some, None, length};
 ghost use Rattle.vast_list.specs.Session.{IsSame};
 ghost use Rattle.vast_literal.specs.declared.kind.VastFileType.TheVariants.{Verilog, SystemVerilog};
-ghost use Rattle.vast_c.specs.declared.kept.Cause.TheVariants.{Condition, Form, Memory, Refused};
 ghost use Rattle.vast_list.specs.Lines.{lines_of};
-ghost use Rattle.vast_c.specs.Seen.{Copied, CopiedSome, IsFresh, IsSameTree, IsToldOf, Made, Printed};
-ghost use Rattle.vast_c.specs.Seen.{lines_in, number_in, session_in, text_in, told_in};
+ghost use Rattle.vast_c.specs.Seen.{Copied, CopiedSome, IsFresh, IsSameTree, Made, Printed};
+ghost use Rattle.vast_c.specs.Seen.{lines_in, number_in, session_in, status_in, status_of, text_in, told_in};
 
 mod handle;
 mod kept;
@@ -103,6 +102,7 @@ fn dialect_of(dialect: i32) -> Option<VastFileType>
 }
 
 /// Makes the calls of the lines, up to the first at fault.
+#[tactic(auto, using(crate::proofs::Steps::status_told))]
 #[unsafe(no_mangle)]
 pub extern "C" fn vast_lines(
     alloc: Global,
@@ -118,10 +118,7 @@ pub extern "C" fn vast_lines(
     ensures none { result ≡ OK → told_in handle.new.kept ≡ None }
     ensures file { text_in FILE handle.new.kept ≡ text_in FILE handle.old.kept }
     ensures fault { result ≢ OK → result ≢ NOT_OPEN → taken.new < length (lines_of lines.now) }
-    ensures refused { result ≡ REFUSED → IsToldOf Refused (told_in handle.new.kept) }
-    ensures condition { result ≡ CONDITION → IsToldOf Condition (told_in handle.new.kept) }
-    ensures form { result ≡ FORM → IsToldOf Form (told_in handle.new.kept) }
-    ensures memory { result ≡ MEMORY → IsToldOf Memory (told_in handle.new.kept) }
+    ensures status { result ≢ OK → result ≢ NOT_OPEN → result ≡ status_in handle.new.kept }
 {
     let Some(mut kept) = handle.take(alloc) else {
         *taken = 0;
@@ -137,10 +134,7 @@ pub extern "C" fn vast_lines(
 }
 
 fn status(cause: Cause) -> i32
-    ensures refused { cause ≡ Refused → result ≡ REFUSED }
-    ensures condition { cause ≡ Condition → result ≡ CONDITION }
-    ensures form { cause ≡ Form → result ≡ FORM }
-    ensures memory { cause ≡ Memory → result ≡ MEMORY }
+    ensures status { result ≡ status_of cause }
     ensures ok { result ≢ OK }
     ensures open { result ≢ NOT_OPEN }
 {
@@ -153,6 +147,7 @@ fn status(cause: Cause) -> i32
 }
 
 /// Prints the file, which is the text FILE from then on.
+#[tactic(auto, using(crate::proofs::Steps::status_told))]
 #[unsafe(no_mangle)]
 pub extern "C" fn vast_print(alloc: Global, handle: &mut Handle) -> i32
     ensures closed { result ≡ NOT_OPEN ↔ handle.old.kept ≡ None }
@@ -162,7 +157,7 @@ pub extern "C" fn vast_print(alloc: Global, handle: &mut Handle) -> i32
     ensures unchanged { result ≢ OK →
         text_in FILE handle.new.kept ≡ text_in FILE handle.old.kept }
     ensures none { result ≡ OK → told_in handle.new.kept ≡ None }
-    ensures refused { result ≡ REFUSED → IsToldOf Refused (told_in handle.new.kept) }
+    ensures status { result ≢ OK → result ≢ NOT_OPEN → result ≡ status_in handle.new.kept }
 {
     let Some(mut kept) = handle.take(alloc) else {
         return NOT_OPEN;
