@@ -1,13 +1,12 @@
 //! Whether the queue is empty or full, and what is read and written now.
 
 ghost use Rattle.std.specs.Prelude.{◌≤ℤ◌, pos, IfOk};
-ghost use Rattle.vast_core.specs.Bench.{OwnsExpr, OwnsModule};
-ghost use Rattle.xlsynth_vast.specs.Keeps.{Keeps};
+ghost use Rattle.vast_core.specs.Bench.{OwnsExpr, OwnsModule, OwnsType};
 
 use crate::fault::FifoFault;
 use crate::parts::{both, drive, place};
 use crate::signals::{Ports, Sides};
-use xlsynth_vast::{Expr, VastFile, VastModule};
+use xlsynth_vast::{Expr, VastDataType, VastFile, VastModule};
 
 /// The queue is empty where the pointers are equal, and full where they differ in the last bit alone.
 pub(crate) fn drive_flags(
@@ -23,7 +22,9 @@ pub(crate) fn drive_flags(
     requires empty { OwnsExpr file.old hindered.now.read }
     requires head { OwnsExpr file.old pointers.now.write }
     requires tail { OwnsExpr file.old pointers.now.read }
-    ensures kept { Keeps file.old file.new }
+    ensures exprs { (e : Expr) → OwnsExpr file.old e → OwnsExpr file.new e }
+    ensures types { (t : VastDataType) → OwnsType file.old t → OwnsType file.new t }
+    ensures modules { (m : VastModule) → OwnsModule file.old m → OwnsModule file.new m }
 {
     let is_empty = is_same(pointers.write, pointers.read, file)?;
     drive(owner, hindered.read, is_empty, file)?;
@@ -45,7 +46,9 @@ pub(crate) fn drive_strobes(
     requires empty { OwnsExpr file.old ports.now.hindered.read }
     requires writes { OwnsExpr file.old strobes.now.write }
     requires reads { OwnsExpr file.old strobes.now.read }
-    ensures kept { Keeps file.old file.new }
+    ensures exprs { (e : Expr) → OwnsExpr file.old e → OwnsExpr file.new e }
+    ensures types { (t : VastDataType) → OwnsType file.old t → OwnsType file.new t }
+    ensures modules { (m : VastModule) → OwnsModule file.old m → OwnsModule file.new m }
 {
     drive_strobe(
         owner,
@@ -67,7 +70,9 @@ fn is_same(left: Expr, right: Expr, file: &mut VastFile) -> Result<Expr, FifoFau
     requires left { OwnsExpr file.old left }
     requires right { OwnsExpr file.old right }
     ensures answer { IfOk result (λ e. OwnsExpr file.new e) }
-    ensures kept { Keeps file.old file.new }
+    ensures exprs { (e : Expr) → OwnsExpr file.old e → OwnsExpr file.new e }
+    ensures types { (t : VastDataType) → OwnsType file.old t → OwnsType file.new t }
+    ensures modules { (m : VastModule) → OwnsModule file.old m → OwnsModule file.new m }
 {
     Ok(file.make_eq(&left, &right)?)
 }
@@ -76,7 +81,9 @@ fn is_other(left: Expr, right: Expr, file: &mut VastFile) -> Result<Expr, FifoFa
     requires left { OwnsExpr file.old left }
     requires right { OwnsExpr file.old right }
     ensures answer { IfOk result (λ e. OwnsExpr file.new e) }
-    ensures kept { Keeps file.old file.new }
+    ensures exprs { (e : Expr) → OwnsExpr file.old e → OwnsExpr file.new e }
+    ensures types { (t : VastDataType) → OwnsType file.old t → OwnsType file.new t }
+    ensures modules { (m : VastModule) → OwnsModule file.old m → OwnsModule file.new m }
 {
     Ok(file.make_ne(&left, &right)?)
 }
@@ -86,7 +93,9 @@ fn round(pointer: Expr, address: i64, file: &mut VastFile) -> Result<Expr, FifoF
     requires pointer { OwnsExpr file.old pointer }
     requires address { pos 1 ≤ℤ address }
     ensures answer { IfOk result (λ e. OwnsExpr file.new e) }
-    ensures kept { Keeps file.old file.new }
+    ensures exprs { (e : Expr) → OwnsExpr file.old e → OwnsExpr file.new e }
+    ensures types { (t : VastDataType) → OwnsType file.old t → OwnsType file.new t }
+    ensures modules { (m : VastModule) → OwnsModule file.old m → OwnsModule file.new m }
 {
     let pointer = file.make_indexable_expression(&pointer);
     Ok(file.make_index(&pointer, address)?.to_expr())
@@ -103,7 +112,9 @@ fn is_a_round_ahead(
     requires tail { OwnsExpr file.old tail }
     requires address { pos 1 ≤ℤ address }
     ensures answer { IfOk result (λ e. OwnsExpr file.new e) }
-    ensures kept { Keeps file.old file.new }
+    ensures exprs { (e : Expr) → OwnsExpr file.old e → OwnsExpr file.new e }
+    ensures types { (t : VastDataType) → OwnsType file.old t → OwnsType file.new t }
+    ensures modules { (m : VastModule) → OwnsModule file.old m → OwnsModule file.new m }
 {
     let head_round = round(head, address, file)?;
     let tail_round = round(tail, address, file)?;
@@ -126,7 +137,9 @@ fn drive_strobe(
     requires strobe { OwnsExpr file.old strobe }
     requires asked { OwnsExpr file.old asked }
     requires hindered { OwnsExpr file.old hindered }
-    ensures kept { Keeps file.old file.new }
+    ensures exprs { (e : Expr) → OwnsExpr file.old e → OwnsExpr file.new e }
+    ensures types { (t : VastDataType) → OwnsType file.old t → OwnsType file.new t }
+    ensures modules { (m : VastModule) → OwnsModule file.old m → OwnsModule file.new m }
 {
     let free = file.make_logical_not(&hindered)?;
     let value = both(asked, free, file)?;

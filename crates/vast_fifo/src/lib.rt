@@ -6,8 +6,7 @@
 #![tactic(auto, using(xlsynth_vast::proofs::Callers::callers))]
 
 ghost use Rattle.std.specs.Prelude.{◌≤ℤ◌, pos, IfOk};
-ghost use Rattle.vast_core.specs.Bench.{OwnsExpr, OwnsModule};
-ghost use Rattle.xlsynth_vast.specs.Keeps.{Keeps};
+ghost use Rattle.vast_core.specs.Bench.{OwnsExpr, OwnsModule, OwnsType};
 
 mod fault;
 mod flags;
@@ -22,7 +21,7 @@ use memory::add_memory;
 use parts::add_owner;
 use pointers::add_pointers;
 use signals::{Ports, State, add_ports, add_state};
-use xlsynth_vast::{VastFile, VastModule};
+use xlsynth_vast::{Expr, VastDataType, VastFile, VastModule};
 
 /// Adds the module `fifo`, a queue of words of `width` bits, and answers it.
 ///
@@ -30,14 +29,18 @@ use xlsynth_vast::{VastFile, VastModule};
 /// `Width` where the width is below 1, `Depth` where the depth is no power of two above 1; want of memory.
 pub fn add_fifo(file: &mut VastFile, width: i64, depth: i64) -> Result<VastModule, FifoFault>
     ensures answer { IfOk result (λ m. OwnsModule file.new m) }
-    ensures kept { Keeps file.old file.new }
+    ensures exprs { (e : Expr) → OwnsExpr file.old e → OwnsExpr file.new e }
+    ensures types { (t : VastDataType) → OwnsType file.old t → OwnsType file.new t }
+    ensures modules { (m : VastModule) → OwnsModule file.old m → OwnsModule file.new m }
 {
     if width < 1 {
         return Err(FifoFault::Width);
     }
     let address = address_bits(depth)?;
     let owner = add_owner("fifo", file)?;
-    add_parts(owner, width, depth, address, file)?;
+    let ports = add_ports(owner, width, file)?;
+    let state = add_state(owner, width, depth, address, file)?;
+    fill(owner, &ports, &state, address, file)?;
     Ok(owner)
 }
 
@@ -51,26 +54,6 @@ fn address_bits(depth: i64) -> Result<i64, FifoFault>
         return Err(FifoFault::Depth);
     }
     Ok(bits)
-}
-
-/// The module's ports and variables, and what it does.
-fn add_parts(
-    owner: VastModule,
-    width: i64,
-    depth: i64,
-    address: i64,
-    file: &mut VastFile,
-) -> Result<(), FifoFault>
-    requires owner { OwnsModule file.old owner }
-    requires width { pos 1 ≤ℤ width }
-    requires depth { pos 1 ≤ℤ depth }
-    requires address { pos 1 ≤ℤ address }
-    requires fits { address ≤ℤ pos 62 }
-    ensures kept { Keeps file.old file.new }
-{
-    let ports = add_ports(owner, width, file)?;
-    let state = add_state(owner, width, depth, address, file)?;
-    fill(owner, &ports, &state, address, file)
 }
 
 /// What the module does.
@@ -97,7 +80,9 @@ fn fill(
     requires tail { OwnsExpr file.old state.now.pointers.read }
     requires writes { OwnsExpr file.old state.now.strobes.write }
     requires reads { OwnsExpr file.old state.now.strobes.read }
-    ensures kept { Keeps file.old file.new }
+    ensures exprs { (e : Expr) → OwnsExpr file.old e → OwnsExpr file.new e }
+    ensures types { (t : VastDataType) → OwnsType file.old t → OwnsType file.new t }
+    ensures modules { (m : VastModule) → OwnsModule file.old m → OwnsModule file.new m }
 {
     drive_flags(owner, &ports.hindered, &state.pointers, address, file)?;
     drive_strobes(owner, ports, &state.strobes, file)?;

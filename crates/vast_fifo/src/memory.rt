@@ -1,13 +1,12 @@
 //! The words of the queue: the front one is read, the next one written; they have no reset.
 
 ghost use Rattle.std.specs.Prelude.{◌≤ℤ◌, pos, IfOk};
-ghost use Rattle.vast_core.specs.Bench.{OwnsBlock, OwnsExpr, OwnsModule};
-ghost use Rattle.xlsynth_vast.specs.Keeps.{Keeps};
+ghost use Rattle.vast_core.specs.Bench.{OwnsBlock, OwnsExpr, OwnsModule, OwnsType};
 
 use crate::fault::FifoFault;
 use crate::parts::{drive, place};
 use crate::signals::{Ports, State};
-use xlsynth_vast::{Expr, VastFile, VastModule, VastStatementBlock};
+use xlsynth_vast::{Expr, VastDataType, VastFile, VastModule, VastStatementBlock};
 
 pub(crate) fn add_memory(
     owner: VastModule,
@@ -25,7 +24,9 @@ pub(crate) fn add_memory(
     requires head { OwnsExpr file.old state.now.pointers.write }
     requires tail { OwnsExpr file.old state.now.pointers.read }
     requires writes { OwnsExpr file.old state.now.strobes.write }
-    ensures kept { Keeps file.old file.new }
+    ensures exprs { (e : Expr) → OwnsExpr file.old e → OwnsExpr file.new e }
+    ensures types { (t : VastDataType) → OwnsType file.old t → OwnsType file.new t }
+    ensures modules { (m : VastModule) → OwnsModule file.old m → OwnsModule file.new m }
 {
     let front = word_at(state.words, state.pointers.read, address, file)?;
     drive(owner, ports.read.word, front, file)?;
@@ -40,7 +41,9 @@ fn word_at(words: Expr, pointer: Expr, address: i64, file: &mut VastFile) -> Res
     requires pointer { OwnsExpr file.old pointer }
     requires address { pos 1 ≤ℤ address }
     ensures answer { IfOk result (λ e. OwnsExpr file.new e) }
-    ensures kept { Keeps file.old file.new }
+    ensures exprs { (e : Expr) → OwnsExpr file.old e → OwnsExpr file.new e }
+    ensures types { (t : VastDataType) → OwnsType file.old t → OwnsType file.new t }
+    ensures modules { (m : VastModule) → OwnsModule file.old m → OwnsModule file.new m }
 {
     let place = place(pointer, address, file)?;
     let words = file.make_indexable_expression(&words);
@@ -56,7 +59,9 @@ fn add_clocked(
     requires owner { OwnsModule file.old owner }
     requires clk { OwnsExpr file.old clk }
     ensures answer { IfOk result (λ body. OwnsBlock file.new body) }
-    ensures kept { Keeps file.old file.new }
+    ensures exprs { (e : Expr) → OwnsExpr file.old e → OwnsExpr file.new e }
+    ensures types { (t : VastDataType) → OwnsType file.old t → OwnsType file.new t }
+    ensures modules { (m : VastModule) → OwnsModule file.old m → OwnsModule file.new m }
 {
     let edge = file.make_pos_edge(&clk)?;
     let always = file.add_always_ff(owner, &[&edge])?;
@@ -75,7 +80,9 @@ fn take(
     requires condition { OwnsExpr file.old condition }
     requires target { OwnsExpr file.old target }
     requires value { OwnsExpr file.old value }
-    ensures kept { Keeps file.old file.new }
+    ensures exprs { (e : Expr) → OwnsExpr file.old e → OwnsExpr file.new e }
+    ensures types { (t : VastDataType) → OwnsType file.old t → OwnsType file.new t }
+    ensures modules { (m : VastModule) → OwnsModule file.old m → OwnsModule file.new m }
 {
     let conditional = file.block_add_cond(body, &condition)?;
     let block = file.conditional_then_block(conditional);

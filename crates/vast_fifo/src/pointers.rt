@@ -1,15 +1,14 @@
 //! The pointers of the queue: registers that are 0 at a reset, and one more where a word is written or read.
 
 ghost use Rattle.std.specs.Prelude.{◌≤ℤ◌, pos, IfOk};
-ghost use Rattle.vast_core.specs.Bench.{OwnsExpr, OwnsModule};
-ghost use Rattle.xlsynth_vast.specs.Keeps.{Keeps};
+ghost use Rattle.vast_core.specs.Bench.{OwnsExpr, OwnsModule, OwnsType};
 ghost use Rattle.xlsynth_vast.specs.Registers.{OwnsRegister};
 
 use crate::fault::FifoFault;
 use crate::parts::make_number;
 use crate::signals::{Clock, State};
 use xlsynth_vast::helpers::{RegisterDefinition, RegisterScope, Reset, add_registers};
-use xlsynth_vast::{Expr, VastFile, VastModule};
+use xlsynth_vast::{Expr, VastDataType, VastFile, VastModule};
 
 pub(crate) fn add_pointers(
     owner: VastModule,
@@ -26,7 +25,9 @@ pub(crate) fn add_pointers(
     requires tail { OwnsExpr file.old state.now.pointers.read }
     requires writes { OwnsExpr file.old state.now.strobes.write }
     requires reads { OwnsExpr file.old state.now.strobes.read }
-    ensures kept { Keeps file.old file.new }
+    ensures exprs { (e : Expr) → OwnsExpr file.old e → OwnsExpr file.new e }
+    ensures types { (t : VastDataType) → OwnsType file.old t → OwnsType file.new t }
+    ensures modules { (m : VastModule) → OwnsModule file.old m → OwnsModule file.new m }
 {
     let pointers = &state.pointers;
     let head = make_register(pointers.write, state.strobes.write, address + 1, file)?;
@@ -44,7 +45,9 @@ fn make_register(
     requires pointer { OwnsExpr file.old pointer }
     requires enable { OwnsExpr file.old enable }
     ensures answer { IfOk result (λ r. OwnsRegister file.new r) }
-    ensures kept { Keeps file.old file.new }
+    ensures exprs { (e : Expr) → OwnsExpr file.old e → OwnsExpr file.new e }
+    ensures types { (t : VastDataType) → OwnsType file.old t → OwnsType file.new t }
+    ensures modules { (m : VastModule) → OwnsModule file.old m → OwnsModule file.new m }
 {
     let zero = make_number(width, 0, file)?;
     let next = make_next(pointer, width, file)?;
@@ -59,7 +62,9 @@ fn make_register(
 fn make_next(pointer: Expr, width: i64, file: &mut VastFile) -> Result<Expr, FifoFault>
     requires pointer { OwnsExpr file.old pointer }
     ensures answer { IfOk result (λ e. OwnsExpr file.new e) }
-    ensures kept { Keeps file.old file.new }
+    ensures exprs { (e : Expr) → OwnsExpr file.old e → OwnsExpr file.new e }
+    ensures types { (t : VastDataType) → OwnsType file.old t → OwnsType file.new t }
+    ensures modules { (m : VastModule) → OwnsModule file.old m → OwnsModule file.new m }
 {
     let one = make_number(width, 1, file)?;
     Ok(file.make_add(&pointer, &one)?)
@@ -77,7 +82,9 @@ fn add_both(
     requires rst { OwnsExpr file.old clock.now.rst }
     requires head { OwnsRegister file.old head }
     requires tail { OwnsRegister file.old tail }
-    ensures kept { Keeps file.old file.new }
+    ensures exprs { (e : Expr) → OwnsExpr file.old e → OwnsExpr file.new e }
+    ensures types { (t : VastDataType) → OwnsType file.old t → OwnsType file.new t }
+    ensures modules { (m : VastModule) → OwnsModule file.old m → OwnsModule file.new m }
 {
     let reset = Reset {
         signal: clock.rst,

@@ -2,7 +2,6 @@
 
 ghost use Rattle.std.specs.Prelude.{◌≤ℤ◌, pos, IfOk};
 ghost use Rattle.vast_core.specs.Bench.{OwnsExpr, OwnsModule, OwnsType};
-ghost use Rattle.xlsynth_vast.specs.Keeps.{Keeps};
 
 use crate::fault::FifoFault;
 use crate::parts::{add_input, add_output, add_variable, make_bits};
@@ -20,13 +19,6 @@ pub(crate) struct Clock {
 pub(crate) struct Access {
     pub(crate) asked: Expr,
     pub(crate) word: Expr,
-}
-
-/// How words are written and read.
-#[derive(Drop)]
-struct Accesses {
-    write: Access,
-    read: Access,
 }
 
 /// A signal of the side that writes, and the same of the side that reads.
@@ -68,15 +60,18 @@ pub(crate) fn add_ports(
     ensures read_data { IfOk result (λ p. OwnsExpr file.new p.read.word) }
     ensures full { IfOk result (λ p. OwnsExpr file.new p.hindered.write) }
     ensures empty { IfOk result (λ p. OwnsExpr file.new p.hindered.read) }
-    ensures kept { Keeps file.old file.new }
+    ensures exprs { (e : Expr) → OwnsExpr file.old e → OwnsExpr file.new e }
+    ensures types { (t : VastDataType) → OwnsType file.old t → OwnsType file.new t }
+    ensures modules { (m : VastModule) → OwnsModule file.old m → OwnsModule file.new m }
 {
     let clock = add_clock(owner, file)?;
-    let accesses = add_accesses(owner, width, file)?;
+    let write = add_write(owner, width, file)?;
+    let read = add_read(owner, width, file)?;
     let hindered = add_hindered(owner, file)?;
     Ok(Ports {
         clock,
-        write: accesses.write,
-        read: accesses.read,
+        write,
+        read,
         hindered,
     })
 }
@@ -85,25 +80,13 @@ fn add_clock(owner: VastModule, file: &mut VastFile) -> Result<Clock, FifoFault>
     requires owner { OwnsModule file.old owner }
     ensures clk { IfOk result (λ c. OwnsExpr file.new c.clk) }
     ensures rst { IfOk result (λ c. OwnsExpr file.new c.rst) }
-    ensures kept { Keeps file.old file.new }
+    ensures exprs { (e : Expr) → OwnsExpr file.old e → OwnsExpr file.new e }
+    ensures types { (t : VastDataType) → OwnsType file.old t → OwnsType file.new t }
+    ensures modules { (m : VastModule) → OwnsModule file.old m → OwnsModule file.new m }
 {
     let clk = add_input(owner, "clk", 1, file)?;
     let rst = add_input(owner, "rst", 1, file)?;
     Ok(Clock { clk, rst })
-}
-
-fn add_accesses(owner: VastModule, width: i64, file: &mut VastFile) -> Result<Accesses, FifoFault>
-    requires owner { OwnsModule file.old owner }
-    requires width { pos 1 ≤ℤ width }
-    ensures write { IfOk result (λ a. OwnsExpr file.new a.write.asked) }
-    ensures write_data { IfOk result (λ a. OwnsExpr file.new a.write.word) }
-    ensures read { IfOk result (λ a. OwnsExpr file.new a.read.asked) }
-    ensures read_data { IfOk result (λ a. OwnsExpr file.new a.read.word) }
-    ensures kept { Keeps file.old file.new }
-{
-    let write = add_write(owner, width, file)?;
-    let read = add_read(owner, width, file)?;
-    Ok(Accesses { write, read })
 }
 
 fn add_write(owner: VastModule, width: i64, file: &mut VastFile) -> Result<Access, FifoFault>
@@ -111,7 +94,9 @@ fn add_write(owner: VastModule, width: i64, file: &mut VastFile) -> Result<Acces
     requires width { pos 1 ≤ℤ width }
     ensures asked { IfOk result (λ a. OwnsExpr file.new a.asked) }
     ensures word { IfOk result (λ a. OwnsExpr file.new a.word) }
-    ensures kept { Keeps file.old file.new }
+    ensures exprs { (e : Expr) → OwnsExpr file.old e → OwnsExpr file.new e }
+    ensures types { (t : VastDataType) → OwnsType file.old t → OwnsType file.new t }
+    ensures modules { (m : VastModule) → OwnsModule file.old m → OwnsModule file.new m }
 {
     let asked = add_input(owner, "write", 1, file)?;
     let word = add_input(owner, "write_data", width, file)?;
@@ -123,7 +108,9 @@ fn add_read(owner: VastModule, width: i64, file: &mut VastFile) -> Result<Access
     requires width { pos 1 ≤ℤ width }
     ensures asked { IfOk result (λ a. OwnsExpr file.new a.asked) }
     ensures word { IfOk result (λ a. OwnsExpr file.new a.word) }
-    ensures kept { Keeps file.old file.new }
+    ensures exprs { (e : Expr) → OwnsExpr file.old e → OwnsExpr file.new e }
+    ensures types { (t : VastDataType) → OwnsType file.old t → OwnsType file.new t }
+    ensures modules { (m : VastModule) → OwnsModule file.old m → OwnsModule file.new m }
 {
     let asked = add_input(owner, "read", 1, file)?;
     let word = add_output(owner, "read_data", width, file)?;
@@ -134,7 +121,9 @@ fn add_hindered(owner: VastModule, file: &mut VastFile) -> Result<Sides, FifoFau
     requires owner { OwnsModule file.old owner }
     ensures write { IfOk result (λ s. OwnsExpr file.new s.write) }
     ensures read { IfOk result (λ s. OwnsExpr file.new s.read) }
-    ensures kept { Keeps file.old file.new }
+    ensures exprs { (e : Expr) → OwnsExpr file.old e → OwnsExpr file.new e }
+    ensures types { (t : VastDataType) → OwnsType file.old t → OwnsType file.new t }
+    ensures modules { (m : VastModule) → OwnsModule file.old m → OwnsModule file.new m }
 {
     let write = add_output(owner, "full", 1, file)?;
     let read = add_output(owner, "empty", 1, file)?;
@@ -158,7 +147,9 @@ pub(crate) fn add_state(
     ensures tail { IfOk result (λ s. OwnsExpr file.new s.pointers.read) }
     ensures writes { IfOk result (λ s. OwnsExpr file.new s.strobes.write) }
     ensures reads { IfOk result (λ s. OwnsExpr file.new s.strobes.read) }
-    ensures kept { Keeps file.old file.new }
+    ensures exprs { (e : Expr) → OwnsExpr file.old e → OwnsExpr file.new e }
+    ensures types { (t : VastDataType) → OwnsType file.old t → OwnsType file.new t }
+    ensures modules { (m : VastModule) → OwnsModule file.old m → OwnsModule file.new m }
 {
     let memory = make_memory(width, depth, file)?;
     let words = add_variable(owner, "words", memory, file)?;
@@ -183,7 +174,9 @@ fn add_sides(
     requires width { pos 1 ≤ℤ width }
     ensures write { IfOk result (λ s. OwnsExpr file.new s.write) }
     ensures read { IfOk result (λ s. OwnsExpr file.new s.read) }
-    ensures kept { Keeps file.old file.new }
+    ensures exprs { (e : Expr) → OwnsExpr file.old e → OwnsExpr file.new e }
+    ensures types { (t : VastDataType) → OwnsType file.old t → OwnsType file.new t }
+    ensures modules { (m : VastModule) → OwnsModule file.old m → OwnsModule file.new m }
 {
     let bits = make_bits(width, file)?;
     let write = add_variable(owner, write, bits, file)?;
@@ -196,7 +189,9 @@ fn make_memory(width: i64, depth: i64, file: &mut VastFile) -> Result<VastDataTy
     requires width { pos 1 ≤ℤ width }
     requires depth { pos 1 ≤ℤ depth }
     ensures answer { IfOk result (λ t. OwnsType file.new t) }
-    ensures kept { Keeps file.old file.new }
+    ensures exprs { (e : Expr) → OwnsExpr file.old e → OwnsExpr file.new e }
+    ensures types { (t : VastDataType) → OwnsType file.old t → OwnsType file.new t }
+    ensures modules { (m : VastModule) → OwnsModule file.old m → OwnsModule file.new m }
 {
     let word = make_bits(width, file)?;
     Ok(file.make_unpacked_array_type(word, &[depth])?)
