@@ -15,8 +15,14 @@ use Rattle.vast_list.specs.Internal.Built.{TakesLine}
 use Rattle.vast_list.proofs.Built.{lines-more}
 use Rattle.vast_list.specs.Lines.{BeginsWithDialect, Passed, dialect_word, line_kind, line_texts, without_return}
 use Rattle.vast_list.specs.Output.{IsOutput, StopsAtFault, is_again, is_made}
-use Rattle.vast_list.specs.Internal.Output.{IsAnswered, IsAnswering, IsDesign, IsFinished, IsReport, Prints, TakesOn}
+use Rattle.vast_list.specs.Internal.Output.{IsAnswered, IsDesign, IsFinished, IsReport, Prints, TakesOn}
 use Rattle.vast_list.specs.Written.{meaning}
+
+-- The lines so far were taken, those behind the dialect's.
+pub record IsAnswering (tries : Tries) (dialect : VastFileType) (lines : List (List ℕ)) (answering : Answering) : Type 0 where
+  pub trial : is_some answering.trial ≡ is_again tries
+  pub stopped : StopsAtFault answering
+  pub built : IsAnswered tries dialect lines answering
 
 -- The lines of a list that stand behind the first that is no comment.
 pub begins :

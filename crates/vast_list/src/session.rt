@@ -10,12 +10,11 @@ ghost use Rattle.vast_list.specs.Names.{IsFree, entered, value_named};
 ghost use Rattle.vast_list.specs.Replies.{IsAnswerText};
 ghost use Rattle.vast_list.specs.Session.{Calls, IsCausedBy, IsGivenBy, IsInForm, IsNumbered, IsOfLine, IsRefusedText, IsSame, IsStepIn, IsTextOf, NamesCall, Skips, Takes, next_number};
 ghost use Rattle.vast_list.specs.Questions.{Asks};
-ghost use Rattle.vast_list.specs.Internal.Session.{IsAskFault, IsCallFault, IsMisread, IsQuestionFault, IsRead, IsToldAs, IsToldOf, Makes, MakesName, made_number};
+ghost use Rattle.vast_list.specs.Internal.Session.{IsAskFault, IsCallFault, IsMisread, IsQuestionFault, IsRead, IsToldOf, Makes, MakesName};
 ghost use Rattle.vast_list.specs.Written.{meaning};
 
 use crate::arguments::{Known, place_of};
-use crate::explain::{explained, uses_skipped};
-use crate::fault::{Fault, LineFault, misread, refused_text};
+use crate::fault::{Fault, misread, refused_text};
 use crate::helpers::call_helper;
 use crate::line::{Action, Call, Line, is_empty, read_line, split_line, text_of};
 use crate::names::{Named, Names, is_name};
@@ -26,6 +25,8 @@ use std::alloc::{AllocError, Global};
 use vast_literal::VastFault;
 use vast_script::{Answer, Step, StepFault, one, replay_step};
 use xlsynth_vast::{Expr, FileIds, VastFile, VastFileType};
+
+mod told;
 
 /// A file with the answers so far: the lines of a list are its calls. It keeps no lines.
 #[derive(Drop)]
@@ -370,64 +371,5 @@ impl Session {
             Ok(value) => Ok(value),
             Err(fault) => Err(self.told(number, text, call, None, fault)),
         }
-    }
-
-    /// The fault of a line that is in the form.
-    fn told(
-        &self,
-        line: usize,
-        text: &str,
-        call: &str,
-        made: Option<&Call>,
-        cause: StepFault,
-    ) -> Fault
-        ensures memory { IsToldAs cause result }
-        ensures told { IsToldOf line call.now (made_number self.now made.entry) (Some cause)
-            result }
-    {
-        if let StepFault::Memory = cause {
-            return Fault::Memory;
-        }
-        match self.explained(line, text, call, made, cause) {
-            Ok(fault) => Fault::Line(fault),
-            Err(_) => Fault::Memory,
-        }
-    }
-
-    /// The number of the call, if it is one.
-    fn number_of(&self, made: Option<&Call>) -> Option<usize>
-        ensures { result ≡ made_number self.now made.entry }
-    {
-        match made {
-            Some(_) => Some(self.counted()),
-            None => None,
-        }
-    }
-
-    fn explained(
-        &self,
-        line: usize,
-        text: &str,
-        call: &str,
-        made: Option<&Call>,
-        cause: StepFault,
-    ) -> Result<LineFault, AllocError>
-        ensures line { IfOk result (λ fault. fault.line ≡ line) }
-        ensures call { IfOk result (λ fault. string_bytes fault.call ≡ call.now) }
-        ensures step { IfOk result (λ fault. fault.step ≡ made_number self.now made.entry) }
-        ensures cause { IfOk result (λ fault. fault.cause ≡ Some cause) }
-    {
-        let known = self.known();
-        let is_missing = matches!(cause, StepFault::NoAnswer);
-        let follows = is_missing && uses_skipped(known, text)?;
-        Ok(LineFault {
-            line,
-            column: None,
-            call: String::from_str(known.alloc, call)?,
-            step: self.number_of(made),
-            words: explained(known, &self.file, &self.answers, text, made, &cause)?,
-            cause: Some(cause),
-            follows,
-        })
     }
 }

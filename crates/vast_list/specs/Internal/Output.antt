@@ -48,9 +48,3 @@ IsFinished None answering verdict output = IsDesign answering output
 -- All lines were taken, those behind the dialect's; without a fault, the file is what they build.
 abbrev pub IsAnswered : Tries → VastFileType → (lines : List (List ℕ)) → Answering → Type 0
 IsAnswered tries dialect lines answering = IsTrue (is_made answering.told.verdict) → HasBuilt (is_again tries) dialect lines answering.session
-
--- The lines so far were taken, those behind the dialect's.
-pub record IsAnswering (tries : Tries) (dialect : VastFileType) (lines : List (List ℕ)) (answering : Answering) : Type 0 where
-  pub trial : is_some answering.trial ≡ is_again tries
-  pub stopped : StopsAtFault answering
-  pub built : IsAnswered tries dialect lines answering

@@ -1,5 +1,5 @@
 use Rattle.std.proofs.Common.{take}
-use Rattle.vast_list.specs.Internal.Output.{IsAnswering}
+use Rattle.vast_list.proofs.Outputs.{IsAnswering}
 use Rattle.vast_list.specs.Lines.{line_texts}
 use Rattle.vast_list.proofs.output.answered.Given as goal
 

@@ -10,4 +10,4 @@ pub returns : goal.returns
 returns c = λ list begun.
     let dialect = c.args.dialect in
     let built : HasBuilt false dialect [] c.new.result = no-lines false dialect c.new.result c.new.ensures.file c.new.ensures.answers c.new.ensures.names c.new.ensures.skipped in
-    told_of_list list (line_texts c.args.lines.now) dialect _ c.plainness_behind.result c.plainness_behind.ensures begun refl refl built
+    told_of_list list (line_texts c.args.lines.now) dialect _ c.plainness_behind-found.result c.plainness_behind-found.ensures begun refl refl built
