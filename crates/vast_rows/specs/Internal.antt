@@ -1,0 +1,4 @@
+pub mod Stack
+pub mod Derives
+pub mod Reading
+pub mod Trial
