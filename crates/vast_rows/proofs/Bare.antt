@@ -1,5 +1,5 @@
 -- What rows spell hangs on their rules and items alone.
-use Rattle.std.proofs.Common.{◌≡◌, ℕ, suc, zero, List, [], ◌∷◌, ◌++◌, Some, refl, sym, ap, ◌∙◌, subst}
+use Rattle.std.proofs.Common.{◌≡◌, ℕ, suc, zero, List, [], ◌∷◌, ◌++◌, Some, Bool, true, false, Result, Ok, Err, IfOk, MatchBool, refl, sym, ap, ◌∙◌, subst}
 use Rattle.std.specs.List.{slice_get}
 use Rattle.vast_literal.specs.Tokens as tokens
 use Rattle.vast_rows.specs.declared.grammar.Item.{Item}
@@ -25,7 +25,7 @@ to_bare (a_token t e p) = a_token t e (to_bare p)
 to_bare (a_phrase i p) = a_phrase i (to_bare p)
 to_bare {rows = rows} (a_rule n row at ruled p q) = a_rule n (bare_row row) (bare_found rows n row at) ruled (to_bare p) (to_bare q)
 
-pub from_bare : {is : Phrasing} {s : List Item} {ts : List tokens.Token} {f : Forest} (rows : List Row) → Spells is (bare rows) s ts f → Spells is rows s ts f
+pub from_bare : {is : Phrasing} (rows : List Row) {s : List Item} {ts : List tokens.Token} {f : Forest} → Spells is (bare rows) s ts f → Spells is rows s ts f
 from_bare rows no_items = no_items
 from_bare rows (a_token t e p) = a_token t e (from_bare rows p)
 from_bare rows (a_phrase i p) = a_phrase i (from_bare rows p)
@@ -41,4 +41,8 @@ spelled_by is rows page r ts e p = (p.0, rw (← e) (to_bare p.1))
 pub unspelled_by : (is : Phrasing) (rows page : List Row) (r : ℕ) (ts : List tokens.Token) → bare rows ≡ page → IsUnspelled is rows r ts → IsUnspelled is page r ts
 unspelled_by is rows page r ts e u f p = u f (from_bare rows (rw (← e) at p))
 
-pub ruleset pages = (spelled_by, unspelled_by)
+pub by_page : {E : Type 0} (is : Phrasing) (rows page : List Row) (r : ℕ) (ts : List tokens.Token) (read : Result Bool E) → bare rows ≡ page →
+    IfOk read (λ b. MatchBool b (IsSpelled is rows r ts) (IsUnspelled is rows r ts)) → IfOk read (λ b. MatchBool b (IsSpelled is page r ts) (IsUnspelled is page r ts))
+by_page is rows page r ts (Ok true) e p = spelled_by is rows page r ts e p
+by_page is rows page r ts (Ok false) e p = unspelled_by is rows page r ts e p
+by_page is rows page r ts (Err x) e p = tt

@@ -1,5 +1,5 @@
 -- What the typed relations say of declarations, the page spells.
-use Rattle.std.proofs.Common.{◌≡◌, ℕ, List, [], ◌∷◌, ◌++◌, Option, Some, None, IsTrue, refl, sym, append_assoc, append-nil}
+use Rattle.std.proofs.Common.{◌≡◌, ℕ, List, [], ◌∷◌, ◌++◌, Option, Some, None, IsTrue, refl, sym, ap, append_assoc, append-nil}
 use Rattle.vast_literal.specs.FileGrammar.{is_kind, is_sign, is_member_kind, is_local_kind, IsMany, no_items, more_items, IsGroup, one, range, IsMaybe, absent, present, IsTypeName, no_type, own_type, packaged, IsDeclaration, declares, IsDeclared, declared}
 use Rattle.vast_literal.specs.NormalFile.{Group, NormalDeclaration}
 use Rattle.vast_literal.specs.Tokens.{Token, Reserved, Word, Mark}
@@ -80,7 +80,7 @@ with_kind k (declares n absent t s g h) e = absurd (cc)
 with_kind k (declares {ts = ts} {ss = ss} {gs = gs} {hs = hs} n (present j i) t s g h) e = let same : j ≡ k = cc e in (ts ++ (ss ++ (gs ++ (Word n ∷ hs))), declarator_to n t s g h, rw same refl)
 
 pub net_declared : {ts : List Token} {d : NormalDeclaration} → IsDeclared is_member_kind ts d → Spelled (rule NetKind ∷ (rule Declarator ∷ (mark Semicolon ∷ []))) ts
-net_declared (declared k e h d) = let r = with_kind k d e in along (rw r.2 refl) (nod (net_to k h) (nod r.1 (tok (Mark Semicolon) refl stop)))
+net_declared (declared k e h d) = let r = with_kind k d e in along (ap (λ (v : List Token). v ++ (Mark Semicolon ∷ [])) (sym r.2)) (nod (net_to k h) (nod r.1 (tok (Mark Semicolon) refl stop)))
 
 pub local_declared : {ts : List Token} {d : NormalDeclaration} → IsDeclared is_local_kind ts d → Node Local ts
-local_declared (declared k e h d) = let r = with_kind k d e in at Local 0 refl (along (rw r.2 refl) (nod (local_to k h) (nod r.1 (tok (Mark Semicolon) refl stop))))
+local_declared (declared k e h d) = let r = with_kind k d e in at Local 0 refl (along (ap (λ (v : List Token). v ++ (Mark Semicolon ∷ [])) (sym r.2)) (nod (local_to k h) (nod r.1 (tok (Mark Semicolon) refl stop))))

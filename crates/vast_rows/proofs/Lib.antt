@@ -21,3 +21,4 @@ pub mod StatementsToRows
 pub mod MembersToRows
 pub mod Bridge
 pub mod Bare
+pub mod Trials

@@ -8,10 +8,10 @@ use Rattle.vast_rows.specs.Phrases.{expression}
 use Rattle.vast_rows.proofs.Meant.{Makes, is_key}
 
 pub declaration0 : Makes Declaration 0
-declaration0 ds d = let r = d [] None absent in (r.0, r.2)
+declaration0 ds d = let r = d [] None absent in (r.0, r.1)
 
 pub declaration1 : Makes Declaration 1
-declaration1 ks (is_key k h) ds d = let r = d ks (Some k) (present k h) in (r.0, r.2)
+declaration1 ks (is_key k h) ds d = let r = d ks (Some k) (present k h) in (r.0, r.1)
 
 pub kind0 : Makes KindWord 0
 unfolding is_kind
@@ -66,10 +66,10 @@ unfolding is_sign
 sign1 = is_key UnsignedKey refl
 
 pub declarator0 : Makes Declarator 0
-declarator0 ss (is_key s h) gs g n hs b ks k m = (_, refl, declares n m no_type (present s h) g.1 b.1)
+declarator0 ss (is_key s h) gs g n hs b ks k m = (_, declares n m no_type (present s h) g.1 b.1, refl)
 
 pub declarator1 : Makes Declarator 1
-declarator1 fs f gs g n hs b ks k m = rw (← append_assoc fs gs (Word n ∷ hs)) (_, refl, declares n m no_type absent (more_items f.1 g.1) b.1)
+declarator1 fs f gs g n hs b ks k m = rw (← append_assoc fs gs (Word n ∷ hs)) (_, declares n m no_type absent (more_items f.1 g.1) b.1, refl)
 
 pub declarator2 : Makes Declarator 2
 declarator2 w us after = after w
@@ -78,22 +78,22 @@ pub after_word0 : Makes AfterWord 0
 after_word0 t us names w = names (Word w ∷ (Mark DoubleColon ∷ (Word t ∷ []))) (Some w) (Some t) (packaged w t)
 
 pub after_word1 : Makes AfterWord 1
-after_word1 ss (is_key s h) gs g n hs b w ks k m = (_, refl, declares n m (own_type w) (present s h) g.1 b.1)
+after_word1 ss (is_key s h) gs g n hs b w ks k m = (_, declares n m (own_type w) (present s h) g.1 b.1, refl)
 
 pub after_word2 : Makes AfterWord 2
 after_word2 gs g us after w = after w gs g.0 g.1
 
 pub signed_name0 : Makes SignedName 0
-signed_name0 gs g n hs b ts p t y ks k m = (_, refl, declares n m y absent g.1 b.1)
+signed_name0 gs g n hs b ts p t y ks k m = (_, declares n m y absent g.1 b.1, refl)
 
 pub signed_name1 : Makes SignedName 1
-signed_name1 ss (is_key s h) gs g n hs b ts p t y ks k m = (_, refl, declares n m y (present s h) g.1 b.1)
+signed_name1 ss (is_key s h) gs g n hs b ts p t y ks k m = (_, declares n m y (present s h) g.1 b.1, refl)
 
 pub after_groups0 : Makes AfterGroups 0
-after_groups0 w gs g many ks k m = rw (append-nil gs) (_, refl, declares w m no_type absent no_items many)
+after_groups0 w gs g many ks k m = rw (append-nil gs) (_, declares w m no_type absent no_items many, refl)
 
 pub after_groups1 : Makes AfterGroups 1
-after_groups1 n hs b w gs g many ks k m = (_, refl, declares n m (own_type w) absent many b.1)
+after_groups1 n hs b w gs g many ks k m = (_, declares n m (own_type w) absent many b.1, refl)
 
 pub groups0 : Makes Groups 0
 groups0 = (_, no_items)

@@ -2,6 +2,7 @@
 use Rattle.std.proofs.Common.{◌≡◌, List, [], ◌∷◌, ◌++◌, codes, true, false, Some, refl, append_assoc, append-nil}
 use Rattle.vast_literal.specs.FileGrammar.{is_parameter_word, is_clocked, is_edge, is_direction, no_items, more_items, empty, full, present, edge, plain, input, declared, given, connected, unconnected, no_parameters, with_parameters, with_one, without, no_label, labelled, block_body, casez_body, declaration, continuous, parameter, macro, macro_with, instance, combinational, clocked, conditional, function, loop, closed, and_member, header_parameter, port, no_header_parameters, header_parameters, no_ports, ports, module_item, include_item}
 use Rattle.vast_literal.specs.Grammar.{none, some, last, next}
+use Rattle.vast_literal.specs.NormalFile.{LoopPart}
 use Rattle.vast_literal.specs.Tokens.{Mark, Reserved, MacroWord}
 use Rattle.vast_rows.specs.declared.rule.Rule.TheVariants.{File, FileItem, Parameters, MoreParameters, Parameter, Ports, MorePorts, Port, Direction, ModuleMembers, LoopMembers, Member, AnyMacro, MacroArguments, Expressions, MoreExpressions, LastSemicolon, GivenList, Given, MoreGiven, Connections, Connection, Connected, MoreConnections, Events, OneEvent, MoreEvents, Inputs, Input, MoreInputs, Locals, Local, FunctionBody, LoneBegins, LoneEnds, LoopLabel}
 use Rattle.vast_rows.specs.Numbers.{CloseParen, InputKey, OutputKey, InOutKey, ParameterKey, LocalparamKey, AlwaysFFKey, AlwaysKey, PosedgeKey, NegedgeKey, EndModuleKey, EndKey}
@@ -31,7 +32,7 @@ pub more_parameters0 : Makes MoreParameters 0
 more_parameters0 = no_tails
 
 pub more_parameters1 : Makes MoreParameters 1
-more_parameters1 ts p us more = more_tails p.1 more
+more_parameters1 ts p us more = more_tails ts p.0 p.1 more
 
 pub parameter0 : Makes Parameter 0
 parameter0 ds d xs m (expression p) = (_, header_parameter d.1 p)
@@ -46,7 +47,7 @@ pub more_ports0 : Makes MorePorts 0
 more_ports0 = no_tails
 
 pub more_ports1 : Makes MorePorts 1
-more_ports1 ts p us more = more_tails p.1 more
+more_ports1 ts p us more = more_tails ts p.0 p.1 more
 
 pub port0 : Makes Port 0
 port0 ks (is_key k h) ds d = (_, port k h d.1)
@@ -76,7 +77,7 @@ pub loop_members1 : Makes LoopMembers 1
 loop_members1 ts m us ms = (_, and_member m.1 ms.1)
 
 pub member0 : Makes Member 0
-member0 ks (is_key k h) ds d = let r = d ks (Some k) (present k (net_is_kind k h)) in (_, declaration (declared k r.1 h r.2))
+member0 ks (is_key k h) ds d = let r = d ks (Some k) (present k (net_is_kind k h)) in (_, declaration (declared k r.2 h r.1))
 
 pub member1 : Makes Member 1
 member1 ls m (target p) rs n (expression q) = (_, continuous p q)
@@ -113,7 +114,7 @@ pub member10 : Makes Member 10
 member10 ds d is i ls l bs b = (_, function d.1 i.1 l.1 b.1)
 
 pub member11 : Makes Member 11
-member11 ts n (loop_head i p q) ls l ms m = let r = loop i p q l.1 m.1 in (_, rw append_assoc r)
+member11 ts n (loop_head {x = x} {e = e} i p q) ls l ms m = (LoopPart i x e l.0 m.0, simp append_assoc (loop i p q l.1 m.1))
 
 pub macro0 : Makes AnyMacro 0
 macro0 m = is_macro m
@@ -158,7 +159,7 @@ pub more_given0 : Makes MoreGiven 0
 more_given0 = no_tails
 
 pub more_given1 : Makes MoreGiven 1
-more_given1 ts p us more = more_tails p.1 more
+more_given1 ts p us more = more_tails ts p.0 p.1 more
 
 pub connections0 : Makes Connections 0
 connections0 = (_, empty)
@@ -179,7 +180,7 @@ pub more_connections0 : Makes MoreConnections 0
 more_connections0 = no_tails
 
 pub more_connections1 : Makes MoreConnections 1
-more_connections1 ts p us more = more_tails p.1 more
+more_connections1 ts p us more = more_tails ts p.0 p.1 more
 
 pub events0 : Makes Events 0
 events0 = (_, empty)
@@ -202,7 +203,7 @@ pub more_events0 : Makes MoreEvents 0
 more_events0 = no_tails
 
 pub more_events1 : Makes MoreEvents 1
-more_events1 ts p us more = more_tails p.1 more
+more_events1 ts p us more = more_tails ts p.0 p.1 more
 
 pub inputs0 : Makes Inputs 0
 inputs0 = (_, empty)
@@ -217,7 +218,7 @@ pub more_inputs0 : Makes MoreInputs 0
 more_inputs0 = no_tails
 
 pub more_inputs1 : Makes MoreInputs 1
-more_inputs1 ts p us more = more_tails p.1 more
+more_inputs1 ts p us more = more_tails ts p.0 p.1 more
 
 pub locals0 : Makes Locals 0
 locals0 = (_, no_items)
@@ -226,7 +227,7 @@ pub locals1 : Makes Locals 1
 locals1 ts l us ls = (_, more_items l.1 ls.1)
 
 pub local0 : Makes Local 0
-local0 ks (is_key k h) ds d = let r = d ks (Some k) (present k (local_is_kind k h)) in (_, declared k r.1 h r.2)
+local0 ks (is_key k h) ds d = let r = d ks (Some k) (present k (local_is_kind k h)) in (_, declared k r.2 h r.1)
 
 pub function_body0 : Makes FunctionBody 0
 function_body0 bs b = (_, block_body b.1)

@@ -25,7 +25,7 @@ pub statement3 : Makes Statement 3
 statement3 us u ts after = after us u.0 u.1
 
 pub assignment0 : Makes Assignment 0
-assignment0 ls m (target p) as (is_arrow b) rs n (expression q) = (_, assigns b p q)
+assignment0 ls m (target p) arrows (is_arrow b) rs n (expression q) = (_, assigns b p q)
 
 pub arrow0 : Makes Arrow 0
 unfolding arrow

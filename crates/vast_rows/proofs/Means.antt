@@ -1,5 +1,5 @@
 -- What rows make of what their items mean: one function for each row, from the parts to the whole.
-use Rattle.std.proofs.Common.{◌≡◌, ℕ, suc, zero, ◌-◌, List, [], ◌∷◌, ◌++◌, get_or, Bool, true, false, cond, codes, nat_eq, nat_lt, if◌then◌else◌, Option, Some, None, refl, sym, subst, append-nil}
+use Rattle.std.proofs.Common.{◌≡◌, ℕ, suc, zero, ◌+◌, ◌-◌, List, [], ◌∷◌, ◌++◌, get_or, Bool, true, false, cond, codes, nat_eq, nat_lt, if◌then◌else◌, Option, Some, None, refl, sym, subst, append-nil}
 use Rattle.std.specs.List.{slice_get}
 use Rattle.std.specs.Str.{bytes_eq}
 use Rattle.std.proofs.lemmas.Slice.Eq.{bytes_eq-Decides}

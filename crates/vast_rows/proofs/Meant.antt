@@ -1,6 +1,6 @@
 -- What each rule of the page means, by the typed relations of the grammar. A rule that is there for factoring alone means: with what
 -- stands before it, the whole.
-use Rattle.std.proofs.Common.{◌≡◌, ℕ, List, [], ◌∷◌, ◌++◌, Bool, true, false, Option, Some, None, IsTrue, refl, sym, subst, append-nil}
+use Rattle.std.proofs.Common.{◌≡◌, ℕ, List, [], ◌∷◌, ◌++◌, Bool, true, false, Option, Some, None, IsTrue, get_or, refl, sym, subst, append-nil}
 use Rattle.vast_literal.specs.FileGrammar.{arrow, is_kind, is_sign, is_member_kind, is_local_kind, is_direction, IsMany, IsJoined, last_item, next_item, IsList, IsUnique, IsStatement, IsCases, IsAssign, IsStatements, IsChoice, IsLabels, IsBody, IsGroup, IsMaybe, IsTypeName, IsDeclaration, IsEvent, IsInput, IsDeclared, IsGiven, IsConnection, IsGivenList, IsSemicolon, IsLabel, IsFunctionBody, IsMember, IsMembers, IsParameter, IsPort, IsParameters, IsPorts, IsItem}
 use Rattle.vast_literal.specs.Grammar.{Spells, SpellsList, SpellsJoined}
 use Rattle.vast_literal.specs.NormalExpr.{NormalExpr, NormalExprs}
@@ -13,7 +13,6 @@ use Rattle.vast_rows.specs.Page.{page}
 use Rattle.vast_rows.proofs.Means.{MakesOf, row_of, rule_of}
 use Rattle.std.specs.List.{slice_get}
 use Rattle.vast_rows.specs.Rows.{Row}
-use Rattle.std.proofs.Common.{get_or}
 
 -- A keyword that passes the test.
 pub data IsKey (test : Key → Bool) : List Token → Type 0 where
@@ -34,7 +33,7 @@ Tails {A} P between us = (ts : List Token) (x : A) → P ts x → (xs : List A) 
 
 -- Behind a kind word, or none, a declaration.
 abbrev pub Declared : List Token → Type 0
-Declared ts = (ks : List Token) (k : Option Key) → IsMaybe is_kind ks k → (d : normal.NormalDeclaration) × (d.kind ≡ k) × IsDeclaration (ks ++ ts) d
+Declared ts = (ks : List Token) (k : Option Key) → IsMaybe is_kind ks k → (d : normal.NormalDeclaration) × IsDeclaration (ks ++ ts) d × (d.kind ≡ k)
 
 -- Behind the head and the block of a conditional, a conditional.
 abbrev pub Completes : (List Token → List Token) → Type 0
@@ -121,5 +120,5 @@ Makes name which = let row = get_or page (row_of name which) (record { rule = 0;
 pub no_tails : {A : Type 0} {P : List Token → A → Type 0} {between : Token} → Tails P between []
 no_tails {P = P} {between = between} ts x p = (x ∷ [], subst (λ (v : List Token). IsJoined P between v (x ∷ [])) (sym (append-nil ts)) (last_item p))
 
-pub more_tails : {A : Type 0} {P : List Token → A → Type 0} {between : Token} {us vs : List Token} {y : A} → P us y → Tails P between vs → Tails P between (between ∷ (us ++ vs))
-more_tails {us = us} {y = y} q tails ts x p = let r = tails us y q in (x ∷ r.0, next_item p r.1)
+pub more_tails : {A : Type 0} {P : List Token → A → Type 0} {between : Token} {vs : List Token} (us : List Token) (y : A) → P us y → Tails P between vs → Tails P between (between ∷ (us ++ vs))
+more_tails us y q tails ts x p = let r = tails us y q in (x ∷ r.0, next_item p r.1)

@@ -1,5 +1,5 @@
 -- What the typed relations say of members, modules and files, the page spells.
-use Rattle.std.proofs.Common.{◌≡◌, ℕ, List, [], ◌∷◌, ◌++◌, Bool, true, false, cond, codes, Option, IsTrue, refl, sym, ap, append_assoc, append-nil}
+use Rattle.std.proofs.Common.{◌≡◌, ℕ, List, [], ◌∷◌, ◌++◌, Bool, true, false, cond, codes, Option, IsTrue, refl, ap, ◌∙◌, append_assoc, append-nil}
 use Rattle.std.specs.Str.{bytes_eq}
 use Rattle.vast_literal.specs.FileGrammar.{is_parameter_word, is_clocked, is_edge, is_direction, is_local_kind, IsMany, no_items, more_items, IsList, empty, full, IsEvent, edge, plain, IsInput, input, IsDeclared, IsGiven, given, IsConnection, connected, unconnected, IsGivenList, no_parameters, with_parameters, IsSemicolon, with_one, without, IsLabel, no_label, labelled, IsFunctionBody, block_body, casez_body, IsMember, declaration, continuous, parameter, macro, macro_with, instance, combinational, clocked, conditional, function, loop, IsMembers, closed, and_member, IsParameter, header_parameter, IsPort, port, IsParameters, no_header_parameters, header_parameters, IsPorts, no_ports, ports, IsItem, module_item, include_item}
 use Rattle.vast_literal.specs.Grammar.{Spells, SpellsList, none, some, SpellsJoined, last, next}
@@ -9,11 +9,12 @@ use Rattle.vast_literal.specs.Tokens.{Token, Reserved, Word, MacroWord, Mark}
 use Rattle.vast_rows.specs.declared.grammar.Item.TheVariants.{Phrase}
 use Rattle.vast_rows.specs.declared.grammar.Phrase.TheVariants.{Expression}
 use Rattle.vast_rows.specs.declared.rule.Rule.TheVariants.{File, FileItem, Parameters, MoreParameters, Parameter, Ports, MorePorts, Port, Direction, ModuleMembers, LoopMembers, Member, AnyMacro, MacroArguments, Expressions, MoreExpressions, LastSemicolon, GivenList, Given, MoreGiven, Connections, Connection, Connected, MoreConnections, Events, OneEvent, MoreEvents, Inputs, Input, MoreInputs, Locals, Declaration, Statements, FunctionBody, LoneBegins, LoneEnds, LoopLabel}
-use Rattle.vast_rows.specs.Numbers.{Key, Comma, OpenParen, Semicolon, At, Assign, BeginKey, CloseParen, InputKey, OutputKey, InOutKey, ParameterKey, LocalparamKey, AlwaysFFKey, AlwaysKey, PosedgeKey, NegedgeKey, OrKey, EndModuleKey, EndKey, IfKey}
+use Rattle.vast_rows.specs.Numbers.{Key, Comma, OpenParen, Semicolon, At, Assign, BeginKey, GenvarKey, CloseParen, InputKey, OutputKey, InOutKey, ParameterKey, LocalparamKey, AlwaysFFKey, AlwaysKey, PosedgeKey, NegedgeKey, OrKey, EndModuleKey, EndKey, IfKey}
 use Rattle.vast_rows.specs.Phrases.{expression, target, loop_head, path}
 use Rattle.vast_rows.specs.Symbols.{key, mark, rule}
 use Rattle.vast_rows.proofs.DeclarationsToRows.{declaration_to, net_declared, local_declared}
-use Rattle.vast_rows.proofs.Spelling.{Node, Spelled, stop, tok, phr, phr_last, nod, nod_last, at, along, joined_to, thens}
+use Rattle.vast_rows.proofs.PhraseLaws.{step_of}
+use Rattle.vast_rows.proofs.Spelling.{Node, Spelled, stop, tok, phr, phr_last, nod, nod_last, at, along, joined_to, closed_by}
 use Rattle.vast_rows.proofs.StatementsToRows.{statements_to, choice_to, lone_to}
 
 direction_to : (k : Key) → IsTrue (is_direction k) → Node Direction (Reserved k ∷ [])
@@ -29,21 +30,21 @@ parameter_to ts p (header_parameter d e) = at Parameter 0 refl (tok _ refl (nod 
 
 parameters_to : {ts : List Token} {p : List NormalParameter} → IsParameters ts p → Node Parameters ts
 parameters_to no_header_parameters = at Parameters 0 refl stop
-parameters_to (header_parameters j) = at Parameters 1 refl (tok _ refl (tok _ refl (thens (joined_to parameter_to (at MoreParameters 0 refl stop) (λ us p. at MoreParameters 1 refl (tok (Mark Comma) refl p)) j) (tok _ refl stop))))
+parameters_to (header_parameters j) = at Parameters 1 refl (tok _ refl (tok _ refl (closed_by (joined_to parameter_to (at MoreParameters 0 refl stop) (λ us p. at MoreParameters 1 refl (tok (Mark Comma) refl p)) j))))
 
 port_to : (ts : List Token) (p : NormalPort) → IsPort ts p → Node Port ts
 port_to ts p (port k h d) = at Port 0 refl (nod (direction_to k h) (nod_last (declaration_to d)))
 
 ports_to : {ts : List Token} {p : List NormalPort} → IsPorts ts p → Node Ports ts
 ports_to no_ports = at Ports 0 refl stop
-ports_to (ports j) = at Ports 1 refl (tok _ refl (thens (joined_to port_to (at MorePorts 0 refl stop) (λ us p. at MorePorts 1 refl (tok (Mark Comma) refl p)) j) (tok _ refl stop)))
+ports_to (ports j) = at Ports 1 refl (tok _ refl (closed_by (joined_to port_to (at MorePorts 0 refl stop) (λ us p. at MorePorts 1 refl (tok (Mark Comma) refl p)) j)))
 
 given_to : (ts : List Token) (c : NormalConnection) → IsGiven ts c → Node Given ts
 given_to ts c (given n e) = at Given 0 refl (tok _ refl (tok (Word n) refl (tok _ refl (phr (expression e) (tok _ refl stop)))))
 
 given_list_to : {ts : List Token} {c : List NormalConnection} → IsGivenList ts c → Node GivenList ts
 given_list_to no_parameters = at GivenList 0 refl stop
-given_list_to (with_parameters j) = at GivenList 1 refl (tok _ refl (tok _ refl (thens (joined_to given_to (at MoreGiven 0 refl stop) (λ us p. at MoreGiven 1 refl (tok (Mark Comma) refl p)) j) (tok _ refl stop))))
+given_list_to (with_parameters j) = at GivenList 1 refl (tok _ refl (tok _ refl (closed_by (joined_to given_to (at MoreGiven 0 refl stop) (λ us p. at MoreGiven 1 refl (tok (Mark Comma) refl p)) j))))
 
 connection_to : (ts : List Token) (c : NormalConnection) → IsConnection ts c → Node Connection ts
 connection_to ts c (connected (given n e)) = at Connection 0 refl (tok _ refl (tok (Word n) refl (tok _ refl (nod (at Connected 1 refl (phr_last (expression e))) (tok _ refl stop)))))
@@ -124,6 +125,13 @@ clocked_to AlwaysKey h p = at Member 8 refl (tok _ refl p)
 clocked_to IfKey h p = absurd (cc h)
 clocked_to _ h p = absurd (cc h)
 
+-- The head of a loop before other tokens.
+loop_tokens : (xs cs us : List Token) (i : List ℕ) →
+    (Mark OpenParen ∷ (Reserved GenvarKey ∷ (Word i ∷ (Mark Assign ∷ (xs ++ (Mark Semicolon ∷ (cs ++ (Mark Semicolon ∷ step_of i [])))))))) ++ us
+    ≡ Mark OpenParen ∷ (Reserved GenvarKey ∷ (Word i ∷ (Mark Assign ∷ (xs ++ (Mark Semicolon ∷ (cs ++ (Mark Semicolon ∷ step_of i us)))))))
+loop_tokens xs cs us i = ap (λ (v : List Token). Mark OpenParen ∷ (Reserved GenvarKey ∷ (Word i ∷ (Mark Assign ∷ v))))
+    (append_assoc xs (Mark Semicolon ∷ (cs ++ (Mark Semicolon ∷ step_of i []))) us ∙ ap (λ (v : List Token). xs ++ (Mark Semicolon ∷ v)) (append_assoc cs (Mark Semicolon ∷ step_of i []) us))
+
 mutual
   member_to : {ts : List Token} {m : NormalMember} → IsMember ts m → Node Member ts
   member_to (declaration d) = at Member 0 refl (net_declared d)
@@ -136,7 +144,7 @@ mutual
   member_to (clocked k h e b) = clocked_to k h (tok _ refl (tok _ refl (nod (events_to e) (tok _ refl (tok _ refl (nod_last (statements_to b)))))))
   member_to (conditional a) = at Member 9 refl (nod_last (choice_to a))
   member_to (function d i l b) = at Member 10 refl (tok _ refl (tok _ refl (nod (declaration_to d) (tok _ refl (nod (inputs_to i) (tok _ refl (tok _ refl (nod (locals_to l) (nod (function_body_to b) (tok _ refl stop))))))))))
-  member_to (loop {xs = xs} {cs = cs} i p q l m) = at Member 11 refl (tok _ refl (along (simp append_assoc refl) (phr (loop_head i p q) (tok _ refl (nod (label_to l) (nod_last (loop_members_to m)))))))
+  member_to (loop {xs = xs} {cs = cs} i p q l m) = at Member 11 refl (tok _ refl (along (loop_tokens xs cs _ i) (phr (loop_head i p q) (tok _ refl (nod (label_to l) (nod_last (loop_members_to m)))))))
 
   loop_members_to : {ts : List Token} {m : NormalMembers} → IsMembers EndKey ts m → Node LoopMembers ts
   loop_members_to (closed k) = at LoopMembers 0 refl (tok _ refl stop)

@@ -1,5 +1,5 @@
 -- The same tokens have one tree.
-use Rattle.std.proofs.Common.{◌≡◌, ℕ, List, [], ◌∷◌, ◌++◌, true, refl, sym, ◌∙◌, append_assoc}
+use Rattle.std.proofs.Common.{◌≡◌, ℕ, List, [], ◌∷◌, ◌++◌, true, nat_lt, refl, sym, ◌∙◌, append_assoc}
 use Rattle.vast_literal.specs.Tokens as tokens
 use Rattle.vast_rows.specs.declared.grammar.Item.{Item}
 use Rattle.vast_rows.specs.declared.grammar.Item.TheVariants.{Rule}
@@ -21,9 +21,10 @@ module _ {is : Phrasing} (well : BeginsWell is) (apart : IsToldApart is) where
   pub one_tree : {rows : List Row} {s : List Item} {ps qs us vs : List tokens.Token} {f g : Forest} {es ds : List Step} (facts : ℕ → Fact) (s' : List Item) → is_predictive facts rows ≡ true → follows facts (only 0) (s ++ s') ≡ true →
       Spells is rows s ps f → Spells is rows s qs g → Derives is rows s' us es → Derives is rows s' vs ds → ps ++ us ≡ qs ++ vs → One f g us vs
   one_tree facts s' p h no_items no_items d e a = record { trees = refl; behind = a }
-  one_tree {us = us} {vs = vs} facts s' p h (a_token {ts = ts} {f = f} t i q) (a_token {ts = ts'} {f = g} t' i' q') d e a =
+  one_tree {us = us} {vs = vs} facts s' p h (a_token {k = k} {s = s} {ts = ts} {f = f} t i q) (a_token {ts = ts'} {f = g} t' i' q') d e a =
+      let b = both (nat_lt 0 k) (follows facts (only 0) (s ++ s')) h in
       let same : t ≡ t' = cc a in let rest : ts ++ us ≡ ts' ++ vs = cc a in
-      let r = one_tree facts s' p h q q' d e rest in record { trees = rw (same, r.trees) refl; behind = r.behind }
+      let r = one_tree facts s' p b.1 q q' d e rest in record { trees = rw (same, r.trees) refl; behind = r.behind }
   one_tree {rows} {us = us} {vs = vs} {es = es} {ds = ds} facts s' p h (a_phrase {p = part} {m = m} {s = s} {ps = ps} {ts = ts} {f = f} i q) (a_phrase {m = n} {ps = ps'} {ts = ts'} {f = g} i' q') d e a =
       let x = stopped well part (s ++ s') facts p h (derived s' us es q d) in
       let y = stopped well part (s ++ s') facts p h (derived s' vs ds q' e) in

@@ -140,7 +140,7 @@ one_target ts us r q x y a b e h k =
     parted x y r q (one_result g f2)
 
 -- What stands behind the condition of a loop.
-abbrev step_of : List ℕ → List Token → List Token
+abbrev pub step_of : List ℕ → List Token → List Token
 step_of i r = Word i ∷ (Mark Assign ∷ (Word i ∷ (Operator Plus ∷ (Number (codes "1") ∷ (Mark CloseParen ∷ r)))))
 
 semicolon_quiet : (r : List Token) → Quiet 0 (Mark Semicolon ∷ r)

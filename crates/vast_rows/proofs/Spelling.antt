@@ -8,10 +8,11 @@ use Rattle.vast_rows.specs.declared.grammar.Item.TheVariants.{Token, Rule, Phras
 use Rattle.vast_rows.specs.declared.grammar.Phrase as code
 use Rattle.vast_rows.specs.declared.rule.Rule.{Rule as RuleName}
 use Rattle.vast_rows.specs.Kinds.{token_kind}
-use Rattle.vast_rows.specs.Numbers.{rule_number}
+use Rattle.vast_rows.specs.Numbers.{rule_number, CloseParen}
 use Rattle.vast_rows.specs.Page.{page}
 use Rattle.vast_rows.specs.Phrases.{Meaning, IsPhrase}
 use Rattle.vast_rows.specs.Rows.{Row}
+use Rattle.vast_rows.specs.Symbols.{mark}
 use Rattle.vast_rows.specs.Tree.{Forest, nil, leaf, part, node, Spells, no_items, a_token, a_phrase, a_rule}
 use Rattle.vast_rows.proofs.Means.{row_of}
 
@@ -60,6 +61,10 @@ thens {us = us} p q = go p.1 q
     go (a_token t e p) q = tok t e (go p q)
     go {us = us} (a_phrase {ps = ps} {ts = ts} i p) q = along (sym (append_assoc ps ts us)) (phr i (go p q))
     go {us = us} (a_rule {ps = ps} {ts = ts} {below = below} n row at ruled w p) q = along (sym (append_assoc ps ts us)) (nod (record { number = n; row = row; found = at; ruled = ruled; below = (below, w) }) (go p q))
+
+-- Two items before a parenthesis.
+pub closed_by : {i j : Item} {ts : List tokens.Token} → Spelled (i ∷ (j ∷ [])) ts → Spelled (i ∷ (j ∷ (mark CloseParen ∷ []))) (ts ++ (tokens.Mark CloseParen ∷ []))
+closed_by p = thens p (tok (tokens.Mark CloseParen) refl stop)
 
 -- A row by its rule and which it is of that.
 pub at : {ts : List tokens.Token} {row : Row} (name : RuleName) (which : ℕ) → slice_get page (row_of name which) ≡ Some row → Spelled row.items ts → NodeOf row.rule ts

@@ -1,9 +1,54 @@
 -- The source of the tests does what its contract says.
-use Rattle.std.proofs.Common.{◌≡◌, ◌<◌, ℕ, suc, List, [], ◌∷◌, ◌++◌, length, map, Bool, true, false, refl, arith}
-use Rattle.vast_literal.specs.Tokens as tokens
+use Rattle.std.proofs.Common.{◌≡◌, ◌<◌, ℕ, suc, zero, List, [], ◌∷◌, ◌++◌, length, get_or, drop, map, Bool, true, false, refl, sym, ap, ◌∙◌, arith}
+use Rattle.vast_literal.specs.Tokens.{Token}
 use Rattle.vast_rows.specs.declared.grammar.Phrase.{Phrase}
 use Rattle.vast_rows.specs.declared.grammar.Phrase.TheVariants.{Expression, Target, LoopHead, Path}
-use Rattle.vast_rows.specs.Internal.Trial.{IsOne, expression_word, target_word, loop_paren, path_string, stands}
-use Rattle.vast_rows.specs.Kinds.{kind_of_first, tail}
-use Rattle.vast_rows.specs.Numbers.{OpenParen}
-use Rattle.vast_rows.specs.Phrases.{IsPath, HasRead, HasNone}
+use Rattle.vast_rows.specs.declared.kind.Kind.{Kind}
+use Rattle.vast_rows.specs.Internal.Trial.{token_of, IsOne, one_token}
+use Rattle.vast_rows.specs.Kinds.{has, kind_of, kind_of_first, head_kind, tail}
+use Rattle.vast_rows.specs.Phrases.{Meaning, IsPath, firsts, stops, HasRead, HasNone}
+
+pub first_kind : (ks : List Kind) (d : Kind) → 0 < length ks → kind_of (token_of (get_or ks 0 d)) ≡ kind_of_first (map token_of ks)
+first_kind [] d h = absurd (let z : ⊥ = omega arith in z)
+first_kind (k ∷ ks) d h = refl
+
+pub no_kind : (ks : List Kind) → length ks ≡ 0 → kind_of_first [] ≡ kind_of_first (map token_of ks)
+no_kind [] h = refl
+no_kind (k ∷ ks) h = absurd (let z : ⊥ = omega arith in z)
+
+pub skips_one : (ks : List Kind) → map token_of (drop 1 ks) ≡ tail (map token_of ks)
+skips_one [] = refl
+skips_one (k ∷ ks) = refl
+
+pub skips_none : (ks : List Kind) → length ks ≡ 0 → map token_of ks ≡ tail (map token_of ks)
+skips_none [] h = refl
+skips_none (k ∷ ks) h = absurd (let z : ⊥ = omega arith in z)
+
+no_end : (p : Phrase) → has (firsts p) 0 ≡ false
+no_end Expression = refl
+no_end Target = refl
+no_end LoopHead = refl
+no_end Path = refl
+
+pub reads_one : (p : Phrase) (ts us : List Token) → has (firsts p) (head_kind ts) ≡ true → us ≡ tail ts → HasRead IsOne p ts (IsPath []) us
+reads_one p [] us h e = let n = no_end p in absurd (cc (sym n ∙ h))
+reads_one p (t ∷ ts) us h e = rw e (record {
+  front = t ∷ [];
+  reads = one_token t h;
+  split = refl;
+  fewer = omega arith;
+  same = λ vs rest n i same s. stands vs rest n i same;
+})
+  where
+    stands : (vs rest : List Token) (n : Meaning) → IsOne p vs n → t ∷ ts ≡ vs ++ rest → (n ≡ IsPath []) × (rest ≡ ts)
+    stands vs rest n (one_token u i) same = (refl, cc same)
+
+pub reads_none : (p : Phrase) (ts : List Token) → has (firsts p) (head_kind ts) ≡ false → HasNone IsOne p ts
+reads_none p ts h vs rest m i same s = none vs rest m i same
+  where
+    none : (vs rest : List Token) (n : Meaning) → IsOne p vs n → ts ≡ vs ++ rest → ⊥
+    none vs rest n (one_token u i) same = let k : has (firsts p) (head_kind ts) ≡ true = rw same i in absurd (cc (sym h ∙ k))
+
+pub ruleset sources = (first_kind, no_kind, skips_one, skips_none)
+
+pub ruleset phrases = (reads_one, reads_none)

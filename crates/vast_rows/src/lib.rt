@@ -13,8 +13,8 @@ mod sink;
 mod source;
 mod stack;
 mod table;
-// #[cfg(test)]
-// mod trial;
+#[cfg(test)]
+mod trial;
 
 pub use grammar::{Phrase, Table};
 pub use kind::Kind;

@@ -21,7 +21,7 @@ use crate::table::files;
 use std::alloc::{AllocError, Global};
 
 /// Whether the kind is in the set.
-fn is_in(set: u128, kind: u8) -> bool
+pub(crate) fn is_in(set: u128, kind: u8) -> bool
     requires { kind < 128 }
     ensures { result ≡ has set kind }
 {
@@ -181,7 +181,6 @@ pub fn read<S: Source, K: Sink<S>>(
 ///
 /// # Errors
 /// Out of memory.
-#[tactic(auto, using(crate::proofs::Bare::pages))]
 pub fn is_file<S: Source>(alloc: Global, source: &mut S) -> Result<bool, AllocError>
     ensures { IfOk result (λ spelled. MatchBool spelled
         (IsSpelled S.is_phrase page (rule_number File) (S.left source.old))
@@ -194,6 +193,7 @@ pub fn is_file<S: Source>(alloc: Global, source: &mut S) -> Result<bool, AllocEr
 ///
 /// # Errors
 /// Out of memory.
+#[tactic(auto, using(crate::proofs::Turns::is_spelled))]
 pub fn is_spelled<S: Source>(
     alloc: Global,
     table: &Table,

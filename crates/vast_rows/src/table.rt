@@ -11,8 +11,7 @@ ghost use Rattle.vast_rows.specs.Rows.{bare, rows_view};
 ghost use Rattle.vast_rows.specs.declared.rule.Rule.TheVariants.{File};
 
 use crate::grammar::Item::{self, Phrase as Part, Rule, Token};
-use crate::grammar::Phrase;
-use crate::grammar::{Fact, Row, Table};
+use crate::grammar::{Fact, Phrase, Row, Table};
 
 #[rattlefmt::skip]
 static ITEMS: [Item; 297] = [

@@ -1,15 +1,14 @@
 //! Lists of kinds that are read.
 
-ghost use Rattle.std.specs.Prelude.{◌≡◌, ◌++◌, map, refl};
-ghost use Rattle.vast_rows.specs.Internal.Trial.{IsOne, one_apart, one_begins, stands, token_of};
-ghost use Rattle.vast_rows.specs.Phrases.{IsPath};
+ghost use Rattle.std.specs.Prelude.{◌≡◌, map};
+ghost use Rattle.vast_rows.specs.Internal.Trial.{IsOne, one_apart, one_begins, token_of};
+ghost use Rattle.vast_rows.specs.Kinds.{kind_of};
+ghost use Rattle.vast_rows.specs.Phrases.{IsPath, firsts};
 
 use crate::grammar::Phrase;
 use crate::kind::Kind;
-use crate::machine::is_spelled;
-use crate::rule::Rule;
+use crate::machine::{is_file, is_in};
 use crate::source::Source;
-use crate::table::files;
 use std::alloc::{AllocError, Global};
 use vast_literal::{Key, Mark, Sign};
 
@@ -18,17 +17,35 @@ struct Kinds<'a> {
     rest: &'a [Kind],
 }
 
-/// Whether the kind is that of the phrase.
-#[tactic(auto, unfolding(crate::specs::Internal::Trial::stands))]
-fn stands(phrase: Phrase, kind: Kind) -> bool
-    ensures { result ≡ stands phrase kind }
+/// The kind of the token that stands for one.
+fn shown(kind: Kind) -> Kind
+    ensures { result ≡ kind_of (token_of kind) }
 {
-    match (phrase, kind) {
-        (Phrase::Expression, Kind::Word) => true,
-        (Phrase::Target, Kind::Word) => true,
-        (Phrase::LoopHead, Kind::Mark(Mark::OpenParen)) => true,
-        (Phrase::Path, Kind::Quoted) => true,
-        _ => false,
+    match kind {
+        Kind::End => Kind::Word,
+        Kind::Word => Kind::Word,
+        Kind::Keyword => Kind::Keyword,
+        Kind::SystemWord => Kind::SystemWord,
+        Kind::MacroWord => Kind::MacroWord,
+        Kind::IncludeWord => Kind::IncludeWord,
+        Kind::Number => Kind::Number,
+        Kind::Based => Kind::Based,
+        Kind::Quoted => Kind::Quoted,
+        Kind::Mark(mark) => Kind::Mark(mark),
+        Kind::Operator(sign) => Kind::Operator(sign),
+        Kind::Reserved(key) => Kind::Reserved(key),
+    }
+}
+
+/// The kinds with which a phrase begins.
+fn begins(phrase: Phrase) -> u128
+    ensures { result ≡ firsts phrase }
+{
+    match phrase {
+        Phrase::Expression => 0x1b80030800720023fa,
+        Phrase::Target => 0x1b80000000020023fa,
+        Phrase::LoopHead => 0x200,
+        Phrase::Path => 0x100,
     }
 }
 
@@ -41,26 +58,25 @@ impl<'a> Source for Kinds<'a> {
 
     ghost sees = { λ made. IsPath [] };
 
-    #[tactic(auto, using(crate::proofs::Trials::kinds))]
+    #[tactic(auto, using(crate::proofs::Trials::sources))]
     fn kind(&self) -> Kind {
-        match self.rest.first() {
-            None => Kind::End,
-            Some(Kind::End) => Kind::Word,
-            Some(kind) => *kind,
+        if self.rest.is_empty() {
+            Kind::End
+        } else {
+            shown(self.rest[0])
         }
     }
 
-    #[tactic(auto, using(crate::proofs::Trials::skips))]
+    #[tactic(auto, using(crate::proofs::Trials::sources))]
     fn skip(&mut self) {
-        match self.rest.split_first() {
-            None => {}
-            Some((_, rest)) => self.rest = rest,
+        if !self.rest.is_empty() {
+            self.rest = &self.rest[1..];
         }
     }
 
     #[tactic(auto, using(crate::proofs::Trials::phrases))]
     fn phrase(&mut self, phrase: Phrase) -> Result<Option<()>, AllocError> {
-        if stands(phrase, self.kind()) {
+        if is_in(begins(phrase), self.kind().number()) {
             self.skip();
             Ok(Some(()))
         } else {
@@ -74,11 +90,7 @@ impl<'a> Source for Kinds<'a> {
 }
 
 /// One token of each kind, so many times.
-fn repeated(
-    kinds: &mut Vec<Kind>,
-    count: u32,
-    some: &[Kind],
-) -> Result<(), AllocError> {
+fn repeated(kinds: &mut Vec<Kind>, count: u32, some: &[Kind]) -> Result<(), AllocError> {
     for _ in 0..count {
         for kind in some {
             kinds.push(*kind)?;
@@ -89,7 +101,7 @@ fn repeated(
 
 /// Whether the kinds are those of a file.
 fn reads(alloc: Global, kinds: &[Kind]) -> Result<bool, AllocError> {
-    is_spelled(alloc, &files(), Rule::File, &mut Kinds { rest: kinds })
+    is_file(alloc, &mut Kinds { rest: kinds })
 }
 
 /// Whether a module with a conditional in which so many others stand is a file, where so many are closed.
@@ -112,14 +124,22 @@ fn nested(alloc: Global, opened: u32, closed: u32) -> Result<bool, AllocError> {
     repeated(&mut kinds, 1, &head)?;
     repeated(&mut kinds, opened, &open)?;
     repeated(&mut kinds, closed, &[Kind::Reserved(Key::End)])?;
-    repeated(&mut kinds, 1, &[Kind::Reserved(Key::End), Kind::Reserved(Key::EndModule)])?;
+    repeated(
+        &mut kinds,
+        1,
+        &[Kind::Reserved(Key::End), Kind::Reserved(Key::EndModule)],
+    )?;
     reads(alloc, &kinds)
 }
 
 #[test]
 fn reads_files(rt: HostRuntime) {
     // nothing; an include; a module alone, and without its end
-    let header = [Kind::Reserved(Key::Module), Kind::Word, Kind::Mark(Mark::Semicolon)];
+    let header = [
+        Kind::Reserved(Key::Module),
+        Kind::Word,
+        Kind::Mark(Mark::Semicolon),
+    ];
     assert!(rt; reads(rt.alloc(), &[]) == Ok(true));
     assert!(rt; reads(rt.alloc(), &[Kind::IncludeWord, Kind::Quoted]) == Ok(true));
     assert!(rt; reads(rt.alloc(), &header) == Ok(false));
