@@ -1,10 +1,10 @@
 -- What rows spell hangs on their rules and items alone.
-use Rattle.std.proofs.Common.{◌≡◌, ℕ, suc, zero, List, [], ◌∷◌, ◌++◌, Some, Bool, true, false, Result, Ok, Err, IfOk, MatchBool, refl, sym, ap, ◌∙◌, subst}
+use Rattle.std.proofs.Common.{◌≡◌, ℕ, suc, zero, List, [], ◌∷◌, Some, Bool, true, false, Result, Ok, Err, IfOk, MatchBool, refl, sym, ap, ◌∙◌, subst}
 use Rattle.std.specs.List.{slice_get}
 use Rattle.vast_literal.specs.Tokens as tokens
 use Rattle.vast_rows.specs.declared.grammar.Item.{Item}
 use Rattle.vast_rows.specs.Laws.{IsSpelled, IsUnspelled}
-use Rattle.vast_rows.specs.Phrases.{Phrasing, Meaning}
+use Rattle.vast_rows.specs.Phrases.{Phrasing}
 use Rattle.vast_rows.specs.Rows.{Row, bare_row, bare}
 use Rattle.vast_rows.specs.Tree.{Forest, Spells, no_items, a_token, a_phrase, a_rule}
 use Rattle.vast_rows.proofs.Sets.{some_one}

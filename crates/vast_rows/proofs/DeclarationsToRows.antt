@@ -1,11 +1,10 @@
 -- What the typed relations say of declarations, the page spells.
-use Rattle.std.proofs.Common.{◌≡◌, ℕ, List, [], ◌∷◌, ◌++◌, Option, Some, None, IsTrue, refl, sym, ap, append_assoc, append-nil}
+use Rattle.std.proofs.Common.{◌≡◌, ℕ, List, [], ◌∷◌, ◌++◌, Option, Some, IsTrue, refl, sym, ap, append_assoc, append-nil}
 use Rattle.vast_literal.specs.FileGrammar.{is_kind, is_sign, is_member_kind, is_local_kind, IsMany, no_items, more_items, IsGroup, one, range, IsMaybe, absent, present, IsTypeName, no_type, own_type, packaged, IsDeclaration, declares, IsDeclared, declared}
 use Rattle.vast_literal.specs.NormalFile.{Group, NormalDeclaration}
 use Rattle.vast_literal.specs.Tokens.{Token, Reserved, Word, Mark}
-use Rattle.vast_rows.specs.declared.rule.Rule.{Rule as RuleName}
 use Rattle.vast_rows.specs.declared.rule.Rule.TheVariants.{Declaration, KindWord, Declarator, SignWord, AfterWord, SignedName, AfterGroups, Groups, BracketGroup, GroupEnd, NetKind, LocalKind, Local}
-use Rattle.vast_rows.specs.Numbers.{Key, WireKey, RegKey, LogicKey, IntegerKey, IntKey, GenvarKey, SignedKey, UnsignedKey, IfKey, OpenBracket, CloseBracket, Colon, DoubleColon, Semicolon}
+use Rattle.vast_rows.specs.Numbers.{Key, WireKey, RegKey, LogicKey, IntegerKey, IntKey, GenvarKey, SignedKey, UnsignedKey, IfKey, Semicolon}
 use Rattle.vast_rows.specs.Phrases.{expression}
 use Rattle.vast_rows.specs.Symbols.{word, mark, rule}
 use Rattle.vast_rows.proofs.Spelling.{Node, Spelled, stop, tok, phr, nod, nod_last, at, along}

@@ -5,7 +5,8 @@ use Rattle.std.proofs.lemmas.Bool.{ltb-true}
 use Rattle.vast_rows.specs.declared.grammar.Item.{Item}
 use Rattle.vast_rows.specs.declared.grammar.Item.TheVariants.{Token, Rule, Phrase}
 use Rattle.vast_rows.specs.Internal.Reading.{IsTaken}
-use Rattle.vast_rows.specs.Predictive.{Fact, may_be_empty, lead, is_predictive}
+use Rattle.vast_rows.specs.Facts.{Fact}
+use Rattle.vast_rows.specs.Internal.Predictive.{may_be_empty, lead, is_predictive}
 use Rattle.vast_rows.specs.Rows.{Row}
 use Rattle.vast_rows.proofs.Once.{good, Good}
 

@@ -1,3 +1,4 @@
+pub mod Orders
 pub mod Stacked
 pub mod Sets
 pub mod RowLaws

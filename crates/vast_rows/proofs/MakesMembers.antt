@@ -1,9 +1,9 @@
 -- The rows of members, modules and files make what the typed relations say.
-use Rattle.std.proofs.Common.{◌≡◌, List, [], ◌∷◌, ◌++◌, codes, true, false, Some, refl, append_assoc, append-nil}
+use Rattle.std.proofs.Common.{[], ◌∷◌, codes, Some, refl, append_assoc, append-nil}
 use Rattle.vast_literal.specs.FileGrammar.{is_parameter_word, is_clocked, is_edge, is_direction, no_items, more_items, empty, full, present, edge, plain, input, declared, given, connected, unconnected, no_parameters, with_parameters, with_one, without, no_label, labelled, block_body, casez_body, declaration, continuous, parameter, macro, macro_with, instance, combinational, clocked, conditional, function, loop, closed, and_member, header_parameter, port, no_header_parameters, header_parameters, no_ports, ports, module_item, include_item}
 use Rattle.vast_literal.specs.Grammar.{none, some, last, next}
 use Rattle.vast_literal.specs.NormalFile.{LoopPart}
-use Rattle.vast_literal.specs.Tokens.{Mark, Reserved, MacroWord}
+use Rattle.vast_literal.specs.Tokens.{Mark}
 use Rattle.vast_rows.specs.declared.rule.Rule.TheVariants.{File, FileItem, Parameters, MoreParameters, Parameter, Ports, MorePorts, Port, Direction, ModuleMembers, LoopMembers, Member, AnyMacro, MacroArguments, Expressions, MoreExpressions, LastSemicolon, GivenList, Given, MoreGiven, Connections, Connection, Connected, MoreConnections, Events, OneEvent, MoreEvents, Inputs, Input, MoreInputs, Locals, Local, FunctionBody, LoneBegins, LoneEnds, LoopLabel}
 use Rattle.vast_rows.specs.Numbers.{CloseParen, InputKey, OutputKey, InOutKey, ParameterKey, LocalparamKey, AlwaysFFKey, AlwaysKey, PosedgeKey, NegedgeKey, EndModuleKey, EndKey}
 use Rattle.vast_rows.specs.Phrases.{expression, target, loop_head, path}

@@ -1,5 +1,5 @@
 -- The rows of statements make what the typed relations say.
-use Rattle.std.proofs.Common.{◌≡◌, List, [], ◌∷◌, ◌++◌, true, false, refl, append-nil}
+use Rattle.std.proofs.Common.{true, false, append-nil}
 use Rattle.vast_literal.specs.FileGrammar.{arrow, unique, not_unique, case_word, casez_word, casex_word, simple, assigned, choice, cases, cased, assigns, done, then, only, otherwise, or, no_labels, label, default, body, bare}
 use Rattle.vast_rows.specs.declared.rule.Rule.TheVariants.{Statements, Statement, Assignment, Arrow, Choice, Else, Branch, Unique, CaseKind, CaseArms, BareArms, ArmBody, BareBegins, Bare, BareEnds, Lone, LoneCase}
 use Rattle.vast_rows.specs.Numbers.{CaseKey, CasezKey, CasexKey}

@@ -10,9 +10,10 @@ use Rattle.vast_rows.specs.declared.rule.Rule.{Rule as RuleName}
 use Rattle.vast_rows.specs.declared.rule.Rule.TheVariants.{File}
 use Rattle.vast_rows.specs.declared.kind.Kind.TheVariants.{MacroWord, IncludeWord}
 use Rattle.vast_rows.specs.Kinds.{token_kind, number}
-use Rattle.vast_rows.specs.Numbers.{marks, signs, keys, rules, rule_number, OpenParen, LogicOr, IfKey}
+use Rattle.vast_rows.proofs.Orders.{marks, signs, keys, rules}
+use Rattle.vast_rows.specs.Numbers.{rule_number, OpenParen, LogicOr, IfKey}
 use Rattle.vast_rows.specs.Page.{page}
-use Rattle.vast_rows.specs.Phrases.{Phrasing, Meaning, IsPhrase}
+use Rattle.vast_rows.specs.Phrases.{Meaning, IsPhrase}
 use Rattle.vast_rows.specs.Rows.{Row}
 use Rattle.vast_rows.specs.Tree.{Forest, Spells, no_items, a_token, a_phrase, a_rule}
 use Rattle.vast_rows.proofs.Sets.{some_one}
@@ -73,6 +74,10 @@ MakesOf M (Rule r ∷ (i ∷ s)) K = (ps : List tokens.Token) → M r ps → Mak
 abbrev pub AllMake : (ℕ → List tokens.Token → Type 0) → List Row → Type 0
 AllMake M [] = Unit {0}
 AllMake M (row ∷ rows) = MakesOf M row.items (M row.rule) × AllMake M rows
+
+infixr 4 ◌&◌
+abbrev pub ◌&◌ : {A B : Type 0} → A → B → A × B
+a & b = (a, b)
 
 row_makes : (M : ℕ → List tokens.Token → Type 0) (rows : List Row) (n : ℕ) (row : Row) → AllMake M rows → slice_get rows n ≡ Some row → MakesOf M row.items (M row.rule)
 row_makes M [] n row m e = absurd (cc)

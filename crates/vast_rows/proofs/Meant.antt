@@ -1,6 +1,6 @@
 -- What each rule of the page means, by the typed relations of the grammar. A rule that is there for factoring alone means: with what
 -- stands before it, the whole.
-use Rattle.std.proofs.Common.{◌≡◌, ℕ, List, [], ◌∷◌, ◌++◌, Bool, true, false, Option, Some, None, IsTrue, get_or, refl, sym, subst, append-nil}
+use Rattle.std.proofs.Common.{◌≡◌, ℕ, List, [], ◌∷◌, ◌++◌, Bool, true, false, Option, IsTrue, get_or, sym, subst, append-nil}
 use Rattle.vast_literal.specs.FileGrammar.{arrow, is_kind, is_sign, is_member_kind, is_local_kind, is_direction, IsMany, IsJoined, last_item, next_item, IsList, IsUnique, IsStatement, IsCases, IsAssign, IsStatements, IsChoice, IsLabels, IsBody, IsGroup, IsMaybe, IsTypeName, IsDeclaration, IsEvent, IsInput, IsDeclared, IsGiven, IsConnection, IsGivenList, IsSemicolon, IsLabel, IsFunctionBody, IsMember, IsMembers, IsParameter, IsPort, IsParameters, IsPorts, IsItem}
 use Rattle.vast_literal.specs.Grammar.{Spells, SpellsList, SpellsJoined}
 use Rattle.vast_literal.specs.NormalExpr.{NormalExpr, NormalExprs}
@@ -11,8 +11,6 @@ use Rattle.vast_rows.specs.declared.rule.Rule.TheVariants as rule
 use Rattle.vast_rows.specs.Numbers.{Key, OpenParen, CloseParen, OpenBracket, Comma, Dot, CasezKey, EndKey, EndModuleKey, IfKey, ElseKey, BeginKey, OrKey}
 use Rattle.vast_rows.specs.Page.{page}
 use Rattle.vast_rows.proofs.Means.{MakesOf, row_of, rule_of}
-use Rattle.std.specs.List.{slice_get}
-use Rattle.vast_rows.specs.Rows.{Row}
 
 -- A keyword that passes the test.
 pub data IsKey (test : Key → Bool) : List Token → Type 0 where

@@ -6,9 +6,11 @@ use Rattle.vast_rows.specs.declared.grammar.Item.{Item}
 use Rattle.vast_rows.specs.declared.grammar.Item.TheVariants.{Rule, Phrase}
 use Rattle.vast_rows.specs.declared.grammar.Phrase as code
 use Rattle.vast_rows.specs.Internal.Derives.{Derives, nothing, token, phrase, choice}
-use Rattle.vast_rows.specs.Kinds.{has, within, only, head_kind}
-use Rattle.vast_rows.specs.Phrases.{Phrasing, Meaning, stops, BeginsWell, IsToldApart}
-use Rattle.vast_rows.specs.Predictive.{row_at, starts, begins, Fact, follows, may_be_empty, lead, are_good, are_apart, are_together, is_predictive}
+use Rattle.vast_rows.specs.Kinds.{has, only, head_kind}
+use Rattle.vast_rows.specs.Internal.Sets.{within}
+use Rattle.vast_rows.specs.Phrases.{Phrasing, stops, BeginsWell}
+use Rattle.vast_rows.specs.Internal.Predictive.{row_at, starts, begins, follows, may_be_empty, lead, are_good, are_apart, are_together, is_predictive}
+use Rattle.vast_rows.specs.Facts.{Fact}
 use Rattle.vast_rows.specs.Rows.{Row}
 use Rattle.vast_rows.specs.Tree.{Step}
 use Rattle.vast_rows.proofs.RowLaws.{good_at, first_at, follows_append}

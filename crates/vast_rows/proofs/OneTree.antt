@@ -4,9 +4,11 @@ use Rattle.vast_literal.specs.Tokens as tokens
 use Rattle.vast_rows.specs.declared.grammar.Item.{Item}
 use Rattle.vast_rows.specs.declared.grammar.Item.TheVariants.{Rule}
 use Rattle.vast_rows.specs.Internal.Derives.{Derives, nothing}
-use Rattle.vast_rows.specs.Kinds.{has, within, only}
-use Rattle.vast_rows.specs.Phrases.{Phrasing, Meaning, stops, BeginsWell, IsToldApart}
-use Rattle.vast_rows.specs.Predictive.{begins, Fact, follows, is_predictive}
+use Rattle.vast_rows.specs.Kinds.{has, only}
+use Rattle.vast_rows.specs.Internal.Sets.{within}
+use Rattle.vast_rows.specs.Phrases.{Phrasing, stops, BeginsWell, IsToldApart}
+use Rattle.vast_rows.specs.Internal.Predictive.{begins, follows, is_predictive}
+use Rattle.vast_rows.specs.Facts.{Fact}
 use Rattle.vast_rows.specs.Rows.{Row}
 use Rattle.vast_rows.specs.Tree.{Forest, Spells, no_items, a_token, a_phrase, a_rule, Step, steps}
 use Rattle.vast_rows.proofs.Once.{one_row, good, follows_row, follows_rule, start_follows, stopped}

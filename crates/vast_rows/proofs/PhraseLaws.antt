@@ -1,8 +1,8 @@
 -- The phrases of the grammar: how they begin, and that those that stand at one place are one.
-use Rattle.std.proofs.Common.{◌≡◌, ℕ, suc, ◌≤◌, ◌<◌, List, [], ◌∷◌, ◌++◌, Bool, true, false, cond, codes, IsTrue, refl, sym, ap, ◌∙◌, subst, arith, append_assoc}
+use Rattle.std.proofs.Common.{◌≡◌, ℕ, ◌≤◌, List, [], ◌∷◌, ◌++◌, Bool, true, false, codes, IsTrue, refl, sym, ap, subst, arith, append_assoc}
 use Rattle.std.specs.Str.{bytes_eq}
 use Rattle.std.proofs.lemmas.List.{append_cancel_right}
-use Rattle.vast_literal.specs.Tokens.{level, is_unary, Token, Reserved, Word, Keyword, SystemWord, MacroWord, Number, Based, Quoted, Operator, Mark}
+use Rattle.vast_literal.specs.Tokens.{level, is_unary, Token, Reserved, Word, MacroWord, Number, Operator, Mark}
 use Rattle.vast_literal.specs.NormalExpr.{NormalExpr, Name, Binary}
 use Rattle.vast_literal.specs.Grammar.{is_cast_word, Spells, up, ternary, binary, unary, index, slice, part_select, name, number, based, quoted, paren, call, system_call, concat, replicated, array_pattern, macro_alone, macro_call, number_cast, name_cast, package_cast, paren_cast, word_cast}
 use Rattle.vast_literal.specs.Internal.Parser.{lead, selected_at}
@@ -11,10 +11,10 @@ use Rattle.vast_literal.proofs.Gives.{Gives, now, one_result}
 use Rattle.vast_literal.proofs.Moves.{Quiet, quieter, stop_selects}
 use Rattle.vast_literal.proofs.Sound.{level_small}
 use Rattle.vast_rows.specs.declared.grammar.Phrase.{Phrase}
-use Rattle.vast_rows.specs.declared.grammar.Phrase.TheVariants.{Expression, Target, LoopHead, Path}
+use Rattle.vast_rows.specs.declared.grammar.Phrase.TheVariants.{Expression, Target}
 use Rattle.vast_rows.specs.Kinds.{has, head_kind}
 use Rattle.vast_rows.specs.Laws.{PhrasesAreTold}
-use Rattle.vast_rows.specs.Numbers.{Op, LogicOr, LogicAnd, BitOr, BitXor, BitAnd, NotEqual, CaseNotEqual, Equal, CaseEqual, GreaterEqual, Greater, LessEqual, Less, ShiftLeft, ShiftRightSigned, ShiftRight, Plus, Minus, Times, Divide, Modulo, Power, BitNot, LogicNot, OpenParen, CloseParen, OpenBracket, CloseBracket, OpenBrace, CloseBrace, Comma, Colon, Semicolon, Dot, Hash, At, Question, DoubleColon, PlusColon, Assign, Apostrophe, Key, IfKey, LogicKey, SignedKey, UnsignedKey, IntegerKey, IntKey, GenvarKey}
+use Rattle.vast_rows.specs.Numbers.{Op, LogicOr, BitOr, BitXor, BitAnd, LessEqual, Less, Plus, Minus, BitNot, LogicNot, OpenParen, CloseParen, OpenBracket, Semicolon, Question, DoubleColon, Assign, Apostrophe, Key, IfKey, LogicKey, SignedKey, UnsignedKey, IntegerKey, IntKey}
 use Rattle.vast_rows.specs.Phrases.{IsPhrase, expression, target, loop_head, path, Meaning, IsExpression, IsLoop, IsPath, firsts, stops}
 
 -- How an expression begins: at the upper levels with no sign.

@@ -1,12 +1,14 @@
 -- What the check says of rows.
-use Rattle.std.proofs.Common.{◌≡◌, ℕ, suc, zero, ◌+◌, List, [], ◌∷◌, ◌++◌, Bool, true, false, ◌&&◌, drop, nat_eq, nat_lt, Some, refl, sym, ap, ◌∙◌, ◌⊎◌, inl, inr, arith, if◌then◌else◌}
+use Rattle.std.proofs.Common.{◌≡◌, ℕ, suc, zero, ◌+◌, List, [], ◌∷◌, ◌++◌, Bool, true, false, drop, nat_eq, nat_lt, Some, refl, sym, ap, ◌∙◌, ◌⊎◌, inl, inr, arith, if◌then◌else◌}
 use Rattle.std.specs.List.{slice_get}
 use Rattle.std.proofs.lemmas.Bool.{eqb-true, eq-eqb}
 use Rattle.vast_rows.specs.declared.grammar.Item.{Item}
 use Rattle.vast_rows.specs.declared.grammar.Item.TheVariants.{Token, Rule, Phrase}
-use Rattle.vast_rows.specs.Kinds.{has, within, none_shared}
+use Rattle.vast_rows.specs.Kinds.{has}
+use Rattle.vast_rows.specs.Internal.Sets.{within, none_shared}
 use Rattle.vast_rows.specs.Phrases.{stops}
-use Rattle.vast_rows.specs.Predictive.{row_from, row_at, starts, begins, Fact, follows, is_row_good, are_good, apart_from, are_apart, stand_together, are_together}
+use Rattle.vast_rows.specs.Internal.Predictive.{row_from, row_at, starts, begins, follows, is_row_good, are_good, apart_from, are_apart, stand_together, are_together}
+use Rattle.vast_rows.specs.Facts.{Fact}
 use Rattle.vast_rows.specs.Rows.{Row}
 use Rattle.vast_rows.proofs.Sets.{both, some_one, within_trans, unshared}
 

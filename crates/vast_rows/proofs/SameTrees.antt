@@ -2,7 +2,7 @@
 use Rattle.std.proofs.Common.{◌≡◌, List, [], ◌++◌, refl, sym, ap, ◌∙◌, append_assoc}
 use Rattle.std.specs.List.{slice_get}
 use Rattle.vast_rows.specs.declared.grammar.Item.{Item}
-use Rattle.vast_rows.specs.Phrases.{Phrasing, Meaning}
+use Rattle.vast_rows.specs.Phrases.{Phrasing}
 use Rattle.vast_rows.specs.Rows.{Row}
 use Rattle.vast_literal.specs.Tokens as tokens
 use Rattle.vast_rows.specs.Tree.{Forest, Spells, no_items, a_token, a_phrase, a_rule, Step, steps, leaves}

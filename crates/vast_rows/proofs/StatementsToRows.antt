@@ -1,15 +1,15 @@
 -- What the typed relations say of statements, the page spells.
-use Rattle.std.proofs.Common.{◌≡◌, List, [], ◌∷◌, ◌++◌, Bool, true, false, refl, sym, ap, append_assoc, append-nil}
+use Rattle.std.proofs.Common.{List, [], ◌∷◌, ◌++◌, Bool, true, false, refl, append-nil}
 use Rattle.vast_literal.specs.FileGrammar.{arrow, IsUnique, unique, not_unique, IsCase, case_word, casez_word, casex_word, IsStatement, simple, assigned, choice, cases, IsCases, cased, IsAssign, assigns, IsStatements, done, then, IsChoice, only, otherwise, or, IsLabels, no_labels, label, default, IsBody, body, bare}
 use Rattle.vast_literal.specs.Grammar.{Spells}
 use Rattle.vast_literal.specs.NormalExpr.{NormalExpr}
 use Rattle.vast_literal.specs.NormalFile.{NormalStatement, NormalStatements, Arms, Labels}
 use Rattle.vast_literal.specs.Tokens.{Token, Reserved, Mark}
 use Rattle.vast_rows.specs.declared.rule.Rule.TheVariants.{Statements, Statement, Assignment, Arrow, Choice, Else, Branch, Unique, CaseKind, CaseArms, BareArms, ArmBody, BareBegins, Bare, BareEnds, Lone, LoneCase}
-use Rattle.vast_rows.specs.Numbers.{Key, OpenParen, CloseParen, BeginKey, IfKey, CaseKey, CasezKey, CasexKey}
+use Rattle.vast_rows.specs.Numbers.{Key, OpenParen, CloseParen, BeginKey, IfKey, CasezKey}
 use Rattle.vast_rows.specs.Phrases.{expression, target}
 use Rattle.vast_rows.specs.Symbols.{key, rule}
-use Rattle.vast_rows.proofs.Spelling.{Node, Spelled, stop, tok, phr, phr_last, nod, nod_last, at, along}
+use Rattle.vast_rows.proofs.Spelling.{Node, Spelled, stop, tok, phr, nod, nod_last, at, along}
 
 unique_to : {ts : List Token} {u : Bool} → IsUnique ts u → Node Unique ts
 unique_to not_unique = at Unique 0 refl stop

@@ -1,5 +1,5 @@
 -- The steps of the machine keep what is left to derive.
-use Rattle.std.proofs.Common.{◌≡◌, ℕ, List, [], ◌∷◌, ◌++◌, true, false, nat_lt, Some, None, refl, sym, ap, ◌∙◌, append_assoc, append-nil}
+use Rattle.std.proofs.Common.{◌≡◌, ℕ, List, [], ◌∷◌, ◌++◌, true, nat_lt, Some, None, refl, sym, ap, ◌∙◌, append_assoc, append-nil}
 use Rattle.std.specs.List.{slice_get}
 use Rattle.vast_literal.specs.Tokens as tokens
 use Rattle.vast_rows.specs.declared.grammar.Item.{Item}
@@ -7,9 +7,12 @@ use Rattle.vast_rows.specs.declared.grammar.Item.TheVariants.{Token, Rule, Phras
 use Rattle.vast_rows.specs.declared.grammar.Phrase as code
 use Rattle.vast_rows.specs.Internal.Derives.{Derives, nothing, token, phrase, choice}
 use Rattle.vast_rows.specs.Internal.Reading.{Reading, Underived}
-use Rattle.vast_rows.specs.Kinds.{has, within, only, head_kind, token_kind}
-use Rattle.vast_rows.specs.Phrases.{Phrasing, Meaning, stops, BeginsWell, HasRead, HasNone}
-use Rattle.vast_rows.specs.Predictive.{row_at, begins, Fact, follows, is_predictive}
+use Rattle.vast_rows.specs.Kinds.{has, only, head_kind, token_kind}
+use Rattle.vast_rows.specs.Internal.Sets.{within}
+use Rattle.vast_rows.specs.Phrases.{Phrasing, Meaning, stops, BeginsWell}
+use Rattle.vast_rows.specs.Internal.Sources.{HasRead, HasNone}
+use Rattle.vast_rows.specs.Internal.Predictive.{row_at, begins, follows, is_predictive}
+use Rattle.vast_rows.specs.Facts.{Fact}
 use Rattle.vast_rows.specs.Rows.{Row}
 use Rattle.vast_rows.specs.Tree.{Step, Chose, Read}
 use Rattle.vast_rows.proofs.Once.{taken, good, follows_row, follows_rule, start_follows, stopped}

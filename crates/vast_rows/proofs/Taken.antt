@@ -1,5 +1,5 @@
 -- How the row of a rule is found.
-use Rattle.std.proofs.Common.{◌≡◌, ℕ, suc, zero, ◌+◌, ◌<◌, ◌≤◌, List, [], ◌∷◌, length, get_or, drop, map, Some, None, refl, sym, ap, ◌∙◌, arith, add-one, drop-cons, true, false, nat_eq, if◌then◌else◌}
+use Rattle.std.proofs.Common.{◌≡◌, ℕ, suc, zero, ◌+◌, ◌<◌, ◌≤◌, List, [], ◌∷◌, length, get_or, drop, Some, None, refl, sym, ap, ◌∙◌, arith, add-one, drop-cons, true, nat_eq, if◌then◌else◌}
 use Rattle.std.specs.List.{slice_get}
 use Rattle.std.proofs.lemmas.Bool.{eq-eqb}
 use Rattle.vast_rows.specs.declared.grammar.Fact as facts
@@ -8,7 +8,8 @@ use Rattle.vast_rows.specs.declared.grammar.Item.{Item}
 use Rattle.vast_rows.specs.Facts.{fact_in, facts_view}
 use Rattle.vast_rows.specs.Internal.Reading.{IsTaken}
 use Rattle.vast_rows.specs.Kinds.{has}
-use Rattle.vast_rows.specs.Predictive.{Fact, row_from, row_at}
+use Rattle.vast_rows.specs.Facts.{Fact}
+use Rattle.vast_rows.specs.Internal.Predictive.{row_from, row_at}
 use Rattle.vast_rows.specs.Rows.{Row, row_view, rows_view, span_of}
 
 pub known : (fs : List facts.Fact) (r : ℕ) (f : facts.Fact) → r < length fs → f ≡ get_or fs r f → f.first_row ≡ (fact_in (facts_view fs) r).first_row
@@ -43,23 +44,6 @@ starts_there facts items rows rule kind at e = rw e (ap (λ (v : List Row). row_
     drop_view zero rows = refl
     drop_view (suc n) [] = refl
     drop_view (suc n) (x ∷ rows) = drop_view n rows
-
-pub passes : (facts : ℕ → Fact) (items : List Item) (rows : List code.Row) (rule kind at : ℕ) (d : code.Row) → GoesOn facts items rows rule kind at → at < length rows →
-    (get_or rows at d).rule ≡ rule → has (get_or rows at d).looks kind ≡ false → GoesOn facts items rows rule kind (at + 1)
-passes facts items rows rule kind at d g h r l = sym (row_here items rows at rule kind d h ∙ rw (eq-eqb (get_or rows at d).rule rule r, l) refl) ∙ g
-
-pub is_other : (facts : ℕ → Fact) (items : List Item) (rows : List code.Row) (rule kind at : ℕ) (d : code.Row) → GoesOn facts items rows rule kind at → at < length rows →
-    nat_eq (get_or rows at d).rule rule ≡ false → row_at facts (rows_view items rows) rule kind ≡ None
-is_other facts items rows rule kind at d g h r = sym g ∙ (row_here items rows at rule kind d h ∙ rw r refl)
-
-pub is_past : (facts : ℕ → Fact) (items : List Item) (rows : List code.Row) (rule kind at : ℕ) → GoesOn facts items rows rule kind at → length rows ≤ at → row_at facts (rows_view items rows) rule kind ≡ None
-is_past facts items rows rule kind at g h = sym g ∙ none at rows at h
-  where
-    none : (n : ℕ) (rows : List code.Row) (from : ℕ) → length rows ≤ n → row_from (rows_view items (drop n rows)) rule kind from ≡ None
-    none zero [] from h = refl
-    none (suc n) [] from h = refl
-    none zero (x ∷ rows) from h = absurd (let z : ⊥ = omega arith in z)
-    none (suc n) (x ∷ rows) from h = none n rows from (omega arith)
 
 pub is_taken : (facts : ℕ → Fact) (items : List Item) (rows : List code.Row) (rule kind at : ℕ) (d : code.Row) (its : List Item) → GoesOn facts items rows rule kind at → at < length rows →
     (get_or rows at d).rule ≡ rule → has (get_or rows at d).looks kind ≡ true → its ≡ span_of items (get_or rows at d).items (get_or rows at d).items_end → IsTaken facts (rows_view items rows) rule kind at its (get_or rows at d).told_as

@@ -3,7 +3,7 @@ use Rattle.std.proofs.Common.{◌≡◌, ℕ, List, [], ◌∷◌, ◌++◌, ref
 use Rattle.vast_rows.specs.declared.grammar.Item.{Item}
 use Rattle.vast_rows.specs.declared.grammar.Item.TheVariants.{Token, Rule, Phrase}
 use Rattle.vast_rows.specs.declared.grammar.Phrase as code
-use Rattle.vast_rows.specs.Phrases.{Phrasing, Meaning}
+use Rattle.vast_rows.specs.Phrases.{Phrasing}
 use Rattle.vast_rows.specs.Rows.{Row}
 use Rattle.vast_literal.specs.Tokens as tokens
 use Rattle.vast_rows.specs.Internal.Derives.{Derives, nothing, token, phrase, choice}

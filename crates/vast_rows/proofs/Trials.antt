@@ -1,12 +1,14 @@
 -- The source of the tests does what its contract says.
-use Rattle.std.proofs.Common.{◌≡◌, ◌<◌, ℕ, suc, zero, List, [], ◌∷◌, ◌++◌, length, get_or, drop, map, Bool, true, false, refl, sym, ap, ◌∙◌, arith}
+use Rattle.std.proofs.Common.{◌≡◌, ◌<◌, List, [], ◌∷◌, ◌++◌, length, get_or, drop, map, true, false, refl, sym, ◌∙◌, arith}
 use Rattle.vast_literal.specs.Tokens.{Token}
 use Rattle.vast_rows.specs.declared.grammar.Phrase.{Phrase}
 use Rattle.vast_rows.specs.declared.grammar.Phrase.TheVariants.{Expression, Target, LoopHead, Path}
 use Rattle.vast_rows.specs.declared.kind.Kind.{Kind}
 use Rattle.vast_rows.specs.Internal.Trial.{token_of, IsOne, one_token}
-use Rattle.vast_rows.specs.Kinds.{has, kind_of, kind_of_first, head_kind, tail}
-use Rattle.vast_rows.specs.Phrases.{Meaning, IsPath, firsts, stops, HasRead, HasNone}
+use Rattle.vast_rows.specs.Kinds.{has, kind_of, kind_of_first, head_kind}
+use Rattle.vast_rows.specs.Internal.Sources.{tail}
+use Rattle.vast_rows.specs.Phrases.{Meaning, IsPath, firsts}
+use Rattle.vast_rows.specs.Internal.Sources.{HasRead, HasNone}
 
 pub first_kind : (ks : List Kind) (d : Kind) → 0 < length ks → kind_of (token_of (get_or ks 0 d)) ≡ kind_of_first (map token_of ks)
 first_kind [] d h = absurd (let z : ⊥ = omega arith in z)

@@ -1,7 +1,7 @@
 -- The turns of the machine keep a reading and what was heard of it.
 use Rattle.std.proofs.Common.{◌≡◌, ℕ, suc, zero, ◌<◌, List, [], ◌∷◌, ◌++◌, Bool, true, false, cond, nat_eq, nat_lt, length, Some, None, refl, sym, ap, ◌∙◌, subst, arith, codes, bytes_eq, MatchBool}
 use Rattle.std.specs.List.{slice_get}
-use Rattle.std.proofs.lemmas.Bool.{eqb-true, eq-eqb, ltb-true}
+use Rattle.std.proofs.lemmas.Bool.{ltb-true}
 use Rattle.vast_literal.specs.Tokens as tokens
 use Rattle.vast_rows.specs.declared.grammar.Item.{Item}
 use Rattle.vast_rows.specs.declared.grammar.Item.TheVariants.{Token, Rule, Phrase}
@@ -9,11 +9,14 @@ use Rattle.vast_rows.specs.declared.grammar.Phrase as code
 use Rattle.vast_rows.specs.Internal.Reading.{Reading, Underived, Underway, IsTaken, IsDue, LeadsTo}
 use Rattle.vast_rows.specs.declared.machine.Due.{Due}
 use Rattle.vast_rows.specs.declared.kind.Kind.TheVariants.{MacroWord, IncludeWord}
-use Rattle.vast_rows.specs.Kinds.{has, only, number, head_kind, token_kind, tail}
+use Rattle.vast_rows.specs.Kinds.{has, only, number, head_kind, token_kind}
+use Rattle.vast_rows.specs.Internal.Sources.{tail}
 use Rattle.vast_rows.specs.Numbers.{OpenParen, LogicOr, IfKey}
 use Rattle.vast_rows.specs.Laws.{IsRead, IsSpelled, IsUnspelled}
-use Rattle.vast_rows.specs.Phrases.{Phrasing, Meaning, BeginsWell, HasRead, HasNone}
-use Rattle.vast_rows.specs.Predictive.{row_at, Fact, follows, is_predictive}
+use Rattle.vast_rows.specs.Phrases.{Phrasing, Meaning, BeginsWell}
+use Rattle.vast_rows.specs.Internal.Sources.{HasRead, HasNone}
+use Rattle.vast_rows.specs.Internal.Predictive.{row_at, follows, is_predictive}
+use Rattle.vast_rows.specs.Facts.{Fact}
 use Rattle.vast_rows.specs.Rows.{Row}
 use Rattle.vast_rows.specs.Tree.{Step, Chose, Read, steps, told, told_row}
 use Rattle.vast_rows.proofs.Sets.{both}

@@ -1,7 +1,7 @@
 -- Kinds of tokens, and sets of them as the bits of a number.
 use Rattle.std.specs.Prelude.{ℕ, ◌+◌, ◌^◌, List, [], ◌∷◌, Bool, cond, codes, nat_eq}
 use Rattle.std.specs.Int.{bit_at}
-use Rattle.std.specs.Int.Bits.{bit_and, bit_or}
+use Rattle.std.specs.Int.Bits.{bit_or}
 use Rattle.std.specs.Str.{bytes_eq}
 use Rattle.vast_literal.specs.Tokens.{Token}
 use Rattle.vast_literal.specs.Tokens as tokens
@@ -24,11 +24,6 @@ kind_of (tokens.Reserved k) = Reserved k
 abbrev pub kind_of_first : List Token → Kind
 kind_of_first [] = End
 kind_of_first (t ∷ ts) = kind_of t
-
--- What is behind the first token.
-abbrev pub tail : List Token → List Token
-tail [] = []
-tail (t ∷ ts) = ts
 
 -- The number of a kind.
 abbrev pub number : Kind → ℕ
@@ -55,14 +50,6 @@ head_kind ts = number (kind_of_first ts)
 -- Whether the kind is in the set.
 abbrev pub has : (set kind : ℕ) → Bool
 has set kind = nat_eq (bit_at set kind) 1
-
--- Whether all of the first are in the second.
-abbrev pub within : (first second : ℕ) → Bool
-within first second = nat_eq (bit_and first second) first
-
--- Whether none is in both.
-abbrev pub none_shared : (first second : ℕ) → Bool
-none_shared first second = nat_eq (bit_and first second) 0
 
 -- The set of one kind, and of those listed.
 abbrev pub only : ℕ → ℕ

@@ -5,13 +5,12 @@ use Rattle.vast_literal.specs.NormalFile.{NormalFile}
 use Rattle.vast_literal.specs.Tokens.{Token}
 use Rattle.vast_rows.specs.declared.grammar.Item.{Item}
 use Rattle.vast_rows.specs.declared.grammar.Item.TheVariants.{Rule}
-use Rattle.vast_rows.specs.declared.grammar.Phrase.{Phrase}
 use Rattle.vast_rows.specs.declared.rule.Rule.TheVariants.{File}
 use Rattle.vast_rows.specs.Kinds.{has}
 use Rattle.vast_rows.specs.Numbers.{rule_number}
 use Rattle.vast_rows.specs.Page.{page}
-use Rattle.vast_rows.specs.Phrases.{Phrasing, Meaning, IsPhrase, IsToldApart, BeginsWell}
-use Rattle.vast_rows.specs.Predictive.{Fact}
+use Rattle.vast_rows.specs.Phrases.{Phrasing, IsPhrase, IsToldApart, BeginsWell}
+use Rattle.vast_rows.specs.Facts.{Fact}
 use Rattle.vast_rows.specs.Rows.{Row}
 use Rattle.vast_rows.specs.Tree.{Forest, Spells, Step, steps, told, leaves}
 

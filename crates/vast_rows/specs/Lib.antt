@@ -2,9 +2,9 @@ pub mod Numbers
 pub mod Kinds
 pub mod Rows
 pub mod Symbols
+pub mod Told
 pub mod Page
 pub mod Phrases
-pub mod Predictive
 pub mod Facts
 pub mod Tree
 pub mod Laws

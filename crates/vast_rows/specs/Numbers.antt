@@ -1,5 +1,5 @@
 -- The numbers of the names on the page, and of the variants of signs, marks and keywords. Written by `tools/rows`.
-use Rattle.std.specs.Prelude.{ℕ, List, [], ◌∷◌}
+use Rattle.std.specs.Prelude.{ℕ}
 pub use Rattle.vast_literal.specs.declared.token.Mark.{Mark as Punct}
 pub use Rattle.vast_literal.specs.declared.token.Mark.TheVariants.{OpenParen, CloseParen, OpenBracket, CloseBracket, OpenBrace, CloseBrace, Comma, Colon, Semicolon, Dot, Hash, At, Question, DoubleColon, PlusColon, Assign, Apostrophe}
 pub use Rattle.vast_literal.specs.declared.token.Sign.{Sign as Op}
@@ -28,10 +28,6 @@ mark_number PlusColon = 14
 mark_number Assign = 15
 mark_number Apostrophe = 16
 
--- in their order
-abbrev pub marks : List Punct
-marks = OpenParen ∷ CloseParen ∷ OpenBracket ∷ CloseBracket ∷ OpenBrace ∷ CloseBrace ∷ Comma ∷ Colon ∷ Semicolon ∷ Dot ∷ Hash ∷ At ∷ Question ∷ DoubleColon ∷ PlusColon ∷ Assign ∷ Apostrophe ∷ []
-
 abbrev pub sign_number : Op → ℕ
 sign_number LogicOr = 0
 sign_number LogicAnd = 1
@@ -57,10 +53,6 @@ sign_number Modulo = 20
 sign_number Power = 21
 sign_number BitNot = 22
 sign_number LogicNot = 23
-
--- in their order
-abbrev pub signs : List Op
-signs = LogicOr ∷ LogicAnd ∷ BitOr ∷ BitXor ∷ BitAnd ∷ NotEqual ∷ CaseNotEqual ∷ Equal ∷ CaseEqual ∷ GreaterEqual ∷ Greater ∷ LessEqual ∷ Less ∷ ShiftLeft ∷ ShiftRightSigned ∷ ShiftRight ∷ Plus ∷ Minus ∷ Times ∷ Divide ∷ Modulo ∷ Power ∷ BitNot ∷ LogicNot ∷ []
 
 abbrev pub key_number : Key → ℕ
 key_number IfKey = 0
@@ -99,10 +91,6 @@ key_number InputKey = 32
 key_number OutputKey = 33
 key_number InOutKey = 34
 key_number ForKey = 35
-
--- in their order
-abbrev pub keys : List Key
-keys = IfKey ∷ ElseKey ∷ CaseKey ∷ CasezKey ∷ CasexKey ∷ EndCaseKey ∷ DefaultKey ∷ UniqueKey ∷ BeginKey ∷ EndKey ∷ AssignKey ∷ WireKey ∷ RegKey ∷ LogicKey ∷ IntegerKey ∷ IntKey ∷ GenvarKey ∷ SignedKey ∷ UnsignedKey ∷ ModuleKey ∷ EndModuleKey ∷ ParameterKey ∷ LocalparamKey ∷ AlwaysCombKey ∷ AlwaysFFKey ∷ AlwaysKey ∷ PosedgeKey ∷ NegedgeKey ∷ OrKey ∷ FunctionKey ∷ AutomaticKey ∷ EndFunctionKey ∷ InputKey ∷ OutputKey ∷ InOutKey ∷ ForKey ∷ []
 
 abbrev pub rule_number : Rule → ℕ
 rule_number File = 0
@@ -170,7 +158,3 @@ rule_number ArmBody = 61
 rule_number BareBegins = 62
 rule_number Bare = 63
 rule_number BareEnds = 64
-
--- in their order
-abbrev pub rules : List Rule
-rules = File ∷ FileItem ∷ Parameters ∷ MoreParameters ∷ Parameter ∷ Ports ∷ MorePorts ∷ Port ∷ Direction ∷ ModuleMembers ∷ LoopMembers ∷ Declaration ∷ KindWord ∷ Declarator ∷ SignWord ∷ AfterWord ∷ SignedName ∷ AfterGroups ∷ Groups ∷ BracketGroup ∷ GroupEnd ∷ Member ∷ NetKind ∷ AnyMacro ∷ MacroArguments ∷ Expressions ∷ MoreExpressions ∷ LastSemicolon ∷ GivenList ∷ Given ∷ MoreGiven ∷ Connections ∷ Connection ∷ Connected ∷ MoreConnections ∷ Events ∷ OneEvent ∷ MoreEvents ∷ Inputs ∷ Input ∷ MoreInputs ∷ Locals ∷ Local ∷ LocalKind ∷ FunctionBody ∷ LoneBegins ∷ Lone ∷ LoneCase ∷ LoneEnds ∷ LoopLabel ∷ Statements ∷ Statement ∷ Assignment ∷ Arrow ∷ Choice ∷ Else ∷ Branch ∷ Unique ∷ CaseKind ∷ CaseArms ∷ BareArms ∷ ArmBody ∷ BareBegins ∷ Bare ∷ BareEnds ∷ []

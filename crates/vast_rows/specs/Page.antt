@@ -1,7 +1,7 @@
 -- The grammar of files above expressions, row by row: the machine's table, and what `FileGrammar` says of typed trees (`laws`).
 -- `tools/rows` reads this page and writes the flat table of it, with what the check of the table wants to know.
-use Rattle.std.specs.Prelude.{ℕ, List, [], ◌∷◌, ◌++◌}
-use Rattle.vast_rows.specs.Numbers.{Less, LessEqual, Plus, Key, IfKey, ElseKey, CaseKey, CasezKey, CasexKey, EndCaseKey, DefaultKey, UniqueKey, BeginKey, EndKey, AssignKey, WireKey, RegKey, LogicKey, IntegerKey, IntKey, GenvarKey, SignedKey, UnsignedKey, ModuleKey, EndModuleKey, ParameterKey, LocalparamKey, AlwaysCombKey, AlwaysFFKey, AlwaysKey, PosedgeKey, NegedgeKey, OrKey, FunctionKey, AutomaticKey, EndFunctionKey, InputKey, OutputKey, InOutKey, ForKey}
+use Rattle.std.specs.Prelude.{List, [], ◌∷◌}
+use Rattle.vast_rows.specs.Numbers.{LessEqual, IfKey, ElseKey, CaseKey, CasezKey, CasexKey, EndCaseKey, DefaultKey, UniqueKey, BeginKey, EndKey, AssignKey, WireKey, RegKey, LogicKey, IntegerKey, IntKey, GenvarKey, SignedKey, UnsignedKey, ModuleKey, EndModuleKey, ParameterKey, LocalparamKey, AlwaysCombKey, AlwaysFFKey, AlwaysKey, PosedgeKey, NegedgeKey, OrKey, FunctionKey, AutomaticKey, EndFunctionKey, InputKey, OutputKey, InOutKey, ForKey}
 use Rattle.vast_rows.specs.Numbers.{OpenParen, CloseParen, OpenBracket, CloseBracket, Comma, Colon, Semicolon, Dot, Hash, At, DoubleColon, Assign}
 use Rattle.vast_rows.specs.declared.grammar.Item.{Item}
 use Rattle.vast_rows.specs.declared.grammar.Item.TheVariants.{Phrase}

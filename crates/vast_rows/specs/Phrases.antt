@@ -1,6 +1,6 @@
 -- Phrases: what rows take from a reader of its own.
-use Rattle.std.specs.Prelude.{◌≡◌, ◌<◌, ℕ, List, [], ◌∷◌, ◌++◌, length, codes, true}
-use Rattle.vast_rows.specs.Numbers.{Less, LessEqual, Plus, Minus, BitNot, LogicNot, BitAnd, BitOr, BitXor, LogicKey, SignedKey, UnsignedKey, IntegerKey, IntKey, GenvarKey, BeginKey, OrKey}
+use Rattle.std.specs.Prelude.{◌≡◌, ℕ, List, [], ◌∷◌, ◌++◌, codes, true}
+use Rattle.vast_rows.specs.Numbers.{Less, LessEqual, Plus, Minus, BitNot, LogicNot, BitAnd, BitOr, BitXor, LogicKey, SignedKey, UnsignedKey, IntegerKey, IntKey, GenvarKey, OrKey}
 use Rattle.vast_rows.specs.Numbers.{OpenParen, CloseParen, OpenBrace, CloseBracket, Comma, Colon, Semicolon, Apostrophe, Assign}
 use Rattle.vast_literal.specs.Tokens.{Token, Reserved, Word, Number, Quoted, Operator, Mark}
 use Rattle.vast_literal.specs.NormalExpr.{NormalExpr, Name, Binary}
@@ -83,15 +83,3 @@ abbrev pub IsToldApart : Phrasing → Type 0
 IsToldApart is = (phrase : Phrase) (ts us behind_ts behind_us : List Token) (m n : Meaning) → is phrase ts m → is phrase us n →
     ts ++ behind_ts ≡ us ++ behind_us → has (stops phrase) (head_kind behind_ts) ≡ true → has (stops phrase) (head_kind behind_us) ≡ true →
     (m ≡ n) × (behind_ts ≡ behind_us)
-
--- A phrase that was read: it stands there, and any that stands there before a kind that may follow it is this one.
-pub record HasRead (is : Phrasing) (phrase : Phrase) (before : List Token) (m : Meaning) (behind : List Token) : Type 0 where
-  pub front : List Token
-  pub reads : is phrase front m
-  pub split : before ≡ front ++ behind
-  pub fewer : length behind < length before
-  pub same : (ts rest : List Token) (n : Meaning) → is phrase ts n → before ≡ ts ++ rest → has (stops phrase) (head_kind rest) ≡ true → (n ≡ m) × (rest ≡ behind)
-
--- None stands there before a kind that may follow it.
-abbrev pub HasNone : Phrasing → Phrase → List Token → Type 0
-HasNone is phrase before = (ts rest : List Token) (m : Meaning) → is phrase ts m → before ≡ ts ++ rest → has (stops phrase) (head_kind rest) ≡ true → ⊥

@@ -1,5 +1,5 @@
 -- What stands on a page of rows: tokens, rules and phrases by their names.
-use Rattle.std.specs.Prelude.{ℕ, List}
+use Rattle.std.specs.Prelude.{List}
 use Rattle.vast_rows.specs.Numbers.{Op, Punct, Key}
 use Rattle.vast_rows.specs.Kinds.{number}
 use Rattle.vast_rows.specs.Numbers.{rule_number}

@@ -2,7 +2,7 @@
 
 ghost use Rattle.std.specs.Prelude.{IsTrue};
 ghost use Rattle.vast_rows.specs.Facts.{fact_in, facts_view};
-ghost use Rattle.vast_rows.specs.Predictive.{is_predictive};
+ghost use Rattle.vast_rows.specs.Internal.Predictive.{is_predictive};
 ghost use Rattle.vast_rows.specs.Rows.{rows_view};
 
 /// A part of a text that has a reader of its own.

@@ -7,7 +7,7 @@ ghost use Rattle.vast_rows.specs.Kinds.{has};
 ghost use Rattle.vast_rows.specs.Laws.{IsRead, IsSpelled, IsUnspelled};
 ghost use Rattle.vast_rows.specs.Numbers.{rule_number};
 ghost use Rattle.vast_rows.specs.Page.{page};
-ghost use Rattle.vast_rows.specs.Predictive.{row_at};
+ghost use Rattle.vast_rows.specs.Internal.Predictive.{row_at};
 ghost use Rattle.vast_rows.specs.Rows.{rows_view, span_of};
 ghost use Rattle.vast_rows.specs.declared.rule.Rule.TheVariants.{File};
 

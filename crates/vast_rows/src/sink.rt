@@ -1,6 +1,6 @@
 //! To whom the machine tells what it reads.
 
-ghost use Rattle.std.specs.Prelude.{◌≡◌, List, [], ◌∷◌, ◌++◌, IfOk, ⊤};
+ghost use Rattle.std.specs.Prelude.{List, [], ◌∷◌, ◌++◌, IfOk, ⊤};
 ghost use Rattle.vast_rows.specs.Tree.{Step, Chose, Read};
 
 use crate::source::Source;

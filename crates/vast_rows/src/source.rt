@@ -2,8 +2,10 @@
 
 ghost use Rattle.std.specs.Prelude.{◌≡◌, List, IfOk, MatchOption};
 ghost use Rattle.vast_literal.specs.Tokens.{Token};
-ghost use Rattle.vast_rows.specs.Kinds.{kind_of_first, tail};
-ghost use Rattle.vast_rows.specs.Phrases.{Meaning, BeginsWell, IsToldApart, HasRead, HasNone};
+ghost use Rattle.vast_rows.specs.Kinds.{kind_of_first};
+ghost use Rattle.vast_rows.specs.Internal.Sources.{tail};
+ghost use Rattle.vast_rows.specs.Phrases.{Meaning, BeginsWell, IsToldApart};
+ghost use Rattle.vast_rows.specs.Internal.Sources.{HasRead, HasNone};
 ghost use Rattle.vast_rows.specs.declared.grammar.Phrase.{Phrase as Part};
 
 use crate::grammar::Phrase;

@@ -6,8 +6,9 @@ ghost use Rattle.std.specs.Prelude.{◌≡◌, true};
 ghost use Rattle.vast_rows.specs.Facts.{fact_in, facts_view};
 ghost use Rattle.vast_rows.specs.Kinds.{has};
 ghost use Rattle.vast_rows.specs.Numbers.{rule_number};
-ghost use Rattle.vast_rows.specs.Page.{page};
+ghost use Rattle.vast_rows.specs.Page.{page, told_as};
 ghost use Rattle.vast_rows.specs.Rows.{bare, rows_view};
+ghost use Rattle.vast_rows.specs.Told.{tells, told_numbers};
 ghost use Rattle.vast_rows.specs.declared.rule.Rule.TheVariants.{File};
 
 use crate::grammar::Item::{self, Phrase as Part, Rule, Token};
@@ -264,6 +265,7 @@ static FACTS: [Fact; 65] = [
 /// The grammar of files.
 pub fn files() -> Table
     ensures page { bare (rows_view result.items.now result.rows.now) ≡ page }
+    ensures told { tells (rows_view result.items.now result.rows.now) ≡ told_numbers page told_as }
     ensures file_stands_last { has (fact_in (facts_view result.facts.now) (rule_number File)).follow 0 ≡ true }
 {
     Table {

@@ -9,8 +9,9 @@ use Rattle.vast_rows.specs.declared.machine.Due.{Due}
 use Rattle.vast_rows.specs.declared.machine.Due.TheVariants as due
 use Rattle.vast_rows.specs.Internal.Derives.{Derives}
 use Rattle.vast_rows.specs.Kinds.{only}
-use Rattle.vast_rows.specs.Phrases.{Phrasing, Meaning}
-use Rattle.vast_rows.specs.Predictive.{Fact, follows, row_at}
+use Rattle.vast_rows.specs.Phrases.{Phrasing}
+use Rattle.vast_rows.specs.Facts.{Fact}
+use Rattle.vast_rows.specs.Internal.Predictive.{follows, row_at}
 use Rattle.vast_rows.specs.Rows.{Row}
 use Rattle.vast_rows.specs.Tree.{Step, told}
 

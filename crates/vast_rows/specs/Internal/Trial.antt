@@ -1,11 +1,11 @@
 -- A source for tests: tokens by their kinds, and phrases of one token.
-use Rattle.std.specs.Prelude.{◌≡◌, List, [], ◌∷◌, ◌++◌, codes, true, refl}
+use Rattle.std.specs.Prelude.{◌≡◌, List, [], ◌∷◌, codes, true, refl}
 use Rattle.vast_literal.specs.Tokens as tokens
 use Rattle.vast_rows.specs.declared.grammar.Phrase.{Phrase}
 use Rattle.vast_rows.specs.declared.kind.Kind.{Kind}
 use Rattle.vast_rows.specs.declared.kind.Kind.TheVariants.{End, Word, Keyword, SystemWord, MacroWord, IncludeWord, Number, Based, Quoted, Mark, Operator, Reserved}
 use Rattle.vast_rows.specs.Kinds.{has, token_kind}
-use Rattle.vast_rows.specs.Phrases.{Phrasing, Meaning, IsPath, firsts, BeginsWell, IsToldApart}
+use Rattle.vast_rows.specs.Phrases.{Meaning, IsPath, firsts, BeginsWell, IsToldApart}
 
 -- A token of the kind. There is none of the end: a name stands for it.
 abbrev pub token_of : Kind → tokens.Token

@@ -1,5 +1,5 @@
 use Rattle.vast_rows.specs.Facts.{fact_in, facts_view}
-use Rattle.vast_rows.specs.Predictive.{lead}
+use Rattle.vast_rows.specs.Internal.Predictive.{lead}
 use Rattle.vast_rows.specs.Rows.{rows_view}
 use Rattle.vast_rows.proofs.Turns.{Onward}
 use Rattle.vast_rows.proofs.machine.open.Given as goal

@@ -3,7 +3,7 @@ use Rattle.vast_rows.specs.declared.machine.Due.TheVariants as due
 use Rattle.vast_rows.specs.Facts.{fact_in, facts_view}
 use Rattle.vast_rows.specs.Kinds.{number}
 use Rattle.vast_rows.specs.Numbers.{rule_number}
-use Rattle.vast_rows.specs.Phrases.{HasNone, HasRead}
+use Rattle.vast_rows.specs.Internal.Sources.{HasNone, HasRead}
 use Rattle.vast_rows.specs.Rows.{rows_view}
 use Rattle.vast_rows.proofs.Turns.{led, begins_so, refuses_all, refuses_token, eats, eats_one, refuses_phrase, reads, ends}
 use Rattle.vast_rows.proofs.machine.read.Goals as goal

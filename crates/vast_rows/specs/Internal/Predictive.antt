@@ -2,18 +2,11 @@
 use Rattle.std.specs.Prelude.{ℕ, suc, ◌+◌, List, [], ◌∷◌, Bool, true, false, ◌&&◌, nat_eq, nat_lt, drop, Option, Some, None, if◌then◌else◌}
 use Rattle.vast_rows.specs.declared.grammar.Item.{Item}
 use Rattle.vast_rows.specs.declared.grammar.Item.TheVariants.{Token, Rule, Phrase}
+use Rattle.vast_rows.specs.Facts.{Fact}
 use Rattle.vast_rows.specs.Rows.{Row}
-use Rattle.vast_rows.specs.Kinds.{has, within, none_shared, only}
+use Rattle.vast_rows.specs.Internal.Sets.{within, none_shared}
+use Rattle.vast_rows.specs.Kinds.{has, only}
 use Rattle.vast_rows.specs.Phrases.{firsts, stops}
-
--- What the author of rows knows of a rule: what begins it, or what follows it if it is empty; what may follow it; whether it may
--- be empty; a rank above that of the rules that begin it; and its first row.
-pub record Fact : Type 0 where
-  pub begins : ℕ
-  pub follow : ℕ
-  pub empty : Bool
-  pub rank : ℕ
-  pub first_row : ℕ
 
 -- The number of the row of the rule that is taken at the kind, among rows that stand side by side, counted from a number on.
 abbrev pub row_from : List Row → (rule kind from : ℕ) → Option ℕ
