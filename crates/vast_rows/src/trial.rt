@@ -1,6 +1,6 @@
 //! Lists of kinds that are read.
 
-ghost use Rattle.std.specs.Prelude.{◌≡◌, map};
+ghost use Rattle.std.specs.Prelude.{◌≡◌, [], map};
 ghost use Rattle.vast_rows.specs.Internal.Trial.{IsOne, one_apart, one_begins, token_of};
 ghost use Rattle.vast_rows.specs.Kinds.{kind_of};
 ghost use Rattle.vast_rows.specs.Phrases.{IsPath, firsts};
@@ -13,6 +13,7 @@ use std::alloc::{AllocError, Global};
 use vast_literal::{Key, Mark, Sign};
 
 /// Tokens by their kinds.
+#[derive(Drop)]
 struct Kinds<'a> {
     rest: &'a [Kind],
 }
@@ -101,7 +102,8 @@ fn repeated(kinds: &mut Vec<Kind>, count: u32, some: &[Kind]) -> Result<(), Allo
 
 /// Whether the kinds are those of a file.
 fn reads(alloc: Global, kinds: &[Kind]) -> Result<bool, AllocError> {
-    is_file(alloc, &mut Kinds { rest: kinds })
+    let mut source = Kinds { rest: kinds };
+    is_file(alloc, &mut source)
 }
 
 /// Whether a module with a conditional in which so many others stand is a file, where so many are closed.
