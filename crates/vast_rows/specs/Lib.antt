@@ -6,6 +6,7 @@ pub mod Told
 pub mod Page
 pub mod Phrases
 pub mod Facts
+pub mod Tables
 pub mod Tree
 pub mod Laws
 pub mod Internal

@@ -26,7 +26,8 @@ pub(crate) enum Item {
     Phrase(Phrase),
 }
 
-/// One way to spell a rule: its items, the kinds of token at which it is taken, and the row as which it is told.
+/// One way to spell a rule: its items, the kinds of token at which it is taken, and the row as
+/// which it is told.
 #[derive(Clone, Copy)]
 pub(crate) struct Row {
     pub(crate) rule: u8,
@@ -36,8 +37,9 @@ pub(crate) struct Row {
     pub(crate) items_end: usize,
 }
 
-/// What is known of a rule: what begins it, or what follows it if it is empty; what may follow it; whether it may be empty; a
-/// rank above that of the rules that begin it; and its first row, behind which the others stand.
+/// What is known of a rule: what begins it, or what follows it if it is empty; what may follow it;
+/// whether it may be empty; a rank above that of the rules that begin it; and its first row, behind
+/// which the others stand.
 #[derive(Clone, Copy)]
 pub(crate) struct Fact {
     pub(crate) begins: u128,
@@ -53,5 +55,6 @@ pub struct Table {
     pub(crate) items: &'static [Item],
     pub(crate) rows: &'static [Row],
     pub(crate) facts: &'static [Fact],
-    ghost checked: { IsTrue (is_predictive (fact_in (facts_view facts.now)) (rows_view items.now rows.now)) },
+    ghost checked: { IsTrue (is_predictive (fact_in (facts_view facts.now))
+        (rows_view items.now rows.now)) },
 }

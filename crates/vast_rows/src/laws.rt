@@ -1,8 +1,7 @@
-//! Laws of the table, of its trees, and of what they have to do with the grammar. The functions compute nothing.
+//! Laws of tables, of their trees, and of the page and the grammar. The functions compute nothing.
 
-ghost use Rattle.vast_rows.specs.Facts.{fact_in, facts_view};
 ghost use Rattle.vast_rows.specs.Laws.{HasOneTree, PhrasesAreTold, RowsAreTheGrammar, TellsTrees};
-ghost use Rattle.vast_rows.specs.Rows.{rows_view};
+ghost use Rattle.vast_rows.specs.Tables.{facts_of, rows_of};
 
 use crate::grammar::Table;
 use crate::source::Source;
@@ -19,8 +18,8 @@ pub fn rows_are_the_grammar()
 
 /// Tokens have at most one tree, and two trees are the same where their steps and their tokens are.
 pub fn trees_are_told<S: Source>(table: &Table)
-    ensures one_tree { HasOneTree S.is_phrase (fact_in (facts_view table.now.facts.now)) (rows_view table.now.items.now table.now.rows.now) }
-    ensures told_by_steps { TellsTrees S.is_phrase (rows_view table.now.items.now table.now.rows.now) }
+    ensures one_tree { HasOneTree S.is_phrase (facts_of table.now) (rows_of table.now) }
+    ensures told_by_steps { TellsTrees S.is_phrase (rows_of table.now) }
 {
     let _table = *table;
 }

@@ -1,7 +1,8 @@
-//! The grammar of files above expressions as rows of a table, and one machine that reads what such a table spells.
+//! The grammar of files above expressions as rows of a table, and one machine that reads what
+//! such a table spells.
 //!
-//! The rows stand on a page (`specs/Page.antt`), and [`files`] has them as the machine wants them. That the page spells exactly
-//! what the grammar of `vast_literal` does is a law ([`laws`]).
+//! The rows stand on a page (`specs/Page.antt`), and [`files`] has them as the machine wants them.
+//! That the page spells exactly what the grammar of `vast_literal` does is a law ([`laws`]).
 #![tactic(auto)]
 
 mod grammar;

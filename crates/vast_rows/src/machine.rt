@@ -1,14 +1,15 @@
 //! The machine: a stack of items that are still to be read. It neither recurs nor makes a tree.
 
-ghost use Rattle.std.specs.Prelude.{◌≡◌, ◌<◌, ◌++◌, true, None, IfOk, MatchBool, MatchOption, OnOk};
-ghost use Rattle.vast_rows.specs.Facts.{fact_in, facts_view};
+ghost use Rattle.std.specs.Prelude.{◌≡◌, ◌<◌, ◌++◌, true, None};
+ghost use Rattle.std.specs.Prelude.{IfOk, MatchBool, MatchOption, OnOk};
 ghost use Rattle.vast_rows.specs.Internal.Reading.{IsTaken, LeadsTo};
 ghost use Rattle.vast_rows.specs.Kinds.{has};
 ghost use Rattle.vast_rows.specs.Laws.{IsRead, IsSpelled, IsUnspelled};
 ghost use Rattle.vast_rows.specs.Numbers.{rule_number};
 ghost use Rattle.vast_rows.specs.Page.{page};
 ghost use Rattle.vast_rows.specs.Internal.Predictive.{row_at};
-ghost use Rattle.vast_rows.specs.Rows.{rows_view, span_of};
+ghost use Rattle.vast_rows.specs.Rows.{span_of};
+ghost use Rattle.vast_rows.specs.Tables.{facts_of, rows_of};
 ghost use Rattle.vast_rows.specs.declared.rule.Rule.TheVariants.{File};
 
 use crate::grammar::{Item, Phrase, Table};
@@ -54,7 +55,7 @@ pub(crate) struct Choice {
 
 /// The first row of a rule.
 fn first_row(table: &Table, rule: u8) -> usize
-    ensures { result ≡ (fact_in (facts_view table.now.facts.now) rule).first_row }
+    ensures { result ≡ (facts_of table.now rule).first_row }
 {
     match table.facts.get(rule as usize) {
         Some(fact) => fact.first_row as usize,
@@ -67,8 +68,9 @@ fn first_row(table: &Table, rule: u8) -> usize
 pub(crate) fn taken(table: &Table, rule: u8, kind: u8) -> Option<Choice>
     requires { kind < 128 }
     ensures { MatchOption result
-        (row_at (fact_in (facts_view table.now.facts.now)) (rows_view table.now.items.now table.now.rows.now) rule kind ≡ None)
-        (λ t. IsTaken (fact_in (facts_view table.now.facts.now)) (rows_view table.now.items.now table.now.rows.now) rule kind t.number t.items.now t.told_as) }
+        (row_at (facts_of table.now) (rows_of table.now) rule kind ≡ None)
+        (λ t. IsTaken (facts_of table.now) (rows_of table.now) rule kind
+        t.number t.items.now t.told_as) }
 {
     let mut at = first_row(table, rule);
     'rows: while at < table.rows.len() {
@@ -120,7 +122,8 @@ pub(crate) fn open<S: Source, K: Sink<S>>(
     stack: &mut Stack<Item>,
     sink: &mut K,
 ) -> Result<Due, AllocError>
-    ensures { IfOk result (LeadsTo S.is_phrase K.after (rows_view table.now.items.now table.now.rows.now) (fact_in (facts_view table.now.facts.now)) (S.left source.now) stack.old sink.old stack.new sink.new) }
+    ensures { IfOk result (LeadsTo S.is_phrase K.after (rows_of table.now) (facts_of table.now)
+        (S.left source.now) stack.old sink.old stack.new sink.new) }
 {
     let kind = source.kind().number();
     'rules: loop {
@@ -141,7 +144,8 @@ pub(crate) fn open<S: Source, K: Sink<S>>(
 
 /// Whether the rule spells the tokens of the source; a sink hears the steps of their tree.
 ///
-/// Where it spells them, none are left. Else the source stays at the first token with which it does not go on.
+/// Where it does not spell them, the source stays before the token that no row takes, and before a
+/// phrase that was not read.
 ///
 /// # Errors
 /// Out of memory.
@@ -152,10 +156,12 @@ pub fn read<S: Source, K: Sink<S>>(
     source: &mut S,
     sink: &mut K,
 ) -> Result<bool, AllocError>
-    requires { has (fact_in (facts_view table.now.facts.now) (rule_number start)).follow 0 ≡ true }
+    requires { has (facts_of table.now (rule_number start)).follow 0 ≡ true }
     ensures { IfOk result (λ spelled. MatchBool spelled
-        (IsRead S.is_phrase K.after (rows_view table.now.items.now table.now.rows.now) (rule_number start) (S.left source.old) sink.old sink.new)
-        (IsUnspelled S.is_phrase (rows_view table.now.items.now table.now.rows.now) (rule_number start) (S.left source.old))) }
+        (IsRead S.is_phrase K.after (rows_of table.now) (rule_number start)
+        (S.left source.old) sink.old sink.new)
+        (IsUnspelled S.is_phrase (rows_of table.now) (rule_number start)
+        (S.left source.old))) }
 {
     let mut stack = Stack::new(alloc);
     stack.push(Item::Rule(start.number()))?;
@@ -200,10 +206,11 @@ pub fn is_spelled<S: Source>(
     start: Rule,
     source: &mut S,
 ) -> Result<bool, AllocError>
-    requires { has (fact_in (facts_view table.now.facts.now) (rule_number start)).follow 0 ≡ true }
+    requires { has (facts_of table.now (rule_number start)).follow 0 ≡ true }
     ensures { IfOk result (λ spelled. MatchBool spelled
-        (IsSpelled S.is_phrase (rows_view table.now.items.now table.now.rows.now) (rule_number start) (S.left source.old))
-        (IsUnspelled S.is_phrase (rows_view table.now.items.now table.now.rows.now) (rule_number start) (S.left source.old))) }
+        (IsSpelled S.is_phrase (rows_of table.now) (rule_number start) (S.left source.old))
+        (IsUnspelled S.is_phrase (rows_of table.now) (rule_number start)
+        (S.left source.old))) }
 {
     read(alloc, table, start, source, &mut Nothing)
 }

@@ -22,7 +22,8 @@ pub trait Sink<S: Source> {
 
     ghost nothing: { (s : Self) → after s [] s };
 
-    ghost joined: { (s t u : Self) (first second : List Step) → after s first t → after t second u → after s (first ++ second) u };
+    ghost joined: { (s t u : Self) (first second : List Step) →
+        after s first t → after t second u → after s (first ++ second) u };
 }
 
 /// Nobody.

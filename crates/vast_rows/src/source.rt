@@ -14,8 +14,8 @@ use std::alloc::AllocError;
 
 /// Tokens that are left to read, and a reader of phrases.
 ///
-/// `left` is the list of those tokens, `is_phrase` says which of them are a phrase and what it means, and `sees` what was made of
-/// one.
+/// `left` is the list of those tokens, `is_phrase` says which of them are a phrase and what it
+/// means, and `sees` what was made of one.
 pub trait Source {
     /// What is made of a phrase.
     type Made: Drop;
@@ -34,7 +34,7 @@ pub trait Source {
     fn skip(&mut self)
         ensures { left self.new ≡ tail (left self.old) };
 
-    /// Reads a phrase. Where no phrase stands before a token that may follow one, it may read one or none.
+    /// Reads a phrase. Where none stands before a token that may follow, it may read one or none.
     ///
     /// # Errors
     /// Out of memory.

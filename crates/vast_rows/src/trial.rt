@@ -106,7 +106,7 @@ fn reads(alloc: Global, kinds: &[Kind]) -> Result<bool, AllocError> {
     is_file(alloc, &mut source)
 }
 
-/// Whether a module with a conditional in which so many others stand is a file, where so many are closed.
+/// Whether a module with so many conditionals, one in the other, is a file, where so many end.
 fn nested(alloc: Global, opened: u32, closed: u32) -> Result<bool, AllocError> {
     let mut kinds = Vec::new(alloc);
     let head = [
