@@ -144,8 +144,8 @@ pub(crate) fn open<S: Source, K: Sink<S>>(
 
 /// Whether the rule spells the tokens of the source; a sink hears the steps of their tree.
 ///
-/// Where it does not spell them, the source stays before the token that no row takes, and before a
-/// phrase that was not read.
+/// Where it does not spell them, the sink heard of a front of them, and no clause says how far the
+/// source was read.
 ///
 /// # Errors
 /// Out of memory.
