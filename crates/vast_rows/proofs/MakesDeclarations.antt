@@ -1,0 +1,127 @@
+-- The rows of declarations make what the typed relations say.
+use Rattle.std.proofs.Common.{[], ◌∷◌, Some, None, IsTrue, refl, append_assoc, append-nil}
+use Rattle.vast_literal.specs.FileGrammar.{is_kind, is_sign, is_member_kind, is_local_kind, no_items, more_items, one, range, absent, present, no_type, own_type, packaged, declares}
+use Rattle.vast_literal.specs.Tokens.{Word, Mark}
+use Rattle.vast_rows.specs.declared.rule.Rule.TheVariants.{Declaration, KindWord, Declarator, SignWord, AfterWord, SignedName, AfterGroups, Groups, BracketGroup, GroupEnd, NetKind, LocalKind}
+use Rattle.vast_rows.specs.Numbers.{Key, WireKey, RegKey, LogicKey, IntegerKey, IntKey, GenvarKey, SignedKey, UnsignedKey, IfKey, DoubleColon}
+use Rattle.vast_rows.specs.Phrases.{expression}
+use Rattle.vast_rows.proofs.Meant.{Makes, is_key}
+
+pub declaration0 : Makes Declaration 0
+declaration0 ds d = let r = d [] None absent in (r.0, r.1)
+
+pub declaration1 : Makes Declaration 1
+declaration1 ks (is_key k h) ds d = let r = d ks (Some k) (present k h) in (r.0, r.1)
+
+pub kind0 : Makes KindWord 0
+unfolding is_kind
+kind0 = is_key WireKey refl
+
+pub kind1 : Makes KindWord 1
+unfolding is_kind
+kind1 = is_key RegKey refl
+
+pub kind2 : Makes KindWord 2
+unfolding is_kind
+kind2 = is_key LogicKey refl
+
+pub kind3 : Makes KindWord 3
+unfolding is_kind
+kind3 = is_key IntegerKey refl
+
+pub kind4 : Makes KindWord 4
+unfolding is_kind
+kind4 = is_key IntKey refl
+
+pub kind5 : Makes KindWord 5
+unfolding is_kind
+kind5 = is_key GenvarKey refl
+
+pub net0 : Makes NetKind 0
+unfolding is_member_kind
+net0 = is_key WireKey refl
+
+pub net1 : Makes NetKind 1
+unfolding is_member_kind
+net1 = is_key RegKey refl
+
+pub net2 : Makes NetKind 2
+unfolding is_member_kind
+net2 = is_key LogicKey refl
+
+pub local_kind0 : Makes LocalKind 0
+unfolding is_local_kind
+local_kind0 = is_key RegKey refl
+
+pub local_kind1 : Makes LocalKind 1
+unfolding is_local_kind
+local_kind1 = is_key LogicKey refl
+
+pub sign0 : Makes SignWord 0
+unfolding is_sign
+sign0 = is_key SignedKey refl
+
+pub sign1 : Makes SignWord 1
+unfolding is_sign
+sign1 = is_key UnsignedKey refl
+
+pub declarator0 : Makes Declarator 0
+declarator0 ss (is_key s h) gs g n hs b ks k m = (_, declares n m no_type (present s h) g.1 b.1, refl)
+
+pub declarator1 : Makes Declarator 1
+declarator1 fs f gs g n hs b ks k m = rw (← append_assoc fs gs (Word n ∷ hs)) (_, declares n m no_type absent (more_items f.1 g.1) b.1, refl)
+
+pub declarator2 : Makes Declarator 2
+declarator2 w us after = after w
+
+pub after_word0 : Makes AfterWord 0
+after_word0 t us names w = names (Word w ∷ (Mark DoubleColon ∷ (Word t ∷ []))) (Some w) (Some t) (packaged w t)
+
+pub after_word1 : Makes AfterWord 1
+after_word1 ss (is_key s h) gs g n hs b w ks k m = (_, declares n m (own_type w) (present s h) g.1 b.1, refl)
+
+pub after_word2 : Makes AfterWord 2
+after_word2 gs g us after w = after w gs g.0 g.1
+
+pub signed_name0 : Makes SignedName 0
+signed_name0 gs g n hs b ts p t y ks k m = (_, declares n m y absent g.1 b.1, refl)
+
+pub signed_name1 : Makes SignedName 1
+signed_name1 ss (is_key s h) gs g n hs b ts p t y ks k m = (_, declares n m y (present s h) g.1 b.1, refl)
+
+pub after_groups0 : Makes AfterGroups 0
+after_groups0 w gs g many ks k m = rw (append-nil gs) (_, declares w m no_type absent no_items many, refl)
+
+pub after_groups1 : Makes AfterGroups 1
+after_groups1 n hs b w gs g many ks k m = (_, declares n m (own_type w) absent many b.1, refl)
+
+pub groups0 : Makes Groups 0
+groups0 = (_, no_items)
+
+pub groups1 : Makes Groups 1
+groups1 fs f gs g = (_, more_items f.1 g.1)
+
+pub group0 : Makes BracketGroup 0
+group0 xs m (expression {x = x} p) us end = end xs x p
+
+pub group_end0 : Makes GroupEnd 0
+group_end0 xs x p = (_, one p)
+
+pub group_end1 : Makes GroupEnd 1
+group_end1 ls m (expression q) xs x p = (_, range p q)
+
+-- Kinds of members and of locals are kinds.
+pub net_is_kind : (k : Key) → IsTrue (is_member_kind k) → IsTrue (is_kind k)
+unfolding is_member_kind is_kind
+net_is_kind WireKey h = refl
+net_is_kind RegKey h = refl
+net_is_kind LogicKey h = refl
+net_is_kind IfKey h = absurd (cc h)
+net_is_kind _ h = absurd (cc h)
+
+pub local_is_kind : (k : Key) → IsTrue (is_local_kind k) → IsTrue (is_kind k)
+unfolding is_local_kind is_kind
+local_is_kind RegKey h = refl
+local_is_kind LogicKey h = refl
+local_is_kind IfKey h = absurd (cc h)
+local_is_kind _ h = absurd (cc h)

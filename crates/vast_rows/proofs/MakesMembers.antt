@@ -1,0 +1,248 @@
+-- The rows of members, modules and files make what the typed relations say.
+use Rattle.std.proofs.Common.{[], ◌∷◌, codes, Some, refl, append_assoc, append-nil}
+use Rattle.vast_literal.specs.FileGrammar.{is_parameter_word, is_clocked, is_edge, is_direction, no_items, more_items, empty, full, present, edge, plain, input, declared, given, connected, unconnected, no_parameters, with_parameters, with_one, without, no_label, labelled, block_body, casez_body, declaration, continuous, parameter, macro, macro_with, instance, combinational, clocked, conditional, function, loop, closed, and_member, header_parameter, port, no_header_parameters, header_parameters, no_ports, ports, module_item, include_item}
+use Rattle.vast_literal.specs.Grammar.{none, some, last, next}
+use Rattle.vast_literal.specs.NormalFile.{LoopPart}
+use Rattle.vast_literal.specs.Tokens.{Mark}
+use Rattle.vast_rows.specs.declared.rule.Rule.TheVariants.{File, FileItem, Parameters, MoreParameters, Parameter, Ports, MorePorts, Port, Direction, ModuleMembers, LoopMembers, Member, AnyMacro, MacroArguments, Expressions, MoreExpressions, LastSemicolon, GivenList, Given, MoreGiven, Connections, Connection, Connected, MoreConnections, Events, OneEvent, MoreEvents, Inputs, Input, MoreInputs, Locals, Local, FunctionBody, LoneBegins, LoneEnds, LoopLabel}
+use Rattle.vast_rows.specs.Numbers.{CloseParen, InputKey, OutputKey, InOutKey, ParameterKey, LocalparamKey, AlwaysFFKey, AlwaysKey, PosedgeKey, NegedgeKey, EndModuleKey, EndKey}
+use Rattle.vast_rows.specs.Phrases.{expression, target, loop_head, path}
+use Rattle.vast_rows.proofs.Meant.{Makes, is_key, is_macro, is_nothing, no_tails, more_tails}
+use Rattle.vast_rows.proofs.MakesDeclarations.{net_is_kind, local_is_kind}
+
+pub file0 : Makes File 0
+file0 = (_, no_items)
+
+pub file1 : Makes File 1
+file1 ts i us is = (_, more_items i.1 is.1)
+
+pub item0 : Makes FileItem 0
+item0 n ps p qs q ms m = (_, module_item n p.1 q.1 m.1)
+
+pub item1 : Makes FileItem 1
+item1 ts m (path p) = (_, include_item p)
+
+pub parameters0 : Makes Parameters 0
+parameters0 = (_, no_header_parameters)
+
+pub parameters1 : Makes Parameters 1
+parameters1 ts p us more = let r = more ts p.0 p.1 in rw (← append_assoc ts us (Mark CloseParen ∷ [])) (_, header_parameters r.1)
+
+pub more_parameters0 : Makes MoreParameters 0
+more_parameters0 = no_tails
+
+pub more_parameters1 : Makes MoreParameters 1
+more_parameters1 ts p us more = more_tails ts p.0 p.1 more
+
+pub parameter0 : Makes Parameter 0
+parameter0 ds d xs m (expression p) = (_, header_parameter d.1 p)
+
+pub ports0 : Makes Ports 0
+ports0 = (_, no_ports)
+
+pub ports1 : Makes Ports 1
+ports1 ts p us more = let r = more ts p.0 p.1 in rw (← append_assoc ts us (Mark CloseParen ∷ [])) (_, ports r.1)
+
+pub more_ports0 : Makes MorePorts 0
+more_ports0 = no_tails
+
+pub more_ports1 : Makes MorePorts 1
+more_ports1 ts p us more = more_tails ts p.0 p.1 more
+
+pub port0 : Makes Port 0
+port0 ks (is_key k h) ds d = (_, port k h d.1)
+
+pub direction0 : Makes Direction 0
+unfolding is_direction
+direction0 = is_key InputKey refl
+
+pub direction1 : Makes Direction 1
+unfolding is_direction
+direction1 = is_key OutputKey refl
+
+pub direction2 : Makes Direction 2
+unfolding is_direction
+direction2 = is_key InOutKey refl
+
+pub module_members0 : Makes ModuleMembers 0
+module_members0 = (_, closed EndModuleKey)
+
+pub module_members1 : Makes ModuleMembers 1
+module_members1 ts m us ms = (_, and_member m.1 ms.1)
+
+pub loop_members0 : Makes LoopMembers 0
+loop_members0 = (_, closed EndKey)
+
+pub loop_members1 : Makes LoopMembers 1
+loop_members1 ts m us ms = (_, and_member m.1 ms.1)
+
+pub member0 : Makes Member 0
+member0 ks (is_key k h) ds d = let r = d ks (Some k) (present k (net_is_kind k h)) in (_, declaration (declared k r.2 h r.1))
+
+pub member1 : Makes Member 1
+member1 ls m (target p) rs n (expression q) = (_, continuous p q)
+
+pub member2 : Makes Member 2
+unfolding is_parameter_word
+member2 ds d xs m (expression p) = (_, parameter ParameterKey refl d.1 p)
+
+pub member3 : Makes Member 3
+unfolding is_parameter_word
+member3 ds d xs m (expression p) = (_, parameter LocalparamKey refl d.1 p)
+
+pub member4 : Makes Member 4
+member4 ts (is_macro m) us after ss s = after m ss s.0 s.1
+
+pub member5 : Makes Member 5
+member5 m ps p i cs c = (_, instance m i p.1 c.1)
+
+pub member6 : Makes Member 6
+member6 bs b = (_, combinational b.1)
+
+pub member7 : Makes Member 7
+unfolding is_clocked
+member7 es e bs b = (_, clocked AlwaysFFKey refl e.1 b.1)
+
+pub member8 : Makes Member 8
+unfolding is_clocked
+member8 es e bs b = (_, clocked AlwaysKey refl e.1 b.1)
+
+pub member9 : Makes Member 9
+member9 ts a = (_, conditional a.1)
+
+pub member10 : Makes Member 10
+member10 ds d is i ls l bs b = (_, function d.1 i.1 l.1 b.1)
+
+pub member11 : Makes Member 11
+member11 ts n (loop_head {x = x} {e = e} i p q) ls l ms m = (LoopPart i x e l.0 m.0, simp append_assoc (loop i p q l.1 m.1))
+
+pub macro0 : Makes AnyMacro 0
+macro0 m = is_macro m
+
+pub macro1 : Makes AnyMacro 1
+macro1 = is_macro (codes "include")
+
+pub arguments0 : Makes MacroArguments 0
+arguments0 m ss s h = (_, macro m h)
+
+pub arguments1 : Makes MacroArguments 1
+arguments1 ts es m ss s h = rw (append_assoc ts (Mark CloseParen ∷ []) ss) (_, macro_with m es.1 h)
+
+pub expressions0 : Makes Expressions 0
+expressions0 = (_, none)
+
+pub expressions1 : Makes Expressions 1
+expressions1 ts m (expression {x = x} p) us more = let r = more ts x p in (_, some r.1)
+
+pub more_expressions0 : Makes MoreExpressions 0
+more_expressions0 ts x p = rw (append-nil ts) (_, last p)
+
+pub more_expressions1 : Makes MoreExpressions 1
+more_expressions1 us m (expression {x = y} q) vs more ts x p = let r = more us y q in (_, next p r.1)
+
+pub semicolon0 : Makes LastSemicolon 0
+semicolon0 = (_, without)
+
+pub semicolon1 : Makes LastSemicolon 1
+semicolon1 = (_, with_one)
+
+pub given_list0 : Makes GivenList 0
+given_list0 = (_, no_parameters)
+
+pub given_list1 : Makes GivenList 1
+given_list1 ts c us more = let r = more ts c.0 c.1 in rw (← append_assoc ts us (Mark CloseParen ∷ [])) (_, with_parameters r.1)
+
+pub given0 : Makes Given 0
+given0 n xs m (expression p) = (_, given n p)
+
+pub more_given0 : Makes MoreGiven 0
+more_given0 = no_tails
+
+pub more_given1 : Makes MoreGiven 1
+more_given1 ts p us more = more_tails ts p.0 p.1 more
+
+pub connections0 : Makes Connections 0
+connections0 = (_, empty)
+
+pub connections1 : Makes Connections 1
+connections1 ts c us more = let r = more ts c.0 c.1 in (_, full r.1)
+
+pub connection0 : Makes Connection 0
+connection0 n us after = after n
+
+pub connected0 : Makes Connected 0
+connected0 n = (_, unconnected n)
+
+pub connected1 : Makes Connected 1
+connected1 xs m (expression p) n = (_, connected (given n p))
+
+pub more_connections0 : Makes MoreConnections 0
+more_connections0 = no_tails
+
+pub more_connections1 : Makes MoreConnections 1
+more_connections1 ts p us more = more_tails ts p.0 p.1 more
+
+pub events0 : Makes Events 0
+events0 = (_, empty)
+
+pub events1 : Makes Events 1
+events1 ts c us more = let r = more ts c.0 c.1 in (_, full r.1)
+
+pub event0 : Makes OneEvent 0
+unfolding is_edge
+event0 xs m (expression p) = (_, edge PosedgeKey refl p)
+
+pub event1 : Makes OneEvent 1
+unfolding is_edge
+event1 xs m (expression p) = (_, edge NegedgeKey refl p)
+
+pub event2 : Makes OneEvent 2
+event2 w = (_, plain w)
+
+pub more_events0 : Makes MoreEvents 0
+more_events0 = no_tails
+
+pub more_events1 : Makes MoreEvents 1
+more_events1 ts p us more = more_tails ts p.0 p.1 more
+
+pub inputs0 : Makes Inputs 0
+inputs0 = (_, empty)
+
+pub inputs1 : Makes Inputs 1
+inputs1 ts c us more = let r = more ts c.0 c.1 in (_, full r.1)
+
+pub input0 : Makes Input 0
+input0 ds d = (_, input d.1)
+
+pub more_inputs0 : Makes MoreInputs 0
+more_inputs0 = no_tails
+
+pub more_inputs1 : Makes MoreInputs 1
+more_inputs1 ts p us more = more_tails ts p.0 p.1 more
+
+pub locals0 : Makes Locals 0
+locals0 = (_, no_items)
+
+pub locals1 : Makes Locals 1
+locals1 ts l us ls = (_, more_items l.1 ls.1)
+
+pub local0 : Makes Local 0
+local0 ks (is_key k h) ds d = let r = d ks (Some k) (present k (local_is_kind k h)) in (_, declared k r.2 h r.1)
+
+pub function_body0 : Makes FunctionBody 0
+function_body0 bs b = (_, block_body b.1)
+
+pub function_body1 : Makes FunctionBody 1
+function_body1 ns is_nothing ts s es is_nothing = rw (append-nil ts) (_, casez_body s.1)
+
+pub lone_begins0 : Makes LoneBegins 0
+lone_begins0 = is_nothing
+
+pub lone_ends0 : Makes LoneEnds 0
+lone_ends0 = is_nothing
+
+pub label0 : Makes LoopLabel 0
+label0 = (_, no_label)
+
+pub label1 : Makes LoopLabel 1
+label1 w = (_, labelled w)

@@ -1,0 +1,8 @@
+use Rattle.vast_rows.proofs.Taken.{known, unknown}
+use Rattle.vast_rows.proofs.machine.first_row.Goals as goal
+
+pub returns-in-Some : goal.returns-in-Some
+returns-in-Some c = let l = c.in-Some.ensures.lookup in known c.args.table.now.facts.now c.args.rule c.in-Some.fact.now l.3.0 l.1
+
+pub returns-in-None : goal.returns-in-None
+returns-in-None c = let l = c.in-None.ensures.lookup in unknown c.args.table.now.facts.now c.args.rule l.3

@@ -1,0 +1,7 @@
+pub mod Stack
+pub mod Sets
+pub mod Sources
+pub mod Predictive
+pub mod Derives
+pub mod Reading
+pub mod Trial

@@ -1,0 +1,12 @@
+pub mod Numbers
+pub mod Kinds
+pub mod Rows
+pub mod Symbols
+pub mod Told
+pub mod Page
+pub mod Phrases
+pub mod Facts
+pub mod Tables
+pub mod Tree
+pub mod Laws
+pub mod Internal

@@ -1,0 +1,26 @@
+//! The grammar of files above expressions as rows of a table, and one machine that reads what
+//! such a table spells.
+//!
+//! The rows stand on a page (`specs/Page.antt`), and [`files`] has them as the machine wants them.
+//! That the page spells exactly what the grammar of `vast_literal` does is a law ([`laws`]).
+#![tactic(auto)]
+
+mod grammar;
+mod kind;
+pub mod laws;
+mod machine;
+mod rule;
+mod sink;
+mod source;
+mod stack;
+mod table;
+#[cfg(test)]
+mod trial;
+
+pub use grammar::{Phrase, Table};
+pub use kind::Kind;
+pub use machine::{is_file, is_spelled, read};
+pub use rule::Rule;
+pub use sink::{Nothing, Sink};
+pub use source::Source;
+pub use table::files;

@@ -1,0 +1,216 @@
+//! The machine: a stack of items that are still to be read. It neither recurs nor makes a tree.
+
+ghost use Rattle.std.specs.Prelude.{◌≡◌, ◌<◌, ◌++◌, true, None};
+ghost use Rattle.std.specs.Prelude.{IfOk, MatchBool, MatchOption, OnOk};
+ghost use Rattle.vast_rows.specs.Internal.Reading.{IsTaken, LeadsTo};
+ghost use Rattle.vast_rows.specs.Kinds.{has};
+ghost use Rattle.vast_rows.specs.Laws.{IsRead, IsSpelled, IsUnspelled};
+ghost use Rattle.vast_rows.specs.Numbers.{rule_number};
+ghost use Rattle.vast_rows.specs.Page.{page};
+ghost use Rattle.vast_rows.specs.Internal.Predictive.{row_at};
+ghost use Rattle.vast_rows.specs.Rows.{span_of};
+ghost use Rattle.vast_rows.specs.Tables.{facts_of, rows_of};
+ghost use Rattle.vast_rows.specs.declared.rule.Rule.TheVariants.{File};
+
+use crate::grammar::{Item, Phrase, Table};
+use crate::kind::Kind;
+use crate::rule::Rule;
+use crate::sink::{Nothing, Sink};
+use crate::source::Source;
+use crate::stack::Stack;
+use crate::table::files;
+use std::alloc::{AllocError, Global};
+
+/// Whether the kind is in the set.
+pub(crate) fn is_in(set: u128, kind: u8) -> bool
+    requires { kind < 128 }
+    ensures { result ≡ has set kind }
+{
+    (set >> kind) & 1 == 1
+}
+
+/// The items from one place up to another, as far as there are any.
+fn items_between(list: &'static [Item], from: usize, end: usize) -> &'static [Item]
+    ensures { result.now ≡ span_of list.now from end }
+{
+    if from >= list.len() {
+        return &[];
+    }
+    let behind = &list[from..];
+    let count = end.saturating_sub(from);
+    if count < behind.len() {
+        &behind[..count]
+    } else {
+        behind
+    }
+}
+
+/// A row that is taken: as which row it is told, and its items.
+#[derive(Clone, Copy)]
+pub(crate) struct Choice {
+    pub(crate) number: usize,
+    pub(crate) told_as: u8,
+    pub(crate) items: &'static [Item],
+}
+
+/// The first row of a rule.
+fn first_row(table: &Table, rule: u8) -> usize
+    ensures { result ≡ (facts_of table.now rule).first_row }
+{
+    match table.facts.get(rule as usize) {
+        Some(fact) => fact.first_row as usize,
+        None => 0,
+    }
+}
+
+/// The row of the rule that is taken at the kind of token.
+#[tactic(auto, using(crate::proofs::Taken::starts_there))]
+pub(crate) fn taken(table: &Table, rule: u8, kind: u8) -> Option<Choice>
+    requires { kind < 128 }
+    ensures { MatchOption result
+        (row_at (facts_of table.now) (rows_of table.now) rule kind ≡ None)
+        (λ t. IsTaken (facts_of table.now) (rows_of table.now) rule kind
+        t.number t.items.now t.told_as) }
+{
+    let mut at = first_row(table, rule);
+    'rows: while at < table.rows.len() {
+        let row = &table.rows[at];
+        if row.rule != rule {
+            return None;
+        }
+        if is_in(row.looks, kind) {
+            return Some(Choice {
+                number: at,
+                told_as: row.told_as,
+                items: items_between(table.items, row.items, row.items_end),
+            });
+        }
+        at += 1;
+    }
+    None
+}
+
+/// Puts the items on the stack, the first on top.
+pub(crate) fn push_all(stack: &mut Stack<Item>, items: &[Item]) -> Result<(), AllocError>
+    ensures { OnOk result (stack.new ≡ items.now ++ stack.old) }
+{
+    let mut at = items.len();
+    while at > 0 {
+        at -= 1;
+        stack.push(items[at])?;
+    }
+    Ok(())
+}
+
+/// What is due.
+#[derive(Clone, Copy)]
+pub(crate) enum Due {
+    /// A token of the kind, which has left the stack.
+    Token(u8),
+    /// A phrase, which has left the stack.
+    Phrase(Phrase),
+    /// Nothing more.
+    Nothing,
+    /// A rule that no row begins with the token that is there.
+    Wrong,
+}
+
+/// Opens rules until a token or a phrase is due.
+pub(crate) fn open<S: Source, K: Sink<S>>(
+    table: &Table,
+    source: &S,
+    stack: &mut Stack<Item>,
+    sink: &mut K,
+) -> Result<Due, AllocError>
+    ensures { IfOk result (LeadsTo S.is_phrase K.after (rows_of table.now) (facts_of table.now)
+        (S.left source.now) stack.old sink.old stack.new sink.new) }
+{
+    let kind = source.kind().number();
+    'rules: loop {
+        match stack.pop() {
+            None => return Ok(Due::Nothing),
+            Some(Item::Token(due)) => return Ok(Due::Token(due)),
+            Some(Item::Phrase(phrase)) => return Ok(Due::Phrase(phrase)),
+            Some(Item::Rule(rule)) => match taken(table, rule, kind) {
+                None => return Ok(Due::Wrong),
+                Some(row) => {
+                    sink.chose(row.told_as)?;
+                    push_all(stack, row.items)?;
+                }
+            },
+        }
+    }
+}
+
+/// Whether the rule spells the tokens of the source; a sink hears the steps of their tree.
+///
+/// Where it does not spell them, the sink heard of a front of them, and no clause says how far the
+/// source was read.
+///
+/// # Errors
+/// Out of memory.
+pub fn read<S: Source, K: Sink<S>>(
+    alloc: Global,
+    table: &Table,
+    start: Rule,
+    source: &mut S,
+    sink: &mut K,
+) -> Result<bool, AllocError>
+    requires { has (facts_of table.now (rule_number start)).follow 0 ≡ true }
+    ensures { IfOk result (λ spelled. MatchBool spelled
+        (IsRead S.is_phrase K.after (rows_of table.now) (rule_number start)
+        (S.left source.old) sink.old sink.new)
+        (IsUnspelled S.is_phrase (rows_of table.now) (rule_number start)
+        (S.left source.old))) }
+{
+    let mut stack = Stack::new(alloc);
+    stack.push(Item::Rule(start.number()))?;
+    'tokens: loop {
+        match open(table, source, &mut stack, sink)? {
+            Due::Wrong => return Ok(false),
+            Due::Nothing => return Ok(source.kind().number() == 0),
+            Due::Token(kind) => {
+                if source.kind().number() != kind {
+                    return Ok(false);
+                }
+                source.skip();
+            }
+            Due::Phrase(phrase) => match source.phrase(phrase)? {
+                None => return Ok(false),
+                Some(made) => sink.read(made)?,
+            },
+        }
+    }
+}
+
+/// Whether the tokens of the source are those of a file.
+///
+/// # Errors
+/// Out of memory.
+pub fn is_file<S: Source>(alloc: Global, source: &mut S) -> Result<bool, AllocError>
+    ensures { IfOk result (λ spelled. MatchBool spelled
+        (IsSpelled S.is_phrase page (rule_number File) (S.left source.old))
+        (IsUnspelled S.is_phrase page (rule_number File) (S.left source.old))) }
+{
+    is_spelled(alloc, &files(), Rule::File, source)
+}
+
+/// Whether the rule spells the tokens of the source.
+///
+/// # Errors
+/// Out of memory.
+#[tactic(auto, using(crate::proofs::Turns::is_spelled))]
+pub fn is_spelled<S: Source>(
+    alloc: Global,
+    table: &Table,
+    start: Rule,
+    source: &mut S,
+) -> Result<bool, AllocError>
+    requires { has (facts_of table.now (rule_number start)).follow 0 ≡ true }
+    ensures { IfOk result (λ spelled. MatchBool spelled
+        (IsSpelled S.is_phrase (rows_of table.now) (rule_number start) (S.left source.old))
+        (IsUnspelled S.is_phrase (rows_of table.now) (rule_number start)
+        (S.left source.old))) }
+{
+    read(alloc, table, start, source, &mut Nothing)
+}
