@@ -169,11 +169,6 @@ read_known known session text line n s h =
     subst (λ (skipped : List ℕ). IsRead (meaning session.names) skipped text line) s
     (subst (λ (names : Names). IsRead (meaning names) known.skipped.now text line) n h)
 
-pub misread_known :
-    (names : List ℕ → Option Named) (session : Session) (number : ℕ) (text name : List ℕ) (fault : Fault) → names ≡ meaning session.names → NamesWord names text name → IsToldOf number name None None fault →
-    IsMisread (meaning session.names) number text fault
-misread_known names session number text name fault n h e = (name, subst (λ (named : List ℕ → Option Named). NamesWord named text name) n h, e)
-
 pub left_same :
     (old new : Session) (fault : Fault) → new.file ≡ old.file → new.answers.items ≡ old.answers.items → meaning new.names ≡ meaning old.names → new.skipped.items ≡ old.skipped.items → IsLeft old new fault
 left_same old new fault e a n s = (file_same old new fault e a, (n, s))

@@ -1,6 +1,6 @@
 //! The lines of a list.
 
-ghost use Rattle.std.specs.Prelude.{◌≡◌, ◌⊎◌, ◌↔◌, [], IfErr, IfOk, IsTrue, MatchOption, MatchResult, OnOk, drop, false, option_copied, true};
+ghost use Rattle.std.specs.Prelude.{◌≡◌, ◌⊎◌, ◌↔◌, [], IfErr, IfOk, IsTrue, MatchOption, MatchResult, drop, false, option_copied, true};
 ghost use Rattle.std.specs.Str.{IsUtf8};
 ghost use Rattle.vast_list.specs.Lines.{HasKind, NamesDialect, Passed, Stepped, begins_blank, behind_call, behind_first, behind_word, call_word, dialect_word, first_word, is_equals_front, is_passed, line_word, text_name, without_return};
 ghost use Rattle.vast_list.specs.Internal.Lines.{rest_text};

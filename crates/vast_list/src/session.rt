@@ -1,6 +1,6 @@
 //! A file with the answers so far, whose calls are lines.
 
-ghost use Rattle.std.specs.Prelude.{◌≡◌, ℕ, List, [], IfErr, IfOk, IfSome, MatchResult, None, Ok, OnErr, OnOk, Some, option_copied, string_bytes};
+ghost use Rattle.std.specs.Prelude.{◌≡◌, ℕ, List, [], IfErr, IfOk, IfSome, MatchResult, None, Ok, OnErr, OnOk, option_copied, string_bytes};
 ghost use Rattle.vast_core.specs.Bench.{start};
 ghost use Rattle.vast_core.specs.FileTree.{tree};
 ghost use Rattle.xlsynth_vast.specs.Registers.{HasUnused};

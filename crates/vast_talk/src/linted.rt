@@ -1,6 +1,6 @@
 //! The lint beside a session.
 
-ghost use Rattle.std.specs.Prelude.{◌≡◌, ◌+◌, IfErr, IfOk, OnOk, false, length};
+ghost use Rattle.std.specs.Prelude.{◌≡◌, ◌+◌, IfErr, OnOk, false, length};
 ghost use Rattle.vast_lint.specs.Lint.{counted};
 ghost use Rattle.vast_list.specs.Session.{IsOfLine};
 ghost use Rattle.vast_talk.specs.Linted.{HasCounted, IsLevel};
