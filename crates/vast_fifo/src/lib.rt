@@ -6,7 +6,8 @@
 #![tactic(auto, using(xlsynth_vast::proofs::Callers::callers))]
 
 ghost use Rattle.std.specs.Prelude.{◌≤ℤ◌, pos, IfOk};
-ghost use Rattle.vast_core.specs.Bench.{OwnsExpr, OwnsModule, OwnsType};
+ghost use Rattle.vast_core.specs.Bench.{OwnsExpr, OwnsModule};
+ghost use Rattle.xlsynth_vast.specs.Keeps.{Keeps};
 
 mod fault;
 mod flags;
@@ -21,7 +22,7 @@ use memory::add_memory;
 use parts::add_owner;
 use pointers::add_pointers;
 use signals::{Ports, State, add_ports, add_state};
-use xlsynth_vast::{Expr, VastDataType, VastFile, VastModule};
+use xlsynth_vast::{VastFile, VastModule};
 
 /// Adds the module `fifo`, a queue of words of `width` bits, and answers it.
 ///
@@ -29,18 +30,14 @@ use xlsynth_vast::{Expr, VastDataType, VastFile, VastModule};
 /// `Width` where the width is below 1, `Depth` where the depth is no power of two above 1; want of memory.
 pub fn add_fifo(file: &mut VastFile, width: i64, depth: i64) -> Result<VastModule, FifoFault>
     ensures answer { IfOk result (λ m. OwnsModule file.new m) }
-    ensures exprs { (e : Expr) → OwnsExpr file.old e → OwnsExpr file.new e }
-    ensures types { (t : VastDataType) → OwnsType file.old t → OwnsType file.new t }
-    ensures modules { (m : VastModule) → OwnsModule file.old m → OwnsModule file.new m }
+    ensures kept { Keeps file.old file.new }
 {
     if width < 1 {
         return Err(FifoFault::Width);
     }
     let address = address_bits(depth)?;
     let owner = add_owner("fifo", file)?;
-    let ports = add_ports(owner, width, file)?;
-    let state = add_state(owner, width, depth, address, file)?;
-    fill(owner, &ports, &state, address, file)?;
+    add_parts(owner, width, depth, address, file)?;
     Ok(owner)
 }
 
@@ -56,6 +53,26 @@ fn address_bits(depth: i64) -> Result<i64, FifoFault>
     Ok(bits)
 }
 
+/// The module's ports and variables, and what it does.
+fn add_parts(
+    owner: VastModule,
+    width: i64,
+    depth: i64,
+    address: i64,
+    file: &mut VastFile,
+) -> Result<(), FifoFault>
+    requires owner { OwnsModule file.old owner }
+    requires width { pos 1 ≤ℤ width }
+    requires depth { pos 1 ≤ℤ depth }
+    requires address { pos 1 ≤ℤ address }
+    requires fits { address ≤ℤ pos 62 }
+    ensures kept { Keeps file.old file.new }
+{
+    let ports = add_ports(owner, width, file)?;
+    let state = add_state(owner, width, depth, address, file)?;
+    fill(owner, &ports, &state, address, file)
+}
+
 /// What the module does.
 fn fill(
     owner: VastModule,
@@ -67,25 +84,23 @@ fn fill(
     requires owner { OwnsModule file.old owner }
     requires address { pos 1 ≤ℤ address }
     requires fits { address ≤ℤ pos 62 }
-    requires clk { OwnsExpr file.old ports.now.clock.clk }
-    requires rst { OwnsExpr file.old ports.now.clock.rst }
-    requires write { OwnsExpr file.old ports.now.write.asked }
-    requires write_data { OwnsExpr file.old ports.now.write.word }
-    requires read { OwnsExpr file.old ports.now.read.asked }
-    requires read_data { OwnsExpr file.old ports.now.read.word }
-    requires full { OwnsExpr file.old ports.now.hindered.write }
-    requires empty { OwnsExpr file.old ports.now.hindered.read }
+    requires clk { OwnsExpr file.old ports.now.clk }
+    requires rst { OwnsExpr file.old ports.now.rst }
+    requires write { OwnsExpr file.old ports.now.write }
+    requires write_data { OwnsExpr file.old ports.now.write_data }
+    requires read { OwnsExpr file.old ports.now.read }
+    requires read_data { OwnsExpr file.old ports.now.read_data }
+    requires full { OwnsExpr file.old ports.now.full }
+    requires empty { OwnsExpr file.old ports.now.empty }
     requires words { OwnsExpr file.old state.now.words }
-    requires head { OwnsExpr file.old state.now.pointers.write }
-    requires tail { OwnsExpr file.old state.now.pointers.read }
-    requires writes { OwnsExpr file.old state.now.strobes.write }
-    requires reads { OwnsExpr file.old state.now.strobes.read }
-    ensures exprs { (e : Expr) → OwnsExpr file.old e → OwnsExpr file.new e }
-    ensures types { (t : VastDataType) → OwnsType file.old t → OwnsType file.new t }
-    ensures modules { (m : VastModule) → OwnsModule file.old m → OwnsModule file.new m }
+    requires head { OwnsExpr file.old state.now.head }
+    requires tail { OwnsExpr file.old state.now.tail }
+    requires writes { OwnsExpr file.old state.now.writes }
+    requires reads { OwnsExpr file.old state.now.reads }
+    ensures kept { Keeps file.old file.new }
 {
-    drive_flags(owner, &ports.hindered, &state.pointers, address, file)?;
-    drive_strobes(owner, ports, &state.strobes, file)?;
+    drive_flags(owner, ports, state, address, file)?;
+    drive_strobes(owner, ports, state, file)?;
     add_memory(owner, ports, state, address, file)?;
-    add_pointers(owner, &ports.clock, state, address, file)
+    add_pointers(owner, ports, state, address, file)
 }

@@ -1,12 +1,13 @@
 //! The words of the queue: the front one is read, the next one written; they have no reset.
 
 ghost use Rattle.std.specs.Prelude.{◌≤ℤ◌, pos, IfOk};
-ghost use Rattle.vast_core.specs.Bench.{OwnsBlock, OwnsExpr, OwnsModule, OwnsType};
+ghost use Rattle.vast_core.specs.Bench.{OwnsBlock, OwnsExpr, OwnsModule};
+ghost use Rattle.xlsynth_vast.specs.Keeps.{Keeps};
 
 use crate::fault::FifoFault;
 use crate::parts::{drive, place};
 use crate::signals::{Ports, State};
-use xlsynth_vast::{Expr, VastDataType, VastFile, VastModule, VastStatementBlock};
+use xlsynth_vast::{Expr, VastFile, VastModule, VastStatementBlock};
 
 pub(crate) fn add_memory(
     owner: VastModule,
@@ -17,22 +18,20 @@ pub(crate) fn add_memory(
 ) -> Result<(), FifoFault>
     requires owner { OwnsModule file.old owner }
     requires address { pos 1 ≤ℤ address }
-    requires clk { OwnsExpr file.old ports.now.clock.clk }
-    requires write_data { OwnsExpr file.old ports.now.write.word }
-    requires read_data { OwnsExpr file.old ports.now.read.word }
+    requires clk { OwnsExpr file.old ports.now.clk }
+    requires write_data { OwnsExpr file.old ports.now.write_data }
+    requires read_data { OwnsExpr file.old ports.now.read_data }
     requires words { OwnsExpr file.old state.now.words }
-    requires head { OwnsExpr file.old state.now.pointers.write }
-    requires tail { OwnsExpr file.old state.now.pointers.read }
-    requires writes { OwnsExpr file.old state.now.strobes.write }
-    ensures exprs { (e : Expr) → OwnsExpr file.old e → OwnsExpr file.new e }
-    ensures types { (t : VastDataType) → OwnsType file.old t → OwnsType file.new t }
-    ensures modules { (m : VastModule) → OwnsModule file.old m → OwnsModule file.new m }
+    requires head { OwnsExpr file.old state.now.head }
+    requires tail { OwnsExpr file.old state.now.tail }
+    requires writes { OwnsExpr file.old state.now.writes }
+    ensures kept { Keeps file.old file.new }
 {
-    let front = word_at(state.words, state.pointers.read, address, file)?;
-    drive(owner, ports.read.word, front, file)?;
-    let next = word_at(state.words, state.pointers.write, address, file)?;
-    let body = add_clocked(owner, ports.clock.clk, file)?;
-    take(body, state.strobes.write, next, ports.write.word, file)
+    let front = word_at(state.words, state.tail, address, file)?;
+    drive(owner, ports.read_data, front, file)?;
+    let next = word_at(state.words, state.head, address, file)?;
+    let body = add_clocked(owner, ports.clk, file)?;
+    take(body, state.writes, next, ports.write_data, file)
 }
 
 /// The word at the place of a pointer.
@@ -41,9 +40,7 @@ fn word_at(words: Expr, pointer: Expr, address: i64, file: &mut VastFile) -> Res
     requires pointer { OwnsExpr file.old pointer }
     requires address { pos 1 ≤ℤ address }
     ensures answer { IfOk result (λ e. OwnsExpr file.new e) }
-    ensures exprs { (e : Expr) → OwnsExpr file.old e → OwnsExpr file.new e }
-    ensures types { (t : VastDataType) → OwnsType file.old t → OwnsType file.new t }
-    ensures modules { (m : VastModule) → OwnsModule file.old m → OwnsModule file.new m }
+    ensures kept { Keeps file.old file.new }
 {
     let place = place(pointer, address, file)?;
     let words = file.make_indexable_expression(&words);
@@ -59,9 +56,7 @@ fn add_clocked(
     requires owner { OwnsModule file.old owner }
     requires clk { OwnsExpr file.old clk }
     ensures answer { IfOk result (λ body. OwnsBlock file.new body) }
-    ensures exprs { (e : Expr) → OwnsExpr file.old e → OwnsExpr file.new e }
-    ensures types { (t : VastDataType) → OwnsType file.old t → OwnsType file.new t }
-    ensures modules { (m : VastModule) → OwnsModule file.old m → OwnsModule file.new m }
+    ensures kept { Keeps file.old file.new }
 {
     let edge = file.make_pos_edge(&clk)?;
     let always = file.add_always_ff(owner, &[&edge])?;
@@ -80,9 +75,7 @@ fn take(
     requires condition { OwnsExpr file.old condition }
     requires target { OwnsExpr file.old target }
     requires value { OwnsExpr file.old value }
-    ensures exprs { (e : Expr) → OwnsExpr file.old e → OwnsExpr file.new e }
-    ensures types { (t : VastDataType) → OwnsType file.old t → OwnsType file.new t }
-    ensures modules { (m : VastModule) → OwnsModule file.old m → OwnsModule file.new m }
+    ensures kept { Keeps file.old file.new }
 {
     let conditional = file.block_add_cond(body, &condition)?;
     let block = file.conditional_then_block(conditional);

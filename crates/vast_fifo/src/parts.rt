@@ -2,6 +2,7 @@
 
 ghost use Rattle.std.specs.Prelude.{◌≤ℤ◌, pos, IfOk};
 ghost use Rattle.vast_core.specs.Bench.{OwnsExpr, OwnsModule, OwnsType};
+ghost use Rattle.xlsynth_vast.specs.Keeps.{Keeps};
 
 use crate::fault::FifoFault;
 use xlsynth_vast::{Expr, LiteralFormat, VastDataType, VastFile, VastModule};
@@ -9,9 +10,7 @@ use xlsynth_vast::{Expr, LiteralFormat, VastDataType, VastFile, VastModule};
 /// A new module of this name.
 pub(crate) fn add_owner(name: &str, file: &mut VastFile) -> Result<VastModule, FifoFault>
     ensures answer { IfOk result (λ m. OwnsModule file.new m) }
-    ensures exprs { (e : Expr) → OwnsExpr file.old e → OwnsExpr file.new e }
-    ensures types { (t : VastDataType) → OwnsType file.old t → OwnsType file.new t }
-    ensures modules { (m : VastModule) → OwnsModule file.old m → OwnsModule file.new m }
+    ensures kept { Keeps file.old file.new }
 {
     Ok(file.add_module(name)?)
 }
@@ -20,9 +19,7 @@ pub(crate) fn add_owner(name: &str, file: &mut VastFile) -> Result<VastModule, F
 pub(crate) fn make_bits(width: i64, file: &mut VastFile) -> Result<VastDataType, FifoFault>
     requires width { pos 1 ≤ℤ width }
     ensures answer { IfOk result (λ t. OwnsType file.new t) }
-    ensures exprs { (e : Expr) → OwnsExpr file.old e → OwnsExpr file.new e }
-    ensures types { (t : VastDataType) → OwnsType file.old t → OwnsType file.new t }
-    ensures modules { (m : VastModule) → OwnsModule file.old m → OwnsModule file.new m }
+    ensures kept { Keeps file.old file.new }
 {
     Ok(file.make_bit_vector_type(width, false)?)
 }
@@ -37,9 +34,7 @@ pub(crate) fn add_input(
     requires owner { OwnsModule file.old owner }
     requires width { pos 1 ≤ℤ width }
     ensures answer { IfOk result (λ e. OwnsExpr file.new e) }
-    ensures exprs { (e : Expr) → OwnsExpr file.old e → OwnsExpr file.new e }
-    ensures types { (t : VastDataType) → OwnsType file.old t → OwnsType file.new t }
-    ensures modules { (m : VastModule) → OwnsModule file.old m → OwnsModule file.new m }
+    ensures kept { Keeps file.old file.new }
 {
     let bits = make_bits(width, file)?;
     if !file.name_is_free(owner, name) {
@@ -58,9 +53,7 @@ pub(crate) fn add_output(
     requires owner { OwnsModule file.old owner }
     requires width { pos 1 ≤ℤ width }
     ensures answer { IfOk result (λ e. OwnsExpr file.new e) }
-    ensures exprs { (e : Expr) → OwnsExpr file.old e → OwnsExpr file.new e }
-    ensures types { (t : VastDataType) → OwnsType file.old t → OwnsType file.new t }
-    ensures modules { (m : VastModule) → OwnsModule file.old m → OwnsModule file.new m }
+    ensures kept { Keeps file.old file.new }
 {
     let bits = make_bits(width, file)?;
     if !file.name_is_free(owner, name) {
@@ -79,9 +72,7 @@ pub(crate) fn add_variable(
     requires owner { OwnsModule file.old owner }
     requires data_type { OwnsType file.old data_type }
     ensures answer { IfOk result (λ e. OwnsExpr file.new e) }
-    ensures exprs { (e : Expr) → OwnsExpr file.old e → OwnsExpr file.new e }
-    ensures types { (t : VastDataType) → OwnsType file.old t → OwnsType file.new t }
-    ensures modules { (m : VastModule) → OwnsModule file.old m → OwnsModule file.new m }
+    ensures kept { Keeps file.old file.new }
 {
     Ok(file.add_logic(owner, name, &data_type)?.to_expr())
 }
@@ -96,9 +87,7 @@ pub(crate) fn drive(
     requires owner { OwnsModule file.old owner }
     requires signal { OwnsExpr file.old signal }
     requires value { OwnsExpr file.old value }
-    ensures exprs { (e : Expr) → OwnsExpr file.old e → OwnsExpr file.new e }
-    ensures types { (t : VastDataType) → OwnsType file.old t → OwnsType file.new t }
-    ensures modules { (m : VastModule) → OwnsModule file.old m → OwnsModule file.new m }
+    ensures kept { Keeps file.old file.new }
 {
     let assignment = file.make_continuous_assignment(&signal, &value)?;
     file.add_member_continuous_assignment(owner, assignment)?;
@@ -110,9 +99,7 @@ pub(crate) fn both(left: Expr, right: Expr, file: &mut VastFile) -> Result<Expr,
     requires left { OwnsExpr file.old left }
     requires right { OwnsExpr file.old right }
     ensures answer { IfOk result (λ e. OwnsExpr file.new e) }
-    ensures exprs { (e : Expr) → OwnsExpr file.old e → OwnsExpr file.new e }
-    ensures types { (t : VastDataType) → OwnsType file.old t → OwnsType file.new t }
-    ensures modules { (m : VastModule) → OwnsModule file.old m → OwnsModule file.new m }
+    ensures kept { Keeps file.old file.new }
 {
     Ok(file.make_logical_and(&left, &right)?)
 }
@@ -122,9 +109,7 @@ pub(crate) fn place(pointer: Expr, address: i64, file: &mut VastFile) -> Result<
     requires pointer { OwnsExpr file.old pointer }
     requires address { pos 1 ≤ℤ address }
     ensures answer { IfOk result (λ e. OwnsExpr file.new e) }
-    ensures exprs { (e : Expr) → OwnsExpr file.old e → OwnsExpr file.new e }
-    ensures types { (t : VastDataType) → OwnsType file.old t → OwnsType file.new t }
-    ensures modules { (m : VastModule) → OwnsModule file.old m → OwnsModule file.new m }
+    ensures kept { Keeps file.old file.new }
 {
     let pointer = file.make_indexable_expression(&pointer);
     Ok(file.make_slice(&pointer, address - 1, 0)?.to_expr())
@@ -133,9 +118,7 @@ pub(crate) fn place(pointer: Expr, address: i64, file: &mut VastFile) -> Result<
 /// A number of so many bits.
 pub(crate) fn make_number(width: i64, value: i64, file: &mut VastFile) -> Result<Expr, FifoFault>
     ensures answer { IfOk result (λ e. OwnsExpr file.new e) }
-    ensures exprs { (e : Expr) → OwnsExpr file.old e → OwnsExpr file.new e }
-    ensures types { (t : VastDataType) → OwnsType file.old t → OwnsType file.new t }
-    ensures modules { (m : VastModule) → OwnsModule file.old m → OwnsModule file.new m }
+    ensures kept { Keeps file.old file.new }
 {
     let alloc = file.allocator();
     let text = format!(in alloc; "bits[{width}]:{value}")?;

@@ -1,38 +1,36 @@
 //! The pointers of the queue: registers that are 0 at a reset, and one more where a word is written or read.
 
 ghost use Rattle.std.specs.Prelude.{◌≤ℤ◌, pos, IfOk};
-ghost use Rattle.vast_core.specs.Bench.{OwnsExpr, OwnsModule, OwnsType};
+ghost use Rattle.vast_core.specs.Bench.{OwnsExpr, OwnsModule};
+ghost use Rattle.xlsynth_vast.specs.Keeps.{Keeps};
 ghost use Rattle.xlsynth_vast.specs.Registers.{OwnsRegister};
 
 use crate::fault::FifoFault;
 use crate::parts::make_number;
-use crate::signals::{Clock, State};
+use crate::signals::{Ports, State};
 use xlsynth_vast::helpers::{RegisterDefinition, RegisterScope, Reset, add_registers};
-use xlsynth_vast::{Expr, VastDataType, VastFile, VastModule};
+use xlsynth_vast::{Expr, VastFile, VastModule};
 
 pub(crate) fn add_pointers(
     owner: VastModule,
-    clock: &Clock,
+    ports: &Ports,
     state: &State,
     address: i64,
     file: &mut VastFile,
 ) -> Result<(), FifoFault>
     requires owner { OwnsModule file.old owner }
     requires fits { address ≤ℤ pos 62 }
-    requires clk { OwnsExpr file.old clock.now.clk }
-    requires rst { OwnsExpr file.old clock.now.rst }
-    requires head { OwnsExpr file.old state.now.pointers.write }
-    requires tail { OwnsExpr file.old state.now.pointers.read }
-    requires writes { OwnsExpr file.old state.now.strobes.write }
-    requires reads { OwnsExpr file.old state.now.strobes.read }
-    ensures exprs { (e : Expr) → OwnsExpr file.old e → OwnsExpr file.new e }
-    ensures types { (t : VastDataType) → OwnsType file.old t → OwnsType file.new t }
-    ensures modules { (m : VastModule) → OwnsModule file.old m → OwnsModule file.new m }
+    requires clk { OwnsExpr file.old ports.now.clk }
+    requires rst { OwnsExpr file.old ports.now.rst }
+    requires head { OwnsExpr file.old state.now.head }
+    requires tail { OwnsExpr file.old state.now.tail }
+    requires writes { OwnsExpr file.old state.now.writes }
+    requires reads { OwnsExpr file.old state.now.reads }
+    ensures kept { Keeps file.old file.new }
 {
-    let pointers = &state.pointers;
-    let head = make_register(pointers.write, state.strobes.write, address + 1, file)?;
-    let tail = make_register(pointers.read, state.strobes.read, address + 1, file)?;
-    add_both(owner, clock, head, tail, file)
+    let head = make_register(state.head, state.writes, address + 1, file)?;
+    let tail = make_register(state.tail, state.reads, address + 1, file)?;
+    add_both(owner, ports, head, tail, file)
 }
 
 /// The pointer of so many bits as a register: one more where it is enabled.
@@ -45,9 +43,7 @@ fn make_register(
     requires pointer { OwnsExpr file.old pointer }
     requires enable { OwnsExpr file.old enable }
     ensures answer { IfOk result (λ r. OwnsRegister file.new r) }
-    ensures exprs { (e : Expr) → OwnsExpr file.old e → OwnsExpr file.new e }
-    ensures types { (t : VastDataType) → OwnsType file.old t → OwnsType file.new t }
-    ensures modules { (m : VastModule) → OwnsModule file.old m → OwnsModule file.new m }
+    ensures kept { Keeps file.old file.new }
 {
     let zero = make_number(width, 0, file)?;
     let next = make_next(pointer, width, file)?;
@@ -62,9 +58,7 @@ fn make_register(
 fn make_next(pointer: Expr, width: i64, file: &mut VastFile) -> Result<Expr, FifoFault>
     requires pointer { OwnsExpr file.old pointer }
     ensures answer { IfOk result (λ e. OwnsExpr file.new e) }
-    ensures exprs { (e : Expr) → OwnsExpr file.old e → OwnsExpr file.new e }
-    ensures types { (t : VastDataType) → OwnsType file.old t → OwnsType file.new t }
-    ensures modules { (m : VastModule) → OwnsModule file.old m → OwnsModule file.new m }
+    ensures kept { Keeps file.old file.new }
 {
     let one = make_number(width, 1, file)?;
     Ok(file.make_add(&pointer, &one)?)
@@ -72,25 +66,23 @@ fn make_next(pointer: Expr, width: i64, file: &mut VastFile) -> Result<Expr, Fif
 
 fn add_both(
     owner: VastModule,
-    clock: &Clock,
+    ports: &Ports,
     head: RegisterDefinition,
     tail: RegisterDefinition,
     file: &mut VastFile,
 ) -> Result<(), FifoFault>
     requires owner { OwnsModule file.old owner }
-    requires clk { OwnsExpr file.old clock.now.clk }
-    requires rst { OwnsExpr file.old clock.now.rst }
+    requires clk { OwnsExpr file.old ports.now.clk }
+    requires rst { OwnsExpr file.old ports.now.rst }
     requires head { OwnsRegister file.old head }
     requires tail { OwnsRegister file.old tail }
-    ensures exprs { (e : Expr) → OwnsExpr file.old e → OwnsExpr file.new e }
-    ensures types { (t : VastDataType) → OwnsType file.old t → OwnsType file.new t }
-    ensures modules { (m : VastModule) → OwnsModule file.old m → OwnsModule file.new m }
+    ensures kept { Keeps file.old file.new }
 {
     let reset = Reset {
-        signal: clock.rst,
+        signal: ports.rst,
         active_low: false,
     };
     let scope = RegisterScope::Module(owner);
-    add_registers(&clock.clk, Some(reset), &[head, tail], scope, file)?;
+    add_registers(&ports.clk, Some(reset), &[head, tail], scope, file)?;
     Ok(())
 }
