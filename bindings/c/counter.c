@@ -1,4 +1,4 @@
-/* Builds the counter of docs/LISTS.md and prints it. */
+/* Builds the counter of docs/use/LISTS.md and prints it. */
 #include "vast.h"
 
 #include <stdio.h>

@@ -1,7 +1,7 @@
 /* Files of Verilog and SystemVerilog, built and printed by the proved library.
  *
  * A session is one file and the handles that its calls have answered. It takes lines, each one call of the form in
- * docs/LISTS.md, as
+ * docs/use/LISTS.md, as
  *
  *     counter = AddModule "counter"
  *     bit = MakeScalarType
@@ -46,7 +46,7 @@ enum {
     VAST_REFUSED = 1,
     /* A condition of the call is not met, as a name that is taken, a handle of another kind, or a width below 1. */
     VAST_CONDITION = 2,
-    /* The line is not in the form of docs/LISTS.md, or not UTF-8. */
+    /* The line is not in the form of docs/use/LISTS.md, or not UTF-8. */
     VAST_FORM = 3,
     /* A request for memory was refused. The same line may be given again; but where it is a question with a name, the
      * name may be taken by then. */

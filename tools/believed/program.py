@@ -42,7 +42,7 @@ class Function:
 
     def __init__(self, source, path, is_public, line):
         self.source, self.path, self.is_public, self.line = source, path, is_public, line
-        self.signature, self.clauses, self.body = "", [], ""
+        self.signature, self.clauses, self.named, self.body = "", [], [], ""
 
     def words(self):
         parameters = set(re.findall(r"(\w+)\s*:", self.signature)) | {"self", "result"}
@@ -110,5 +110,6 @@ class Source:
         while clause := CLAUSE.match(self.text, i):
             end = matching(self.text, clause.end() - 1)
             function.clauses.append(self.text[clause.end() : end])
+            function.named.append((clause[1], clause[4], self.text[clause.end() : end]))
             i = end + 1
         return i

@@ -4,7 +4,7 @@ import keyword
 import re
 
 from python_text import WIDTH, doc, wrapped
-from python_words import MEANINGS, NOTES, REFUSALS, SAYS
+from python_words import CONDITIONS, MEANINGS, NOTES, REFUSALS, SAYS
 from table import Type, parts
 
 FOLDER = "bindings/python/vast"
@@ -308,7 +308,8 @@ class PythonBinding:
             if note:
                 said.append(f"`{parameter.name}`: {note}.")
         if call.conditions:
-            said.append(f"Raises `Condition` unless: {call.conditions}.")
+            conditions = ", ".join(CONDITIONS[it] for it in call.conditions)
+            said.append(f"Raises `Condition` unless: {conditions}.")
         if call.method in REFUSALS:
             said.append(f"Raises `Refused` {REFUSALS[call.method]}.")
         return "\n".join(said)

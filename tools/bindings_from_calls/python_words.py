@@ -1,4 +1,4 @@
-"""What the doc strings of the Python binding say beside docs/CALLS.md."""
+"""What the doc strings of the Python binding say beside docs/use/CALLS.md."""
 
 # What a parameter is measured in and must be, by its name or by call and name.
 NOTES = {
@@ -26,7 +26,7 @@ SAYS = {
     "RegisterDefinition": "A register of `File.add_registers`, with its value at reset, and when it changes.",
     "Reset": "The reset of `File.add_registers`.",
 }
-# Of calls that answer a number or whether something is so: what docs/CALLS.md says, as a sentence of its own.
+# Of calls that answer a number or whether something is so: what docs/use/CALLS.md says, as a sentence of its own.
 MEANINGS = {
     "type_width_as_int64": "The width, in bits, that the type within the arrays declares",
     "type_flat_bit_count_as_int64": "The bits of the type within the arrays times all dimensions",
@@ -38,6 +38,24 @@ MEANINGS = {
     "type_can_be_packed": "Whether it is no unpacked array, `integer` or `int`",
     "type_is_signed": "Whether the type within the arrays is signed",
     "width_is_usable": "Whether it is no literal with a value below 1",
+}
+# What a call asks, by the words of its clauses.
+CONDITIONS = {
+    "1 ≤ bit_count": "bit_count at least 1",
+    "1 ≤ width": "width at least 1",
+    "0 ≤ hi": "hi at least 0",
+    "0 ≤ lo": "lo at least 0",
+    "0 ≤ index": "index at least 0",
+    "AreDimensions dimensions": "at least one dimension, each at least 1",
+    "IsUsableWidth (tree_of width)": "`width_is_usable`",
+    "NameIsFree owner name": "`name_is_free`",
+    "has_else (slice_get nests conditional.id.index) ≡ false": "not `conditional_has_else`",
+    "is_castable (type_of data_type)": "`type_can_be_cast`",
+    "is_packable (type_of element)": "`type_can_be_packed`",
+    "length connection_names ≡ length connection_expressions": "as many connections as their names",
+    "length parameter_names ≡ length parameter_expressions": "as many parameters as their names",
+    "name ≢ []": "name not empty",
+    "start ≤ length (members_in owner)": "start at most `module_member_count`",
 }
 EVENTS = "where an event is neither an edge nor a name"
 IN_FUNCTION = "where the function has the name"

@@ -1,4 +1,4 @@
-"""The table of calls, with what docs/CALLS.md says of each."""
+"""The table of calls, with what docs/use/CALLS.md says of each."""
 import json
 import re
 from dataclasses import dataclass
@@ -38,8 +38,8 @@ class Call:
     method: str  # the name of the method in Rust
     parameters: tuple
     answer: Type
-    meaning: str  # what docs/CALLS.md says of it
-    conditions: str  # its conditions, but for the ownership of handles
+    meaning: str  # what docs/use/CALLS.md says of it
+    conditions: tuple  # the clauses that it asks, but for the ownership of handles
     is_refused: bool  # whether it may be refused by name
 
     @property
@@ -123,7 +123,7 @@ def read_table(source, page):
         method = each["method"]
         name = NAMES.get(method, method)
         if name not in said:
-            raise SystemExit(f"docs/CALLS.md: no row for {name}")
+            raise SystemExit(f"docs/use/CALLS.md: no line for {name}")
         meaning, conditions, is_refused = said[name]
         calls.append(
             Call(
@@ -143,36 +143,18 @@ def read_table(source, page):
 
 # Calls whose name in Rust is another.
 NAMES = {"file_is_plain": "is_plain"}
-NEVER = "; never refused by name"
-ROW = re.compile(r"^\| `(?:helpers::)?(\w+)\(.*?\)(?: -> ([^`]+))?` \|[^|]*\| (.*?) \| (.*?) ?\|$")
+NEVER = "Never refused by name"
+LINE = re.compile(r"^- `(?:helpers::)?(\w+)\(.*?\)(?: -> ([^`]+))?`: (.*?)(?: \[((?:`[^`]*`|[^`\[\]])*)\])?$")
+SENTENCES = re.compile(r"(?<=[^.])\. (?=[A-Z`])")
 
 
 def read_page(page):
     """For each call by its name in Rust its meaning, its conditions, and whether it may be refused."""
     said = {}
     for line in page.splitlines():
-        row = ROW.match(line.replace("\\|", "\0"))
-        if row:
-            name, answer, meaning, conditions = (
-                (part or "").replace("\0", "|") for part in row.groups()
-            )
-            may_refuse = answer.startswith("V ") and NEVER not in meaning
-            said[name] = (in_words(meaning), rest(conditions), may_refuse)
+        if found := LINE.match(line):
+            name, answer, words, clauses = found.groups()
+            meaning, *refusals = SENTENCES.split(words)
+            conditions = tuple(re.findall(r"`([^`]*)`", clauses or ""))
+            said[name] = (meaning, conditions, (answer or "").startswith("V ") and NEVER not in refusals)
     return said
-
-
-def in_words(contract):
-    """A contract without the names of its definitions, which end it."""
-    kept = []
-    for part in contract.replace(NEVER, "").split("; "):
-        without_names = re.sub(r"`[^`]*`", "", part)
-        if kept and part.startswith(("where it is plain", "where the file is plain")):
-            break
-        if not kept or not re.fullmatch(r"[\s,]*(clauses?)?[\s,]*(clauses?)?[\s,]*", without_names):
-            kept.append(part)
-    return "; ".join(kept)
-
-
-def rest(conditions):
-    """Conditions but for the ownership of handles, which each call has."""
-    return re.sub(r"^`owns`(, )?", "", conditions)

@@ -1,4 +1,4 @@
-"""Writes lists of calls for `vast_replay` (docs/LISTS.md has the form); only Python's standard library.
+"""Writes lists of calls for `vast_replay` (docs/use/LISTS.md has the form); only Python's standard library.
 
     design = List()
     counter = design.AddModule("counter")

@@ -1,4 +1,4 @@
-"""The lines of a list of calls that are not in the form of docs/LISTS.md, by a reader of its own.
+"""The lines of a list of calls that are not in the form of docs/use/LISTS.md, by a reader of its own.
 
 It knows the calls of the lists that `inputs` damages, and no others.
 """

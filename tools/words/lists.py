@@ -1,4 +1,4 @@
-"""Lists and what `vast_replay` tells of them, written by hand from docs/LISTS.md: a row for each mistake."""
+"""Lists and what `vast_replay` tells of them, written by hand from docs/use/LISTS.md: a row for each mistake."""
 
 # What most lists begin with: a module, a type and a port.
 HEAD = 'm = AddModule "m"\nbit = MakeScalarType\na = AddInput m "a" bit\n'

@@ -1,5 +1,5 @@
 #!/usr/bin/env python3
-"""The counter of docs/LISTS.md."""
+"""The counter of docs/use/LISTS.md."""
 from vast import File, RegisterDefinition, Reset
 
 

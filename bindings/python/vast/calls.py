@@ -59,131 +59,131 @@ class Calls(Core):
         return f"[ {self._value(given.signal)} {truth(given.active_low)} ]"
 
     def make_not(self, expression: Operand) -> Expr:
-        """`~a`, the node of `make_bitwise_not`."""
+        """The bitwise complement `~a`, as `make_bitwise_not` makes it."""
         return Expr(self, self._later(f"MakeNot {self._value(expression)}"))
 
     def make_bitwise_not(self, expression: Operand) -> Expr:
-        """`~a`."""
+        """The bitwise complement `~a`."""
         return Expr(self, self._later(f"MakeBitwiseNot {self._value(expression)}"))
 
     def make_negate(self, expression: Operand) -> Expr:
-        """`-a`."""
+        """The negation `-a`."""
         return Expr(self, self._later(f"MakeNegate {self._value(expression)}"))
 
     def make_logical_not(self, expression: Operand) -> Expr:
-        """`!a`."""
+        """The logical complement `!a`."""
         return Expr(self, self._later(f"MakeLogicalNot {self._value(expression)}"))
 
     def make_and_reduce(self, expression: Operand) -> Expr:
-        """`&a`."""
+        """The AND of all bits, `&a`."""
         return Expr(self, self._later(f"MakeAndReduce {self._value(expression)}"))
 
     def make_or_reduce(self, expression: Operand) -> Expr:
-        """`|a`."""
+        """The OR of all bits, `|a`."""
         return Expr(self, self._later(f"MakeOrReduce {self._value(expression)}"))
 
     def make_xor_reduce(self, expression: Operand) -> Expr:
-        """`^a`."""
+        """The XOR of all bits, `^a`."""
         return Expr(self, self._later(f"MakeXorReduce {self._value(expression)}"))
 
     def make_add(self, lhs: Operand, rhs: Operand) -> Expr:
-        """`a + b`."""
+        """The sum `a + b`."""
         return Expr(self, self._later(f"MakeAdd {self._value(lhs)} {self._value(rhs)}"))
 
     def make_sub(self, lhs: Operand, rhs: Operand) -> Expr:
-        """`a - b`."""
+        """The difference `a - b`."""
         return Expr(self, self._later(f"MakeSub {self._value(lhs)} {self._value(rhs)}"))
 
     def make_mul(self, lhs: Operand, rhs: Operand) -> Expr:
-        """`a * b`."""
+        """The product `a * b`."""
         return Expr(self, self._later(f"MakeMul {self._value(lhs)} {self._value(rhs)}"))
 
     def make_div(self, lhs: Operand, rhs: Operand) -> Expr:
-        """`a / b`."""
+        """The quotient `a / b`."""
         return Expr(self, self._later(f"MakeDiv {self._value(lhs)} {self._value(rhs)}"))
 
     def make_mod(self, lhs: Operand, rhs: Operand) -> Expr:
-        """`a % b`."""
+        """The remainder `a % b`."""
         return Expr(self, self._later(f"MakeMod {self._value(lhs)} {self._value(rhs)}"))
 
     def make_power(self, lhs: Operand, rhs: Operand) -> Expr:
-        """`a ** b`."""
+        """The power `a ** b`."""
         return Expr(self, self._later(f"MakePower {self._value(lhs)} {self._value(rhs)}"))
 
     def make_bitwise_and(self, lhs: Operand, rhs: Operand) -> Expr:
-        """`a & b`."""
+        """The bitwise AND `a & b`."""
         return Expr(self, self._later(f"MakeBitwiseAnd {self._value(lhs)} {self._value(rhs)}"))
 
     def make_bitwise_or(self, lhs: Operand, rhs: Operand) -> Expr:
-        """`a | b`."""
+        """The bitwise OR `a | b`."""
         return Expr(self, self._later(f"MakeBitwiseOr {self._value(lhs)} {self._value(rhs)}"))
 
     def make_bitwise_xor(self, lhs: Operand, rhs: Operand) -> Expr:
-        """`a ^ b`."""
+        """The bitwise XOR `a ^ b`."""
         return Expr(self, self._later(f"MakeBitwiseXor {self._value(lhs)} {self._value(rhs)}"))
 
     def make_shll(self, lhs: Operand, rhs: Operand) -> Expr:
-        """`a << b`."""
+        """The logical shift to the left, `a << b`."""
         return Expr(self, self._later(f"MakeShll {self._value(lhs)} {self._value(rhs)}"))
 
     def make_shra(self, lhs: Operand, rhs: Operand) -> Expr:
-        """`a >>> b`."""
+        """The arithmetic shift to the right, `a >>> b`."""
         return Expr(self, self._later(f"MakeShra {self._value(lhs)} {self._value(rhs)}"))
 
     def make_shrl(self, lhs: Operand, rhs: Operand) -> Expr:
-        """`a >> b`."""
+        """The logical shift to the right, `a >> b`."""
         return Expr(self, self._later(f"MakeShrl {self._value(lhs)} {self._value(rhs)}"))
 
     def make_ne(self, lhs: Operand, rhs: Operand) -> Expr:
-        """`a != b`."""
+        """The inequality `a != b`."""
         return Expr(self, self._later(f"MakeNe {self._value(lhs)} {self._value(rhs)}"))
 
     def make_case_ne(self, lhs: Operand, rhs: Operand) -> Expr:
-        """`a !== b`."""
+        """The inequality with unknown bits compared too, `a !== b`."""
         return Expr(self, self._later(f"MakeCaseNe {self._value(lhs)} {self._value(rhs)}"))
 
     def make_eq(self, lhs: Operand, rhs: Operand) -> Expr:
-        """`a == b`."""
+        """The equality `a == b`."""
         return Expr(self, self._later(f"MakeEq {self._value(lhs)} {self._value(rhs)}"))
 
     def make_case_eq(self, lhs: Operand, rhs: Operand) -> Expr:
-        """`a === b`."""
+        """The equality with unknown bits compared too, `a === b`."""
         return Expr(self, self._later(f"MakeCaseEq {self._value(lhs)} {self._value(rhs)}"))
 
     def make_ge(self, lhs: Operand, rhs: Operand) -> Expr:
-        """`a >= b`."""
+        """The comparison `a >= b`."""
         return Expr(self, self._later(f"MakeGe {self._value(lhs)} {self._value(rhs)}"))
 
     def make_gt(self, lhs: Operand, rhs: Operand) -> Expr:
-        """`a > b`."""
+        """The comparison `a > b`."""
         return Expr(self, self._later(f"MakeGt {self._value(lhs)} {self._value(rhs)}"))
 
     def make_le(self, lhs: Operand, rhs: Operand) -> Expr:
-        """`a <= b`."""
+        """The comparison `a <= b`."""
         return Expr(self, self._later(f"MakeLe {self._value(lhs)} {self._value(rhs)}"))
 
     def make_lt(self, lhs: Operand, rhs: Operand) -> Expr:
-        """`a < b`."""
+        """The comparison `a < b`."""
         return Expr(self, self._later(f"MakeLt {self._value(lhs)} {self._value(rhs)}"))
 
     def make_logical_and(self, lhs: Operand, rhs: Operand) -> Expr:
-        """`a && b`."""
+        """The logical AND `a && b`."""
         return Expr(self, self._later(f"MakeLogicalAnd {self._value(lhs)} {self._value(rhs)}"))
 
     def make_logical_or(self, lhs: Operand, rhs: Operand) -> Expr:
-        """`a || b`."""
+        """The logical OR `a || b`."""
         return Expr(self, self._later(f"MakeLogicalOr {self._value(lhs)} {self._value(rhs)}"))
 
     def make_ne_x(self, lhs: Operand, rhs: Operand) -> Expr:
-        """Written `a !== b`."""
+        """The inequality with an unknown value, written `a !== b`."""
         return Expr(self, self._later(f"MakeNeX {self._value(lhs)} {self._value(rhs)}"))
 
     def make_eq_x(self, lhs: Operand, rhs: Operand) -> Expr:
-        """Written `a === b`."""
+        """The equality with an unknown value, written `a === b`."""
         return Expr(self, self._later(f"MakeEqX {self._value(lhs)} {self._value(rhs)}"))
 
     def make_literal(self, text: str, format: LiteralFormat) -> Expr:
-        """The literal `bits[N]:value` in the format: refused as a text first, then by the format.
+        """The literal `bits[N]:value`, written in a format.
 
         `text`: `bits[WIDTH]:VALUE`, of 1 to 1,048,576 bits and a value below 2^128.
         Raises `Refused` where the text is no such literal, or the format doesn't hold its value.
@@ -191,7 +191,8 @@ class Calls(Core):
         return Expr(self, self._now(f"MakeLiteral {quoted(text)} {word(LiteralFormat, format)}"))
 
     def make_binary_pattern(self, bits_msb: str) -> Expr:
-        """A pattern, whose value isn't known.
+        """The binary pattern of these digits `0`, `1` and `?`, the most significant first, as wide
+        as they are many.
 
         `bits_msb`: digits `0`, `1` and `?`, the highest first.
         Raises `Refused` where there is another digit, none, or more than 1,048,576.
@@ -199,7 +200,7 @@ class Calls(Core):
         return Expr(self, self._now(f"MakeBinaryPattern {quoted(bits_msb)}"))
 
     def make_unsized_decimal_literal(self, value: int) -> Expr:
-        """The number in decimal."""
+        """The number in decimal, without a width; a negative one has its minus."""
         return Expr(self, self._later(f"MakeUnsizedDecimalLiteral {int32(value)}"))
 
     def make_string_literal(self, value: str) -> Expr:
@@ -207,19 +208,19 @@ class Calls(Core):
         return Expr(self, self._later(f"MakeStringLiteral {quoted(value)}"))
 
     def make_unsized_one_literal(self) -> Expr:
-        """`'1`, of value 1."""
+        """All ones, `'1`."""
         return Expr(self, self._later("MakeUnsizedOneLiteral"))
 
     def make_unsized_zero_literal(self) -> Expr:
-        """`'0`, of value 0."""
+        """All zeros, `'0`."""
         return Expr(self, self._later("MakeUnsizedZeroLiteral"))
 
     def make_unsized_x_literal(self) -> Expr:
-        """`'X`, without a value."""
+        """All bits unknown, `'X`."""
         return Expr(self, self._later("MakeUnsizedXLiteral"))
 
     def make_name(self, name: str) -> Expr:
-        """The bare name, printed as it is, without a type."""
+        """The bare name, which prints as it is and has no type."""
         return Expr(self, self._later(f"MakeName {quoted(name)}"))
 
     def make_indexable_expression(self, expression: Operand) -> IndexableExpr:
@@ -229,16 +230,17 @@ class Calls(Core):
         ))
 
     def make_slice(self, subject: Selectable, hi: int, lo: int) -> Slice:
-        """`s[hi:lo]` by numbers: two literals and the select.
+        """The range `s[hi:lo]` between two numbers, for which literals are made, that of `hi`
+        first.
 
         `hi`: a bit's or an element's number, from 0.
         `lo`: a bit's or an element's number, from 0.
-        Raises `Condition` unless: hi, lo at least 0.
+        Raises `Condition` unless: hi at least 0, lo at least 0.
         """
         return Slice(self, self._now(f"MakeSlice {self._subject(subject)} {int64(hi)} {int64(lo)}"))
 
     def make_index(self, subject: Selectable, index: int) -> Index:
-        """`s[index]` by a number: a literal and the select.
+        """The bit `s[index]`, by a number, for which a literal is made.
 
         `index`: a bit's or an element's number, from 0.
         Raises `Condition` unless: index at least 0.
@@ -246,7 +248,7 @@ class Calls(Core):
         return Index(self, self._now(f"MakeIndex {self._subject(subject)} {int64(index)}"))
 
     def make_slice_expr(self, subject: Selectable, hi: Operand, lo: Operand) -> Slice:
-        """`s[hi:lo]`.
+        """The range `s[hi:lo]` between two bounds that are expressions.
 
         `hi`: a bit's or an element's number.
         `lo`: a bit's or an element's number.
@@ -256,13 +258,13 @@ class Calls(Core):
         ))
 
     def make_index_expr(self, subject: Selectable, index: Operand) -> Index:
-        """`s[index]`."""
+        """The bit `s[index]`, by an expression."""
         return Index(self, self._later(
             f"MakeIndexExpr {self._subject(subject)} {self._value(index)}"
         ))
 
     def make_indexed_part_select(self, subject: Selectable, start: Operand, width: int) -> Expr:
-        """`s[start +: width]`.
+        """The range `s[start +: width]` of so many bits upwards.
 
         `width`: in bits, or in elements of an array.
         Raises `Condition` unless: width at least 1.
@@ -272,7 +274,7 @@ class Calls(Core):
         ))
 
     def make_function_call(self, name: str, arguments: Sequence[Operand]) -> Expr:
-        """`f(a, b)`.
+        """The call `f(a, b)` of a function of this name.
 
         Raises `Condition` unless: name not empty.
         """
@@ -281,17 +283,17 @@ class Calls(Core):
         ))
 
     def make_concat(self, expressions: Sequence[Operand]) -> Expr:
-        """`{a, b}`."""
+        """The concatenation `{a, b}`; there may be no parts."""
         return Expr(self, self._later(f"MakeConcat {listed(self._value, expressions)}"))
 
     def make_replicated_concat(self, replication: Operand, elements: Sequence[Operand]) -> Expr:
-        """`{n{a, b}}`."""
+        """The replicated concatenation `{n{a, b}}`."""
         return Expr(self, self._later(
             f"MakeReplicatedConcat {self._value(replication)} {listed(self._value, elements)}"
         ))
 
     def make_replicated_concat_i64(self, replication: int, elements: Sequence[Operand]) -> Expr:
-        """`{n{a, b}}` by a number: a decimal literal and the replication.
+        """The replicated concatenation by a number, for which a literal is made too.
 
         `replication`: how many times.
         """
@@ -300,71 +302,71 @@ class Calls(Core):
         ))
 
     def make_array_assignment_pattern(self, elements: Sequence[Operand]) -> Expr:
-        """`'{a, b}`."""
+        """The array assignment pattern `'{a, b}`."""
         return Expr(self, self._later(
             f"MakeArrayAssignmentPattern {listed(self._value, elements)}"
         ))
 
     def make_ternary(self, condition: Operand, consequent: Operand, alternate: Operand) -> Expr:
-        """`c ? a : b`."""
+        """The choice `c ? a : b`."""
         return Expr(self, self._later(
             f"MakeTernary {self._value(condition)} {self._value(consequent)}"
             f" {self._value(alternate)}"
         ))
 
     def make_width_cast(self, width: Operand, value: Operand) -> Expr:
-        """`w'(v)`."""
+        """The value, cast to a width: `w'(v)`."""
         return Expr(self, self._later(f"MakeWidthCast {self._value(width)} {self._value(value)}"))
 
     def make_type_cast(self, data_type: TypeLike, value: Operand) -> Expr:
-        """A cast to a type that is no array.
+        """The value, cast to a type that is no array; `type_can_be_cast` is the test.
 
         Raises `Condition` unless: `type_can_be_cast`.
         """
         return Expr(self, self._now(f"MakeTypeCast {self._type(data_type)} {self._value(value)}"))
 
     def make_pos_edge(self, expression: Operand) -> Expr:
-        """`posedge a`."""
+        """The event of a rising edge, `posedge a`."""
         return Expr(self, self._later(f"MakePosEdge {self._value(expression)}"))
 
     def make_neg_edge(self, expression: Operand) -> Expr:
-        """`negedge a`."""
+        """The event of a falling edge, `negedge a`."""
         return Expr(self, self._later(f"MakeNegEdge {self._value(expression)}"))
 
     def make_macro_ref(self, name: str) -> MacroRef:
-        """`` `M ``."""
+        """The use of a macro without arguments, `` `M ``."""
         return MacroRef(self, self._later(f"MakeMacroRef {quoted(name)}"))
 
     def make_macro_ref_with_args(self, name: str, arguments: Sequence[Operand]) -> MacroRef:
-        """`` `M(a, b) ``."""
+        """The use of a macro with arguments, `` `M(a, b) ``; there may be none."""
         return MacroRef(self, self._later(
             f"MakeMacroRefWithArgs {quoted(name)} {listed(self._value, arguments)}"
         ))
 
     def make_scalar_type(self) -> DataType:
-        """One bit."""
+        """The type of one bit."""
         return DataType(self, self._later("MakeScalarType"))
 
     def make_integer_type(self, signed: bool = False) -> DataType:
-        """`integer`."""
+        """Verilog's `integer`."""
         return DataType(self, self._later(f"MakeIntegerType {truth(signed)}"))
 
     def make_int_type(self, signed: bool = False) -> DataType:
-        """`int`."""
+        """SystemVerilog's `int`."""
         return DataType(self, self._later(f"MakeIntType {truth(signed)}"))
 
     def make_extern_type(self, name: str) -> DataType:
-        """A type that is declared elsewhere."""
+        """A type of this name that is declared elsewhere."""
         return DataType(self, self._later(f"MakeExternType {quoted(name)}"))
 
     def make_extern_package_type(self, package_name: str, name: str) -> DataType:
-        """A type of a package."""
+        """A type of this name that is declared in a package, `package::name`."""
         return DataType(self, self._later(
             f"MakeExternPackageType {quoted(package_name)} {quoted(name)}"
         ))
 
     def make_bit_vector_type(self, bit_count: int, signed: bool = False) -> DataType:
-        """So many bits; one bit is a scalar, more are a vector behind the literal of its width.
+        """The type of `bit_count` bits; of one bit it is a scalar.
 
         `bit_count`: in bits.
         Raises `Condition` unless: bit_count at least 1.
@@ -372,7 +374,7 @@ class Calls(Core):
         return DataType(self, self._now(f"MakeBitVectorType {int64(bit_count)} {truth(signed)}"))
 
     def make_bit_vector_type_expr(self, width: Operand, signed: bool = False) -> DataType:
-        """A vector of this width.
+        """The vector whose width is the expression; `width_is_usable` is the test.
 
         Raises `Condition` unless: `width_is_usable`.
         """
@@ -381,7 +383,7 @@ class Calls(Core):
         ))
 
     def make_packed_array_type(self, element: TypeLike, dimensions: Sequence[int]) -> DataType:
-        """A packed array, its dimensions from the outermost.
+        """The packed array of elements of a type, with its dimensions from the outermost.
 
         `dimensions`: numbers of elements, the outermost dimension first.
         Raises `Condition` unless: `type_can_be_packed`, at least one dimension, each at least 1.
@@ -391,7 +393,7 @@ class Calls(Core):
         ))
 
     def make_unpacked_array_type(self, element: TypeLike, dimensions: Sequence[int]) -> DataType:
-        """An unpacked array, its dimensions from the outermost.
+        """The unpacked array of elements of a type, with its dimensions from the outermost.
 
         `dimensions`: numbers of elements, the outermost dimension first.
         Raises `Condition` unless: at least one dimension, each at least 1.
@@ -401,23 +403,23 @@ class Calls(Core):
         ))
 
     def add_include(self, include: str) -> None:
-        """The inclusion of this path, as the last item."""
+        """The inclusion of the file at this path, as the last item of the file."""
         self._later(f"AddInclude {quoted(include)}")
 
     def add_blank_line(self, blank_line: BlankLine) -> None:
-        """A blank line, as the last item."""
+        """A blank line, as the last item of the file."""
         self._later(f"AddBlankLine {self._own(blank_line, BlankLine)}")
 
     def add_comment_text(self, text: str) -> None:
-        """A comment, as the last item."""
+        """A comment, as the last item of the file."""
         self._later(f"AddCommentText {quoted(text)}")
 
     def add_module(self, name: str) -> Module:
-        """An empty module, as the last item."""
+        """An empty module, as the last item of the file."""
         return Module(self, self._later(f"AddModule {quoted(name)}"))
 
     def add_input(self, owner: Module, name: str, data_type: TypeLike) -> LogicRef:
-        """An input, as the last port.
+        """An input, as the module's last port; answers its name as an expression.
 
         Raises `Condition` unless: `name_is_free`.
         """
@@ -426,7 +428,7 @@ class Calls(Core):
         ))
 
     def add_output(self, owner: Module, name: str, data_type: TypeLike) -> LogicRef:
-        """An output, as the last port.
+        """An output, as the module's last port; answers its name as an expression.
 
         Raises `Condition` unless: `name_is_free`.
         """
@@ -435,7 +437,7 @@ class Calls(Core):
         ))
 
     def add_inout(self, owner: Module, name: str, data_type: TypeLike) -> LogicRef:
-        """A port of both directions, as the last port.
+        """A port of both directions, as the module's last port.
 
         Raises `Condition` unless: `name_is_free`.
         """
@@ -444,7 +446,7 @@ class Calls(Core):
         ))
 
     def add_logic_input(self, owner: Module, name: str, data_type: TypeLike) -> LogicRef:
-        """An input with the word `logic`, as the last port.
+        """An input that is declared with the word `logic`, as the module's last port.
 
         Raises `Condition` unless: `name_is_free`.
         """
@@ -453,7 +455,7 @@ class Calls(Core):
         ))
 
     def add_logic_output(self, owner: Module, name: str, data_type: TypeLike) -> LogicRef:
-        """An output with the word `logic`, as the last port.
+        """An output that is declared with the word `logic`, as the module's last port.
 
         Raises `Condition` unless: `name_is_free`.
         """
@@ -462,7 +464,7 @@ class Calls(Core):
         ))
 
     def add_wire(self, owner: Module, name: str, data_type: TypeLike) -> LogicRef:
-        """A wire.
+        """A wire, as the module's last member; answers its name as an expression.
 
         Raises `Condition` unless: `name_is_free`.
         """
@@ -471,7 +473,7 @@ class Calls(Core):
         ))
 
     def add_reg(self, owner: Module, name: str, data_type: TypeLike) -> LogicRef:
-        """A reg, or the name is taken.
+        """A reg, as the module's last member; answers its name as an expression.
 
         Raises `Refused` where the module has the name.
         """
@@ -480,7 +482,7 @@ class Calls(Core):
         ))
 
     def add_logic(self, owner: Module, name: str, data_type: TypeLike) -> LogicRef:
-        """A logic, or the name is taken.
+        """A logic, as the module's last member; answers its name as an expression.
 
         Raises `Refused` where the module has the name.
         """
@@ -489,7 +491,7 @@ class Calls(Core):
         ))
 
     def add_parameter_port(self, owner: Module, name: str, value: Operand) -> LogicRef:
-        """A parameter without a type, in the header."""
+        """A parameter without a type, as the last of the module's header."""
         return LogicRef(self, self._later(
             f"AddParameterPort {self._own(owner, Module)} {quoted(name)} {self._value(value)}"
         ))
@@ -501,47 +503,47 @@ class Calls(Core):
         data_type: TypeLike,
         value: Operand,
     ) -> LogicRef:
-        """A parameter of this type, in the header."""
+        """A parameter of this type, as the last of the module's header."""
         return LogicRef(self, self._later(
             f"AddTypedParameterPort {self._own(owner, Module)} {quoted(name)}"
             f" {self._type(data_type)} {self._value(value)}"
         ))
 
     def add_parameter(self, owner: Module, name: str, rhs: Operand) -> ParameterRef:
-        """`parameter NAME = VALUE`."""
+        """`parameter NAME = VALUE`, as the module's last member; answers its name."""
         return ParameterRef(self, self._later(
             f"AddParameter {self._own(owner, Module)} {quoted(name)} {self._value(rhs)}"
         ))
 
     def add_parameter_with_def(self, owner: Module, definition: Def, rhs: Operand) -> ParameterRef:
-        """A parameter as the definition declares it."""
+        """A parameter with the definition's kind, type and name, as the module's last member."""
         return ParameterRef(self, self._later(
             f"AddParameterWithDef {self._own(owner, Module)} {self._own(definition, Def)}"
             f" {self._value(rhs)}"
         ))
 
     def add_localparam(self, owner: Module, name: str, rhs: Operand) -> LocalparamRef:
-        """`localparam NAME = VALUE`."""
+        """`localparam NAME = VALUE`, as the module's last member; answers its name."""
         return LocalparamRef(self, self._later(
             f"AddLocalparam {self._own(owner, Module)} {quoted(name)} {self._value(rhs)}"
         ))
 
     def add_int_localparam(self, owner: Module, name: str, rhs: Operand) -> LocalparamRef:
-        """`localparam int NAME = VALUE`."""
+        """`localparam int NAME = VALUE`, as the module's last member; answers its name."""
         return LocalparamRef(self, self._later(
             f"AddIntLocalparam {self._own(owner, Module)} {quoted(name)} {self._value(rhs)}"
         ))
 
     def add_typed_localparam(self, owner: Module, definition: Def, rhs: Operand) -> LocalparamRef:
-        """A local parameter as the definition declares it."""
+        """A local parameter with the definition's kind, type and name, as the module's last member."""
         return LocalparamRef(self, self._later(
             f"AddTypedLocalparam {self._own(owner, Module)} {self._own(definition, Def)}"
             f" {self._value(rhs)}"
         ))
 
     def hoist_module_declarations(self, owner: Module, start: int) -> None:
-        """The first `start` members stay, then come the wires, regs and logics of the rest, then
-        its other members.
+        """Puts the module's wires, regs and logics from the member `start` on before the other
+        members from there on.
 
         `start`: in members, from 0.
         Raises `Condition` unless: start at most `module_member_count`.
@@ -556,7 +558,7 @@ class Calls(Core):
         end: Operand,
         label: Optional[str] = None,
     ) -> GenerateLoop:
-        """A loop without members, as the module's last member.
+        """A generate loop without members, as the module's last member.
 
         `label`: of the loop's block; `None` for no label.
         """
@@ -573,7 +575,7 @@ class Calls(Core):
         end: Operand,
         label: Optional[str] = None,
     ) -> GenerateLoop:
-        """A loop without members, in the loop `parent`.
+        """A generate loop without members, as the last member of the loop `parent`.
 
         `label`: of the loop's block; `None` for no label.
         """
@@ -583,11 +585,11 @@ class Calls(Core):
         ))
 
     def generate_genvar(self, generate: GenerateLoop) -> LogicRef:
-        """The loop's variable as an expression."""
+        """The loop's variable as an expression, which is the file's."""
         return LogicRef(self, self._later(f"GenerateGenvar {self._own(generate, GenerateLoop)}"))
 
     def generate_add_always_comb(self, generate: GenerateLoop) -> AlwaysBase:
-        """`always_comb`, as the loop's last member."""
+        """An `always_comb` with an empty block, as the loop's last member."""
         return AlwaysBase(self, self._later(
             f"GenerateAddAlwaysComb {self._own(generate, GenerateLoop)}"
         ))
@@ -597,7 +599,7 @@ class Calls(Core):
         generate: GenerateLoop,
         sensitivity_list: Sequence[Operand],
     ) -> AlwaysBase:
-        """`always_ff`, as the loop's last member.
+        """An `always_ff` with these events and an empty block, as the loop's last member.
 
         `sensitivity_list`: edges, or names.
         Raises `Refused` where an event is neither an edge nor a name.
@@ -612,7 +614,7 @@ class Calls(Core):
         generate: GenerateLoop,
         sensitivity_list: Sequence[Operand],
     ) -> AlwaysBase:
-        """`always @`, as the loop's last member.
+        """An `always @` with these events and an empty block, as the loop's last member.
 
         `sensitivity_list`: edges, or names.
         Raises `Refused` where an event is neither an edge nor a name.
@@ -628,7 +630,7 @@ class Calls(Core):
         name: str,
         rhs: Operand,
     ) -> LocalparamRef:
-        """`localparam NAME = VALUE`; its name."""
+        """`localparam NAME = VALUE`, as the loop's last member; answers its name."""
         return LocalparamRef(self, self._later(
             f"GenerateAddLocalparam {self._own(generate, GenerateLoop)} {quoted(name)}"
             f" {self._value(rhs)}"
@@ -640,7 +642,7 @@ class Calls(Core):
         definition: Def,
         rhs: Operand,
     ) -> LocalparamRef:
-        """A local parameter as the definition declares it; its name."""
+        """A local parameter with the definition's kind, type and name, as the loop's last member."""
         return LocalparamRef(self, self._later(
             f"GenerateAddTypedLocalparam {self._own(generate, GenerateLoop)}"
             f" {self._own(definition, Def)} {self._value(rhs)}"
@@ -652,24 +654,24 @@ class Calls(Core):
         lhs: Operand,
         rhs: Operand,
     ) -> Statement:
-        """`assign l = r`."""
+        """The assignment `assign lhs = rhs`, as the loop's last member."""
         return Statement(self, self._later(
             f"GenerateAddContinuousAssignment {self._own(generate, GenerateLoop)}"
             f" {self._value(lhs)} {self._value(rhs)}"
         ))
 
     def generate_add_conditional(self, generate: GenerateLoop, condition: Operand) -> Conditional:
-        """`if` with an empty block."""
+        """A conditional with an empty block, as the loop's last member."""
         return Conditional(self, self._later(
             f"GenerateAddConditional {self._own(generate, GenerateLoop)} {self._value(condition)}"
         ))
 
     def generate_add_blank_line(self, generate: GenerateLoop) -> None:
-        """A blank line."""
+        """A blank line, as the loop's last member."""
         self._later(f"GenerateAddBlankLine {self._own(generate, GenerateLoop)}")
 
     def generate_add_comment(self, generate: GenerateLoop, comment: Comment) -> None:
-        """The comment."""
+        """The comment, as the loop's last member."""
         self._later(
             f"GenerateAddComment {self._own(generate, GenerateLoop)} {self._own(comment, Comment)}"
         )
@@ -679,7 +681,7 @@ class Calls(Core):
         generate: GenerateLoop,
         instantiation: Instantiation,
     ) -> None:
-        """The instantiation."""
+        """The instantiation, as the loop's last member."""
         self._later(
             f"GenerateAddInstantiation {self._own(generate, GenerateLoop)}"
             f" {self._own(instantiation, Instantiation)}"
@@ -690,7 +692,7 @@ class Calls(Core):
         generate: GenerateLoop,
         statement: InlineVerilogStatement,
     ) -> None:
-        """The text."""
+        """The text, as the loop's last member."""
         self._later(
             f"GenerateAddInlineStatement {self._own(generate, GenerateLoop)}"
             f" {self._own(statement, InlineVerilogStatement)}"
@@ -701,14 +703,14 @@ class Calls(Core):
         generate: GenerateLoop,
         statement: MacroStatement,
     ) -> None:
-        """The use of a macro."""
+        """The use of a macro, as the loop's last member."""
         self._later(
             f"GenerateAddMacroStatement {self._own(generate, GenerateLoop)}"
             f" {self._own(statement, MacroStatement)}"
         )
 
     def add_function(self, owner: Module, name: str, result_type: TypeLike) -> Function:
-        """A function with an empty body, as the last member.
+        """A function without inputs and locals and with an empty body, as the module's last member.
 
         Raises `Refused` where the result is an unpacked array, or the module has the name.
         """
@@ -717,7 +719,7 @@ class Calls(Core):
         ))
 
     def function_add_input(self, function: Function, name: str, data_type: TypeLike) -> LogicRef:
-        """An input with the word `reg`, as the last; its name as an expression.
+        """An input of this type with the kind word `reg`, as the function's last.
 
         Raises `Refused` where the function has the name.
         """
@@ -732,7 +734,7 @@ class Calls(Core):
         name: str,
         data_type: TypeLike,
     ) -> LogicRef:
-        """An input with the word `logic`, as the last; its name as an expression.
+        """An input of this type with the kind word `logic`, as the function's last.
 
         Raises `Refused` where the function has the name.
         """
@@ -742,7 +744,7 @@ class Calls(Core):
         ))
 
     def function_add_reg(self, function: Function, name: str, data_type: TypeLike) -> LogicRef:
-        """A reg, as the last local; its name as an expression.
+        """A reg, as the function's last local; answers its name as an expression.
 
         Raises `Refused` where the function has the name.
         """
@@ -751,7 +753,7 @@ class Calls(Core):
         ))
 
     def function_add_logic(self, function: Function, name: str, data_type: TypeLike) -> LogicRef:
-        """A logic, as the last local; its name as an expression.
+        """A logic, as the function's last local; answers its name as an expression.
 
         Raises `Refused` where the function has the name.
         """
@@ -761,15 +763,17 @@ class Calls(Core):
         ))
 
     def function_body(self, function: Function) -> StatementBlock:
-        """Its body."""
+        """The function's body, which is the file's."""
         return StatementBlock(self, self._later(f"FunctionBody {self._own(function, Function)}"))
 
     def function_result(self, function: Function) -> LogicRef:
-        """Its result's name as an expression."""
+        """The name to which the body assigns the function's result, as an expression, which is the
+        file's.
+        """
         return LogicRef(self, self._later(f"FunctionResult {self._own(function, Function)}"))
 
     def add_always_ff(self, owner: Module, sensitivity_list: Sequence[Operand]) -> AlwaysBase:
-        """`always_ff`, as the module's last member.
+        """An `always_ff` with these events and an empty block, as the module's last member.
 
         `sensitivity_list`: edges, or names.
         Raises `Refused` where an event is neither an edge nor a name.
@@ -779,7 +783,7 @@ class Calls(Core):
         ))
 
     def add_always_at(self, owner: Module, sensitivity_list: Sequence[Operand]) -> AlwaysBase:
-        """`always @`, as the module's last member.
+        """An `always @` with these events and an empty block, as the module's last member.
 
         `sensitivity_list`: edges, or names.
         Raises `Refused` where an event is neither an edge nor a name.
@@ -789,11 +793,11 @@ class Calls(Core):
         ))
 
     def add_always_comb(self, owner: Module) -> AlwaysBase:
-        """`always_comb`, as the module's last member."""
+        """An `always_comb` with an empty block, as the module's last member."""
         return AlwaysBase(self, self._later(f"AddAlwaysComb {self._own(owner, Module)}"))
 
     def statement_block(self, always: AlwaysBase) -> StatementBlock:
-        """The block of an always block."""
+        """The block of the always block, which is the file's."""
         return StatementBlock(self, self._later(f"StatementBlock {self._own(always, AlwaysBase)}"))
 
     def block_add_blocking_assignment(
@@ -802,7 +806,7 @@ class Calls(Core):
         lhs: Operand,
         rhs: Operand,
     ) -> Statement:
-        """`l = r`."""
+        """The assignment `lhs = rhs`, as the block's last statement."""
         return Statement(self, self._later(
             f"BlockAddBlockingAssignment {self._own(block, StatementBlock)} {self._value(lhs)}"
             f" {self._value(rhs)}"
@@ -814,7 +818,7 @@ class Calls(Core):
         lhs: Operand,
         rhs: Operand,
     ) -> Statement:
-        """`l <= r`."""
+        """The assignment `lhs <= rhs`, as the block's last statement."""
         return Statement(self, self._later(
             f"BlockAddNonblockingAssignment {self._own(block, StatementBlock)} {self._value(lhs)}"
             f" {self._value(rhs)}"
@@ -826,38 +830,38 @@ class Calls(Core):
         lhs: Operand,
         rhs: Operand,
     ) -> Statement:
-        """`assign l = r`."""
+        """The assignment `assign lhs = rhs`, as the block's last statement."""
         return Statement(self, self._later(
             f"BlockAddContinuousAssignment {self._own(block, StatementBlock)} {self._value(lhs)}"
             f" {self._value(rhs)}"
         ))
 
     def block_add_comment_text(self, block: StatementBlock, text: str) -> None:
-        """A comment."""
+        """A comment, as the block's last statement."""
         self._later(f"BlockAddCommentText {self._own(block, StatementBlock)} {quoted(text)}")
 
     def block_add_inline_text(self, block: StatementBlock, text: str) -> None:
-        """A text that is written as it is."""
+        """A text that is written as it is, as the block's last statement."""
         self._later(f"BlockAddInlineText {self._own(block, StatementBlock)} {quoted(text)}")
 
     def block_add_blank_line(self, block: StatementBlock) -> None:
-        """A blank line."""
+        """A blank line, as the block's last statement."""
         self._later(f"BlockAddBlankLine {self._own(block, StatementBlock)}")
 
     def add_conditional(self, owner: Module, condition: Operand) -> Conditional:
-        """`if` with an empty block, as the module's last member."""
+        """A conditional with an empty block, as the module's last member."""
         return Conditional(self, self._later(
             f"AddConditional {self._own(owner, Module)} {self._value(condition)}"
         ))
 
     def block_add_cond(self, block: StatementBlock, condition: Operand) -> Conditional:
-        """`if` with an empty block, as the block's last statement."""
+        """A conditional with an empty block, as the block's last statement."""
         return Conditional(self, self._later(
             f"BlockAddCond {self._own(block, StatementBlock)} {self._value(condition)}"
         ))
 
     def conditional_then_block(self, conditional: Conditional) -> StatementBlock:
-        """The block of the first arm."""
+        """The block of the conditional's first arm, which is the file's."""
         return StatementBlock(self, self._later(
             f"ConditionalThenBlock {self._own(conditional, Conditional)}"
         ))
@@ -867,7 +871,7 @@ class Calls(Core):
         conditional: Conditional,
         condition: Operand,
     ) -> StatementBlock:
-        """An arm `else if`, as the last; its block.
+        """An arm `else if` with an empty block, as the conditional's last.
 
         Raises `Condition` unless: not `conditional_has_else`.
         """
@@ -876,7 +880,7 @@ class Calls(Core):
         ))
 
     def conditional_add_else(self, conditional: Conditional) -> StatementBlock:
-        """The `else`; its block.
+        """The conditional's `else` with an empty block; answers the block.
 
         Raises `Condition` unless: not `conditional_has_else`.
         """
@@ -885,42 +889,42 @@ class Calls(Core):
         ))
 
     def block_add_case(self, block: StatementBlock, selector: Operand) -> CaseStatement:
-        """`case` without arms, as the block's last statement."""
+        """A `case` statement without arms, as the block's last statement."""
         return CaseStatement(self, self._later(
             f"BlockAddCase {self._own(block, StatementBlock)} {self._value(selector)}"
         ))
 
     def block_add_casez(self, block: StatementBlock, selector: Operand) -> CaseStatement:
-        """`casez` without arms, as the block's last statement."""
+        """A `casez` statement without arms, as the block's last statement."""
         return CaseStatement(self, self._later(
             f"BlockAddCasez {self._own(block, StatementBlock)} {self._value(selector)}"
         ))
 
     def block_add_casex(self, block: StatementBlock, selector: Operand) -> CaseStatement:
-        """`casex` without arms, as the block's last statement."""
+        """A `casex` statement without arms, as the block's last statement."""
         return CaseStatement(self, self._later(
             f"BlockAddCasex {self._own(block, StatementBlock)} {self._value(selector)}"
         ))
 
     def case_add_item(self, case: CaseStatement, pattern: Operand) -> StatementBlock:
-        """An arm with this label, as the last; its block."""
+        """An arm with this label and an empty block, as the case statement's last."""
         return StatementBlock(self, self._later(
             f"CaseAddItem {self._own(case, CaseStatement)} {self._value(pattern)}"
         ))
 
     def case_add_default(self, case: CaseStatement) -> StatementBlock:
-        """An arm `default`, as the last; its block."""
+        """A `default` arm with an empty block, as the case statement's last."""
         return StatementBlock(self, self._later(f"CaseAddDefault {self._own(case, CaseStatement)}"))
 
     def case_set_unique(self, case: CaseStatement, unique: bool = True) -> None:
-        """`unique` or not; `unique` is refused in Verilog.
+        """Makes the case statement `unique`, or not.
 
         Raises `Refused` for `True` in Verilog.
         """
         self._now(f"CaseSetUnique {self._own(case, CaseStatement)} {truth(unique)}")
 
     def make_def(self, name: str, kind: DataKind, data_type: TypeLike) -> Def:
-        """A name with its kind and type."""
+        """A declaration's kind, type and name, which parameters can be made with."""
         return Def(self, self._later(
             f"MakeDef {quoted(name)} {word(DataKind, kind)} {self._type(data_type)}"
         ))
@@ -930,35 +934,35 @@ class Calls(Core):
         return BlankLine(self, self._later("MakeBlankLine"))
 
     def make_comment(self, text: str) -> Comment:
-        """A comment."""
+        """A comment; each line of the text becomes a line `// ..`."""
         return Comment(self, self._later(f"MakeComment {quoted(text)}"))
 
     def make_inline_verilog_statement(self, text: str) -> InlineVerilogStatement:
-        """A text that is written as it is."""
+        """A text that is written as it is, with the depth of the place before each of its lines."""
         return InlineVerilogStatement(self, self._later(
             f"MakeInlineVerilogStatement {quoted(text)}"
         ))
 
     def make_macro_statement(self, macro_ref: MacroRef, semicolon: bool = True) -> MacroStatement:
-        """The use of a macro, with a semicolon or without."""
+        """The use of a macro as a member, with a semicolon or without."""
         return MacroStatement(self, self._later(
             f"MakeMacroStatement {self._own(macro_ref, MacroRef)} {truth(semicolon)}"
         ))
 
     def make_continuous_assignment(self, lhs: Operand, rhs: Operand) -> ContinuousAssignment:
-        """`assign l = r`."""
+        """The assignment `assign lhs = rhs`."""
         return ContinuousAssignment(self, self._later(
             f"MakeContinuousAssignment {self._value(lhs)} {self._value(rhs)}"
         ))
 
     def make_nonblocking_assignment(self, lhs: Operand, rhs: Operand) -> Statement:
-        """`l <= r`."""
+        """The procedural assignment `lhs <= rhs`."""
         return Statement(self, self._later(
             f"MakeNonblockingAssignment {self._value(lhs)} {self._value(rhs)}"
         ))
 
     def make_blocking_assignment(self, lhs: Operand, rhs: Operand) -> Statement:
-        """`l = r`."""
+        """The procedural assignment `lhs = rhs`."""
         return Statement(self, self._later(
             f"MakeBlockingAssignment {self._value(lhs)} {self._value(rhs)}"
         ))
@@ -972,10 +976,12 @@ class Calls(Core):
         connection_names: Sequence[str],
         connection_expressions: Sequence[Optional[Operand]],
     ) -> Instantiation:
-        """An instance: each name with the expression at its place, an open port with none.
+        """An instance of a module, with an expression for each named parameter, and for each named
+        port an expression or none, which leaves it open.
 
         `connection_expressions`: `None` leaves the port open.
-        Raises `Condition` unless: names and expressions of one length, twice.
+        Raises `Condition` unless: as many parameters as their names, as many connections as
+        their names.
         """
         return Instantiation(self, self._now(
             f"MakeInstantiation {quoted(module_name)} {quoted(instance_name)}"
@@ -985,7 +991,7 @@ class Calls(Core):
         ))
 
     def add_member_instantiation(self, owner: Module, instantiation: Instantiation) -> None:
-        """The instantiation, as the last member."""
+        """The instantiation, as the module's last member."""
         self._later(
             f"AddMemberInstantiation {self._own(owner, Module)}"
             f" {self._own(instantiation, Instantiation)}"
@@ -996,29 +1002,29 @@ class Calls(Core):
         owner: Module,
         assignment: ContinuousAssignment,
     ) -> None:
-        """The assignment, as the last member."""
+        """The assignment, as the module's last member."""
         self._later(
             f"AddMemberContinuousAssignment {self._own(owner, Module)}"
             f" {self._own(assignment, ContinuousAssignment)}"
         )
 
     def add_member_blank_line(self, owner: Module, blank: BlankLine) -> None:
-        """A blank line, as the last member."""
+        """A blank line, as the module's last member."""
         self._later(f"AddMemberBlankLine {self._own(owner, Module)} {self._own(blank, BlankLine)}")
 
     def add_member_comment(self, owner: Module, comment: Comment) -> None:
-        """The comment, as the last member."""
+        """The comment, as the module's last member."""
         self._later(f"AddMemberComment {self._own(owner, Module)} {self._own(comment, Comment)}")
 
     def add_member_inline_statement(self, owner: Module, statement: InlineVerilogStatement) -> None:
-        """The text, as the last member."""
+        """The text, as the module's last member."""
         self._later(
             f"AddMemberInlineStatement {self._own(owner, Module)}"
             f" {self._own(statement, InlineVerilogStatement)}"
         )
 
     def add_member_macro_statement(self, owner: Module, statement: MacroStatement) -> None:
-        """The use of a macro, as the last member."""
+        """The use of a macro, as the module's last member."""
         self._later(
             f"AddMemberMacroStatement {self._own(owner, Module)}"
             f" {self._own(statement, MacroStatement)}"
@@ -1029,7 +1035,7 @@ class Calls(Core):
         return read_truth(self._ask(f"?ConditionalHasElse {self._own(conditional, Conditional)}"))
 
     def emit_expression(self, e: Operand) -> str:
-        """The text of the expression, or its first refusal.
+        """The text of one expression.
 
         Raises `Refused` where an index or a slice of a named scalar has a bound that is no
         literal 0.
@@ -1047,27 +1053,27 @@ class Calls(Core):
         return read_truth(self._ask(f"?IsSystemVerilogKeyword {quoted(identifier)}"))
 
     def logic_ref_name(self, logic_ref: LogicRef) -> str:
-        """The name that it is."""
+        """The name that the expression is."""
         return self._ask(f"?LogicRefName {self._own(logic_ref, LogicRef)}")
 
     def module_input_ports(self, owner: Module) -> List[Port]:
-        """Its inputs in order."""
+        """The module's inputs, in order."""
         return read_ports(self._ask(f"?ModuleInputPorts {self._own(owner, Module)}"))
 
     def module_member_count(self, owner: Module) -> int:
-        """The number of its members."""
+        """How many members the module has: where its next member will stand."""
         return read_number(self._ask(f"?ModuleMemberCount {self._own(owner, Module)}"))
 
     def module_name(self, owner: Module) -> str:
-        """Its name."""
+        """The module's name."""
         return self._ask(f"?ModuleName {self._own(owner, Module)}")
 
     def module_output_ports(self, owner: Module) -> List[Port]:
-        """Its outputs in order."""
+        """The module's outputs, in order."""
         return read_ports(self._ask(f"?ModuleOutputPorts {self._own(owner, Module)}"))
 
     def module_ports(self, owner: Module) -> List[Port]:
-        """Its ports in order."""
+        """The module's ports, in order."""
         return read_ports(self._ask(f"?ModulePorts {self._own(owner, Module)}"))
 
     def name_is_free(self, owner: Module, name: str) -> bool:
@@ -1101,7 +1107,7 @@ class Calls(Core):
         return read_number(self._ask(f"?TypeWidthAsInt64 {self._type(data_type)}"))
 
     def type_width_expr(self, data_type: TypeLike) -> Optional[str]:
-        """The width of the vector within the arrays, if one is."""
+        """The width of the vector within the arrays; `None` where no vector is within."""
         return read_optional(self._ask(f"?TypeWidthExpr {self._type(data_type)}"))
 
     def width_is_usable(self, width: Operand) -> bool:
@@ -1115,8 +1121,7 @@ class Calls(Core):
         registers: Sequence[RegisterDefinition],
         scope: RegisterScope,
     ) -> None:
-        """One `always_ff`, last in its scope, by which each register takes its value; a reset value
-        without a reset is refused; all else is as before; no registers change nothing.
+        """One `always_ff` at the rising edge of the clock, as the last member of the scope.
 
         Raises `Refused` where a register has a value at reset and there is no reset.
         """
@@ -1127,7 +1132,7 @@ class Calls(Core):
         )
 
     def bitwise_or_reduce(self, values: Sequence[Operand]) -> Expr:
-        """`a | b | c`, of none `'0`."""
+        """The values joined by `|`, as `a | b | c`, and `'0` where there are none."""
         return Expr(self, self._now(f"!BitwiseOrReduce {listed(self._value, values)}"))
 
     def bitwise_or_reduce_array_elements(
@@ -1135,7 +1140,8 @@ class Calls(Core):
         value: Selectable,
         dimensions: Sequence[int],
     ) -> Expr:
-        """All elements joined by `|`, those of the first slot first, or the first check that fails.
+        """All elements of a packed array of these dimensions joined by `|`, those of its first slot
+        first, as `a[0][0] | a[0][1] | a[1][0] | a[1][1]`.
 
         `dimensions`: numbers of elements, the outermost dimension first.
         Raises `Refused` where there is no dimension, one is 0, or they aren't the value's.
@@ -1145,13 +1151,13 @@ class Calls(Core):
         ))
 
     def logical_and_reduce(self, values: Sequence[Operand], invert: bool = False) -> Expr:
-        """`a && b && c`, of none `1'h1`; inverted one `!` over the whole, of none `1'h0`."""
+        """The values joined by `&&`, as `a && b && c`, and `1'h1` where there are none."""
         return Expr(self, self._now(
             f"!LogicalAndReduce {listed(self._value, values)} {truth(invert)}"
         ))
 
     def logical_or_reduce(self, values: Sequence[Operand], invert: bool = False) -> Expr:
-        """`a || b || c`, of none `1'h0`; inverted one `!` over the whole, of none `1'h1`."""
+        """The values joined by `||`, as `a || b || c`, and `1'h0` where there are none."""
         return Expr(self, self._now(
             f"!LogicalOrReduce {listed(self._value, values)} {truth(invert)}"
         ))

@@ -31,7 +31,7 @@ class FileType(enum.Enum):
 class File(Calls):
     """A file of Verilog or SystemVerilog, which the proved library builds and prints.
 
-    Each call that lists have is a method of its name; `docs/CALLS.md` says what it does. A call answers a handle, and calls take
+    Each call that lists have is a method of its name; `docs/use/CALLS.md` says what it does. A call answers a handle, and calls take
     handles of this file. Where a call is at fault it raises `Refused` or `Condition`, and the file is as it was
     before the call; where memory is refused, `MemoryError`, and the call may be made again.
 

@@ -1,4 +1,4 @@
-//! One method for each call of a list, by the groups of `docs/CALLS.md`.
+//! One method for each call of a list, by the groups of `docs/use/CALLS.md`.
 
 mod artifacts;
 mod expressions;

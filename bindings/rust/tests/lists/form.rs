@@ -1,4 +1,4 @@
-//! Lines of lists, as `docs/LISTS.md` has them, so far as the stored lists need it.
+//! Lines of lists, as `docs/use/LISTS.md` has them, so far as the stored lists need it.
 
 use std::collections::HashMap;
 use std::iter::Peekable;
