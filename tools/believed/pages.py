@@ -3,7 +3,16 @@ import os
 
 BELIEVED = """# What must be believed
 
-Written by `tools/believed/run --write`, and the gate fails where it is not true: so no definition comes under a claim unseen. A claim is the contract of a public function, or of one that a program's `main.rt` calls; it rests on the definitions that its clauses name, and on those that these name, and so on. What the contract of some public function rests on stands in a crate's `specs/` itself, and nothing else does; what only private contracts name stands in `specs/Internal/`, and what proofs alone name in `proofs/`: these two are checked by the prover and need not be read. The gate fails where a definition stands in the wrong one. Where to begin: `crates/vast_script/specs/Headline.antt`, which says what to read in which order. [DEFINITIONS](DEFINITIONS.md) has the definitions, file by file, and marks those that the first claim rests on. Definitions speak of types of the code, as of the seven enums of a step: those that they name, with those that the fields of these name, must be read too, and have columns of their own. Lines are counted without comments, blank lines, imports and attributes.
+Written by `tools/believed/run --write`, and the gate fails where it is not true: so no definition comes under a claim
+unseen. A claim is the contract of a public function, or of one that a program's `main.rt` calls; it rests on the
+definitions that its clauses name, and on those that these name, and so on. What the contract of some public function
+rests on stands in a crate's `specs/` itself, and nothing else does; what only private contracts name stands in
+`specs/Internal/`, and what proofs alone name in `proofs/`: these two are checked by the prover and need not be read.
+The gate fails where a definition stands in the wrong one. Where to begin: `crates/vast_script/specs/Headline.antt`,
+which says what to read in which order. [DEFINITIONS](DEFINITIONS.md) has the definitions, file by file, and marks
+those that the first claim rests on. Definitions speak of types of the code, as of the seven enums of a step: those
+that they name, with those that the fields of these name, must be read too, and have columns of their own. Lines are
+counted without comments, blank lines, imports and attributes.
 
 | Claim | Definitions | Lines | Files | Types of `src/` | Their lines |
 |---|---|---|---|---|---|
@@ -11,7 +20,12 @@ Written by `tools/believed/run --write`, and the gate fails where it is not true
 
 DEFINITIONS = """# Definitions
 
-Written by `tools/believed/run --write` from the comments above the definitions, and the gate fails where it is not true. Here stands what the contracts of public functions speak of, file by file: all of each crate's `specs/` but its `Internal/`, whose files are named below each crate's table. [GLOSSARY](GLOSSARY.md) says the most of it in plain words. The law over lists of calls, `vast_script::laws::prints_what_was_built`, rests on each definition that stands upright; on one in italics rests another claim of [BELIEVED](BELIEVED.md); on one in brackets the contract of some other public function. Those without a comment of their own stand beside their file's.
+Written by `tools/believed/run --write` from the comments above the definitions, and the gate fails where it is not
+true. Here stands what the contracts of public functions speak of, file by file: all of each crate's `specs/` but its
+`Internal/`, whose files are named below each crate's table. [GLOSSARY](GLOSSARY.md) has the words of those that have
+no comment. The law over lists of calls, `vast_script::laws::prints_what_was_built`, rests on each definition that
+stands upright; on one in italics rests another claim of [BELIEVED](BELIEVED.md); on one in brackets the contract of
+some other public function. Those without a comment of their own stand beside their file's.
 """
 
 
