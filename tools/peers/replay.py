@@ -11,7 +11,7 @@ def program():
     """The words of the command: of `VAST_REPLAY`, or the built program."""
     built = os.environ.get("VAST_REPLAY", f"{ROOT}/crates/vast_replay/out/vast_replay")
     if not os.access(built.split()[0], os.X_OK):
-        sys.exit(f"no {built}: it is behind `rt ci` or `rt run` in its crate, or name another by VAST_REPLAY")
+        sys.exit(f"no {built}: it is after `rt ci` or `rt run` in its crate, or name another by VAST_REPLAY")
     return built.split()
 
 
