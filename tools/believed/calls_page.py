@@ -3,20 +3,21 @@ import re
 
 HEAD = """# Public calls
 
-Written by `tools/believed/run --write` from the code, and the gate fails where it is not true. A line has a call, the first
-sentence of its comment, when it is refused, and, between brackets, its clauses: what it asks (`requires`) in the clause's
-own words, and the names of what it promises (`ensures`). [DEFINITIONS](../believe/DEFINITIONS.md) says the words of clauses.
+Written by `tools/believed/run --write` from the code; the gate fails where it is not true. A line has a call, the first
+sentence of its comment, when it is refused, and, between brackets, its clauses: what it asks (`requires`) in the
+clause's words, and the names of what it promises (`ensures`). What is proved is what the clauses say:
+[PROOFS](../believe/PROOFS.md) says it in words, [DEFINITIONS](../believe/DEFINITIONS.md) the clauses' words.
 
 - A call without a prefix is a method of `VastFile`, or in another crate a function of that crate.
 - `M T` is `Result<T, AllocError>`: the answer, or memory was refused. `V T` is `Result<T, VastFault>`: the answer, or a
-  refusal by name, or memory was refused. A call with any other answer never wants memory.
-- Where no promises are told, a call that changes the file has `built` and `kept`, another call one clause without a name,
-  which is a star where there are more; a dash says that there is none. `built` is the call's equation:
-  `Builds old new result answer after` says that the call returns `answer` and leaves `after`, both of what the file held,
-  or that memory was refused and nothing changed (`Leaves` where nothing is returned; `MayBuild`, `MayChange` after a rule
+  refusal by name, or memory was refused. A call whose answer is no `Result` wants no memory.
+- Where no promises are told, a call that changes the file has `built` and `kept`, another call one clause without a
+  name, which is a star where there are more; a dash says that there is none. `built` is the call's equation:
+  `Builds old new result answer after` says that it returns `answer` and leaves `after`, both of what the file held, or
+  that memory was refused and nothing changed (`Leaves` where nothing is returned; `MayBuild`, `MayChange` after a rule
   that may refuse). `kept` says that what was the file's still is.
 - That each handle passed is the file's, which `owns` tests, is asked and not told.
-- A law computes nothing: it is a theorem over all files, trees or token lists.
+- A law computes nothing: it is a theorem.
 - Left out are programs, arenas, the lint, users' examples, and C's functions (`bindings/c/vast.h`).
 """
 
