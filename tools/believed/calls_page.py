@@ -8,7 +8,7 @@ sentence of its comment, when it is refused, and, between brackets, its clauses:
 clause's words, and the names of what it promises (`ensures`). What is proved is what the clauses say:
 [PROOFS](../believe/PROOFS.md) says it in words, [DEFINITIONS](../believe/DEFINITIONS.md) the clauses' words.
 
-- A call without a prefix is a method of `VastFile`, or in another crate a function of that crate.
+- A call without a prefix is a method of `VastFile`, in another crate a function of it.
 - `M T` is `Result<T, AllocError>`: the answer, or memory was refused. `V T` is `Result<T, VastFault>`: the answer, or a
   refusal by name, or memory was refused. A call whose answer is no `Result` wants no memory.
 - Where no promises are told, a call that changes the file has `built` and `kept`, another call one clause without a
@@ -16,9 +16,9 @@ clause's words, and the names of what it promises (`ensures`). What is proved is
   `Builds old new result answer after` says that it returns `answer` and leaves `after`, both of what the file held, or
   that memory was refused and nothing changed (`Leaves` where nothing is returned; `MayBuild`, `MayChange` after a rule
   that may refuse). `kept` says that what was the file's still is.
-- That each handle passed is the file's, which `owns` tests, is asked and not told.
-- A law computes nothing: it is a theorem.
-- Left out are programs, arenas, the lint, users' examples, and C's functions (`bindings/c/vast.h`).
+- That each handle passed is the file's, which `owns` tests, is asked, not told.
+- A law is a theorem; it computes nothing.
+- Left out are programs, arenas, the lint, examples, and C's functions (`bindings/c/vast.h`).
 """
 
 # In which order crates stand: the user's own first.
