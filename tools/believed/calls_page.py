@@ -17,7 +17,7 @@ clause's words, and the names of what it promises (`ensures`). What is proved is
   that memory was refused and nothing changed (`Leaves` where nothing is returned; `MayBuild`, `MayChange` after a rule
   that may refuse). `kept` says that what was the file's still is.
 - That each handle passed is the file's, which `owns` tests, is asked, not told.
-- A law is a theorem; it computes nothing.
+- A law is a theorem.
 - Left out are programs, arenas, the lint, examples, and C's functions (`bindings/c/vast.h`).
 """
 
