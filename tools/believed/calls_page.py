@@ -30,6 +30,11 @@ THROUGH = {"vast_core": "xlsynth_vast", "vast_names": "vast_read"}
 SHORT, LONG = 15, 80
 USUAL = ("built, kept", "*")
 SENTENCE_END = r"(?<=[^.])\.(?:\s|$)"
+# The words of a refusal, and what is said of memory and of what is left.
+WORDS = re.compile(r"(?<!of these): `[^`]{30,}`(?:, with the names .*?bytes)?")
+OF_MEMORY = re.compile(
+    r"\s*`Memory` (?:where|after|as).*|; the file is unchanged|(?:[,;.]? (?:and|or)|[;,.])? ?(?:[Ww]ant|[Oo]ut) of memory.*"
+)
 OWNERSHIP = re.compile(r"(?:(?:All|IfSome \w+) )?\(?(?:λ \w+\. )?(?:IfSome \w+ )?\(?(?:λ \w+\. )?Owns\w*\b")
 
 
@@ -80,10 +85,9 @@ def refusals(paragraphs, function):
     if any("no_refusal" in it for it in function.clauses):
         return ["Never refused by name"]
     said = [it.removeprefix("# Errors").strip() for it in paragraphs if it.startswith("# Errors")]
-    said = [re.sub(r"\s*`Memory` (?:where|after|as).*|(?<!of these): `[^`]{30,}`(?:, with the names .*?bytes)?|; the file is unchanged", "", it) for it in said]
-    said = [re.sub(r"(?i)(?:[,;.]? (?:and|or)|[;,.])? ?(?:want|out) of memory.*", "", it) for it in said]
-    said = [re.split(SENTENCE_END, plain(it))[0] for it in said if it]
-    return [re.sub(r"^`Refused`", "Refused", it) for it in said if "AllocError" not in it]
+    said = [OF_MEMORY.sub("", WORDS.sub("", it)) for it in said]
+    said = [re.split(SENTENCE_END, plain(it))[0] for it in said if it and "AllocError" not in it]
+    return [re.sub(r"^`Refused`", "Refused", it) for it in said]
 
 
 def answer(signature):
