@@ -16,7 +16,6 @@ pub mod FileSteps
 pub mod Answers
 pub mod Reading
 pub mod Readings
-pub mod Listed
 pub mod DeclarationReading
 pub mod DeclarationReadings
 pub mod StatementReading
@@ -31,6 +30,7 @@ pub mod Stack
 pub mod Machine
 pub mod OpenBlocks
 pub mod OpenLoops
+pub mod PhraseReadings
 pub mod Position
 pub mod KeywordSlots
 pub mod Scanner

@@ -6,16 +6,17 @@ ghost use Rattle.vast_read.specs.declared.fault.Fault.TheVariants.{Memory};
 ghost use Rattle.vast_read.specs.Internal.Forms.{form_tree};
 ghost use Rattle.vast_read.specs.Internal.Reading.{Reading};
 ghost use Rattle.vast_read.specs.Internal.Steps.{join};
+ghost use Rattle.vast_read.specs.View.{view};
 
 mod declarations;
 mod files;
-mod listed;
 mod members;
 mod statements;
 mod trees;
 mod unbuilt;
 
 use crate::fault::Fault;
+use crate::tree::NormalExpr;
 pub(crate) use declarations::BuildDeclarations;
 pub(crate) use files::BuildFiles;
 pub(crate) use members::{BuildMembers, MemberForm, MemberFormOf};
@@ -104,4 +105,8 @@ pub(crate) trait Build<'t> {
     ) -> Result<Self::Expr, Fault>
         ensures ok { IfOk result (λ x. sees.tree x ≡ form_tree sees form.entry) }
         ensures err { IfErr result (λ e. e ≡ Memory) };
+
+    /// An expression whose tree was made.
+    fn of_tree(tree: Box<NormalExpr>) -> Self::Expr
+        ensures { sees.tree result ≡ view tree.value };
 }

@@ -95,7 +95,7 @@ begins phrase ts rest m (path p) = refl
 
 -- What stands behind them goes on with none.
 
-quiet_expression : (rest : List Token) → has (stops Expression) (head_kind rest) ≡ true → Quiet 0 rest
+pub quiet_expression : (rest : List Token) → has (stops Expression) (head_kind rest) ≡ true → Quiet 0 rest
 unfolding lead
 quiet_expression [] h = tt
 quiet_expression (Operator LogicOr ∷ us) h = absurd (cc h)
@@ -108,7 +108,7 @@ quiet_expression (Mark Question ∷ us) h = absurd (cc h)
 quiet_expression (Mark _ ∷ us) h = tt
 quiet_expression (_ ∷ us) h = tt
 
-quiet_target : (rest : List Token) → has (stops Target) (head_kind rest) ≡ true → Quiet 13 rest
+pub quiet_target : (rest : List Token) → has (stops Target) (head_kind rest) ≡ true → Quiet 13 rest
 unfolding lead level
 quiet_target [] h = tt
 quiet_target (Operator LessEqual ∷ us) h = omega arith
@@ -143,7 +143,7 @@ one_target ts us r q x y a b e h k =
 abbrev pub step_of : List ℕ → List Token → List Token
 step_of i r = Word i ∷ (Mark Assign ∷ (Word i ∷ (Operator Plus ∷ (Number (codes "1") ∷ (Mark CloseParen ∷ r)))))
 
-semicolon_quiet : (r : List Token) → Quiet 0 (Mark Semicolon ∷ r)
+pub semicolon_quiet : (r : List Token) → Quiet 0 (Mark Semicolon ∷ r)
 unfolding lead
 semicolon_quiet r = tt
 

@@ -7,11 +7,9 @@ ghost use Rattle.vast_read.specs.Internal.MemberForms.{form_member};
 ghost use Rattle.vast_read.specs.Internal.MemberReading.{MemberReading};
 ghost use Rattle.vast_read.specs.Internal.MemberSteps.{join_members};
 ghost use Rattle.vast_read.specs.Internal.MemberView.{given};
-ghost use Rattle.vast_read.specs.View.{view};
 
 use crate::build::{Build, BuildDeclarations, BuildStatements};
 use crate::fault::Fault;
-use crate::tree::NormalExpr;
 use std::alloc::Global;
 use vast_literal::Key;
 
@@ -76,10 +74,6 @@ pub(crate) trait BuildMembers<'t>: BuildDeclarations<'t> + BuildStatements<'t> {
 
     ghost holds: { MemberReading
         Self.Event Self.Events Self.Connection Self.Connections Self.Member Self.Members };
-
-    /// An expression whose tree was made.
-    fn of_tree(tree: Box<NormalExpr>) -> Self::Expr
-        ensures { Self.sees.tree result ≡ view tree.value };
 
     /// An edge of an expression.
     fn edge(alloc: Global, edge: Key, expression: Self::Expr) -> Result<Self::Event, Fault>

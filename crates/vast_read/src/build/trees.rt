@@ -47,6 +47,10 @@ impl<'t> Build<'t> for Trees {
         Ok(())
     }
 
+    fn of_tree(tree: Box<NormalExpr>) -> Box<NormalExpr> {
+        tree
+    }
+
     fn expression(
         alloc: Global,
         form: Form<'t, Box<NormalExpr>, Children<NormalExpr>, Word>,

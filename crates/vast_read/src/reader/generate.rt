@@ -64,10 +64,7 @@ impl<'t> Reader<'t> {
 
     /// Reads the condition of a loop: the end that its variable stays below.
     #[tactic(auto, using(crate::proofs::MemberRules::loop_bounds))]
-    pub(crate) fn loop_bound<B: BuildMembers<'t>>(
-        &mut self,
-        variable: &str,
-    ) -> Result<B::Expr, Fault>
+    pub(crate) fn loop_bound<B: Build<'t>>(&mut self, variable: &str) -> Result<B::Expr, Fault>
         ensures reads { ReadsAs B.sees.tree result self.new (loop_bound variable.now self.old) }
         ensures fewer { length self.new ≤ length self.old }
     {

@@ -32,10 +32,6 @@ impl<'t> BuildMembers<'t> for Trees {
 
     ghost holds = { member_trees };
 
-    fn of_tree(tree: Box<NormalExpr>) -> Box<NormalExpr> {
-        tree
-    }
-
     fn edge(alloc: Global, edge: Key, expression: Box<NormalExpr>) -> Result<Event, Fault> {
         Event::at_edge(alloc, edge, expression)
     }

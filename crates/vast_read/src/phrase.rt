@@ -1,0 +1,116 @@
+//! Phrases: what the machine of rows asks of the reader.
+
+ghost use Rattle.std.specs.Prelude.{◌≤◌, length};
+ghost use Rattle.vast_read.specs.Internal.Answers.{ReadsAs};
+ghost use Rattle.vast_read.specs.Internal.PhraseReadings.{loop_range, meaning_of, path_at, phrase_at};
+ghost use Rattle.vast_read.specs.Internal.Readings.{tree_of};
+ghost use Rattle.vast_rows.specs.Phrases.{IsPhrase};
+ghost use Rattle.vast_rows.proofs.PhraseLaws.{phrases_told};
+
+use crate::build::{Build, Unbuilt};
+use crate::fault::Fault;
+use crate::reader::Reader;
+use crate::reader::include_path_of;
+use std::alloc::AllocError;
+use vast_rows::{Kind, Phrase, Source};
+
+/// What is made of a phrase.
+///
+/// An `E` is what is made of an expression.
+#[derive(Drop)]
+pub(crate) enum Made<'t, E> {
+    /// An expression, or what a value is assigned to.
+    Expression(E),
+    /// The variable of a loop, its start, and the end that it stays below.
+    Loop(&'t str, E, E),
+    /// The path of an include.
+    Path(&'t str),
+}
+
+impl<'t> Reader<'t> {
+    /// Reads a phrase.
+    #[tactic(auto, using(crate::proofs::Phrases::phrases))]
+    pub(crate) fn made<B: Build<'t>>(&mut self, phrase: Phrase) -> Result<Made<'t, B::Expr>, Fault>
+        ensures reads { ReadsAs (meaning_of B.sees.tree) result self.new
+            (phrase_at phrase self.old) }
+        ensures fewer { length self.new ≤ length self.old }
+    {
+        match phrase {
+            Phrase::Expression => {
+                let made = self.expression::<B>()?;
+                Ok(Made::Expression(made))
+            }
+            Phrase::Target => {
+                let made = self.selected::<B>()?;
+                Ok(Made::Expression(made))
+            }
+            Phrase::LoopHead => self.loop_range::<B>(),
+            Phrase::Path => self.path::<B>(),
+        }
+    }
+
+    /// Reads the variable of a loop, its start, its end and its step, in their parentheses.
+    #[tactic(auto, using(crate::proofs::Phrases::loops))]
+    pub(crate) fn loop_range<B: Build<'t>>(&mut self) -> Result<Made<'t, B::Expr>, Fault>
+        ensures reads { ReadsAs (meaning_of B.sees.tree) result self.new (loop_range self.old) }
+        ensures fewer { length self.new ≤ length self.old }
+    {
+        let (variable, start) = self.loop_start::<B>()?;
+        let end = self.loop_bound::<B>(variable)?;
+        self.loop_step(variable)?;
+        Ok(Made::Loop(variable, start, end))
+    }
+
+    /// Reads a string as the path between its quotes.
+    #[tactic(auto, using(crate::proofs::Phrases::paths))]
+    pub(crate) fn path<B: Build<'t>>(&mut self) -> Result<Made<'t, B::Expr>, Fault>
+        ensures reads { ReadsAs (meaning_of B.sees.tree) result self.new (path_at self.old) }
+        ensures fewer { length self.new ≤ length self.old }
+    {
+        match self.peek() {
+            None => Err(Fault::Underived),
+            Some(token) => match token.quoted() {
+                None => Err(Fault::Underived),
+                Some(text) => {
+                    let path = include_path_of(text)?;
+                    self.skip();
+                    Ok(Made::Path(path))
+                }
+            },
+        }
+    }
+}
+
+impl<'t> Source for Reader<'t> {
+    type Made = Made<'t, <Unbuilt as Build<'t>>::Expr>;
+
+    ghost left = { λ ts. ts };
+
+    ghost is_phrase = { IsPhrase };
+
+    ghost sees = { meaning_of (λ x. tree_of x.value) };
+
+    fn kind(&self) -> Kind {
+        match self.peek() {
+            None => Kind::End,
+            Some(token) => token.kind(),
+        }
+    }
+
+    fn skip(&mut self) {
+        Reader::skip(self)
+    }
+
+    #[tactic(auto, using(crate::proofs::Phrases::sources))]
+    fn phrase(&mut self, phrase: Phrase) -> Result<Option<Self::Made>, AllocError> {
+        match self.made::<Unbuilt>(phrase) {
+            Ok(made) => Ok(Some(made)),
+            Err(Fault::Underived) => Ok(None),
+            Err(Fault::Memory) => Err(AllocError),
+        }
+    }
+
+    ghost begins = { phrases_told.begin };
+
+    ghost told_apart = { phrases_told.apart };
+}
