@@ -1,10 +1,13 @@
 -- Phrases as the settled parser reads them: what it reads is one, and one before what may follow it is read.
 use Rattle.std.proofs.Common.{◌≡◌, ℕ, zero, suc, ◌+◌, ◌*◌, ◌<◌, ◌≤◌, Bool, true, false, cond, List, [], ◌∷◌, ◌++◌, length, Option, Some, None, codes, eqb, bytes_eq, refl, sym, ap, subst, ◌∙◌, arith, append_assoc}
 use Rattle.std.proofs.lemmas.Bool.{eqb-true}
-use Rattle.std.proofs.lemmas.List.{length_append}
+use Rattle.std.proofs.lemmas.List.{length-append}
 use Rattle.std.proofs.lemmas.Option.{same_Some}
 use Rattle.std.proofs.lemmas.Slice.Eq.{bytes_eq-Decides}
-use Rattle.vast_literal.specs.Tokens.{Less, Plus, OpenParen, CloseParen, Semicolon, Assign, GenvarKey, LogicOr, Token, Reserved, Word, Number, Quoted, Operator, Mark}
+use Rattle.vast_literal.specs.Tokens.{Token, Reserved, Word, Number, Quoted, Operator, Mark}
+use Rattle.vast_literal.specs.declared.token.Sign.TheVariants.{LogicOr, Less, Plus}
+use Rattle.vast_literal.specs.declared.token.Mark.TheVariants.{OpenParen, CloseParen, Semicolon, Assign}
+use Rattle.vast_literal.specs.declared.token.Key.TheVariants.{Genvar as GenvarKey}
 use Rattle.vast_literal.specs.NormalExpr.{NormalExpr, Name, Binary}
 use Rattle.vast_literal.specs.Grammar.{Spells}
 use Rattle.vast_literal.specs.Internal.FileParser.{path_end, path_of}
@@ -127,8 +130,8 @@ range_is ts r e =
 path_end_is : (cs p : List ℕ) → path_end cs ≡ Some p → cs ≡ p ++ (34 ∷ [])
 unfolding path_end
 path_end_is [] p e = absurd (cc e)
-path_end_is (c ∷ []) p e = let x = passed (eqb c 34) _ p e in let same : c ≡ 34 = eqb-true c 34 x.0 in let none = same_Some _ _ x.1 in cc (same, none)
-path_end_is (c ∷ d ∷ cs) p e = let a = bind_some _ _ p e in let r = path_end_is (d ∷ cs) a.0 a.1 in let whole = same_Some _ _ a.2 in cc (r, whole)
+path_end_is (c ∷ []) p e = let x = passed (eqb c 34) _ p e in let same : c ≡ 34 = eqb-true c 34 x.0 in subst (λ (q : List ℕ). (c ∷ []) ≡ q ++ (34 ∷ [])) (same_Some _ _ x.1) (cc same)
+path_end_is (c ∷ d ∷ cs) p e = let a = bind_some _ _ p e in let r = path_end_is (d ∷ cs) a.0 a.1 in subst (λ (q : List ℕ). (c ∷ d ∷ cs) ≡ q ++ (34 ∷ [])) (same_Some _ _ a.2) (ap (λ (q : List ℕ). c ∷ q) r)
 
 path_is : (w p : List ℕ) → path_of w ≡ Some p → w ≡ 34 ∷ (p ++ (34 ∷ []))
 unfolding path_of
@@ -212,10 +215,10 @@ not_empty Path m i = let b = phrases_told.begin Path [] [] m i in absurd (cc b)
 
 shorter : (p : Phrase) (front before rest : List Token) (m : Meaning) → IsPhrase p front m → before ≡ front ++ rest → length rest < length before
 shorter p [] before rest m i e = absurd (not_empty p m i)
-shorter p (t ∷ ts) before rest m i e = let n : length before ≡ suc (length (ts ++ rest)) = ap length e in let k = length_append ts rest in omega (arith, n, k)
+shorter p (t ∷ ts) before rest m i e = let n : length before ≡ suc (length (ts ++ rest)) = ap length e in let k = length-append ts rest in omega (arith, n, k)
 
-one_result : {before behind rest : List Token} {m n : Meaning} (p : Phrase) → phrase_at p before ≡ Some (m, behind) → phrase_at p before ≡ Some (n, rest) → (n ≡ m) × (rest ≡ behind)
-one_result p e d = let same : Some (_, _) ≡ Some (_, _) = sym d ∙ e in let pair = same_Some _ _ same in (ap (λ (v : Meaning × List Token). v.0) pair, ap (λ (v : Meaning × List Token). v.1) pair)
+one_result : (p : Phrase) (before behind rest : List Token) (m n : Meaning) → phrase_at p before ≡ Some (m, behind) → phrase_at p before ≡ Some (n, rest) → (n ≡ m) × (rest ≡ behind)
+one_result p before behind rest m n e d = let pair = same_Some _ _ (sym d ∙ e) in (ap (λ (v : Meaning × List Token). v.0) pair, ap (λ (v : Meaning × List Token). v.1) pair)
 
 pub has_read : (p : Phrase) (before behind : List Token) (m : Meaning) → phrase_at p before ≡ Some (m, behind) → HasRead IsPhrase p before m behind
 has_read p before behind m e = let f = phrase_is p before (m, behind) e in record {
@@ -223,7 +226,7 @@ has_read p before behind m e = let f = phrase_is p before (m, behind) e in recor
   reads = f.spelled;
   split = f.whole;
   fewer = shorter p f.front before behind m f.spelled f.whole;
-  same = λ ts rest n i s h. one_result p e (ap (phrase_at p) s ∙ phrase_reads p ts rest n i h);
+  same = λ ts rest n i s h. one_result p before behind rest m n e (ap (phrase_at p) s ∙ phrase_reads p ts rest n i h);
 }
 
 pub has_none : (p : Phrase) (before : List Token) → phrase_at p before ≡ None → HasNone IsPhrase p before
@@ -231,31 +234,31 @@ has_none p before e ts rest m i s h = let d : phrase_at p before ≡ Some (m, re
 
 -- What the functions that read them are proved by.
 
-expression_phrase : (ts : List Token) → phrase_at Expression ts ≡ (settled.expression_at ts >>= λ x. Some (IsExpression x.0, x.1))
+pub expression_phrase : (ts : List Token) → phrase_at Expression ts ≡ (settled.expression_at ts >>= λ x. Some (IsExpression x.0, x.1))
 unfolding phrase_at
 expression_phrase ts = refl
 
-target_phrase : (ts : List Token) → phrase_at Target ts ≡ (selected_at settled ts >>= λ x. Some (IsExpression x.0, x.1))
+pub target_phrase : (ts : List Token) → phrase_at Target ts ≡ (selected_at settled ts >>= λ x. Some (IsExpression x.0, x.1))
 unfolding phrase_at
 target_phrase ts = refl
 
-loop_phrase : (ts : List Token) → phrase_at LoopHead ts ≡ loop_range ts
+pub loop_phrase : (ts : List Token) → phrase_at LoopHead ts ≡ loop_range ts
 unfolding phrase_at
 loop_phrase ts = refl
 
-path_phrase : (ts : List Token) → phrase_at Path ts ≡ path_at ts
+pub path_phrase : (ts : List Token) → phrase_at Path ts ≡ path_at ts
 unfolding phrase_at
 path_phrase ts = refl
 
-loop_reads : (ts : List Token) → loop_range ts ≡ (loop_start ts >>= λ s. loop_bound s.0.0 s.1 >>= λ e. loop_step s.0.0 e.1 >>= λ us. Some (IsLoop s.0.0 s.0.1 e.0, us))
+pub loop_reads : (ts : List Token) → loop_range ts ≡ (loop_start ts >>= λ s. loop_bound s.0.0 s.1 >>= λ e. loop_step s.0.0 e.1 >>= λ us. Some (IsLoop s.0.0 s.0.1 e.0, us))
 unfolding loop_range
 loop_reads ts = refl
 
-path_missing : (ts : List Token) → ts ≡ [] → path_at ts ≡ None
+pub path_missing : (ts : List Token) → ts ≡ [] → path_at ts ≡ None
 unfolding path_at
 path_missing ts e = rw e refl
 
-path_other : (ts us : List Token) (t : Token) → ts ≡ (t ∷ us) → quoted_in t ≡ None → path_at ts ≡ None
+pub path_other : (ts us : List Token) (t : Token) → ts ≡ (t ∷ us) → quoted_in t ≡ None → path_at ts ≡ None
 unfolding path_at quoted_in
 path_other ts us t e d = rw e (go t d)
   where
@@ -263,18 +266,26 @@ path_other ts us t e d = rw e (go t d)
     go (Quoted w) d = absurd (cc d)
     go _ d = refl
 
-path_quoted : (ts us : List Token) (t : Token) (w : List ℕ) → ts ≡ (t ∷ us) → quoted_in t ≡ Some w → path_at ts ≡ (path_of w >>= λ p. Some (IsPath p, us))
+pub path_found : (ts us : List Token) (t : Token) (w p : List ℕ) → ts ≡ (t ∷ us) → quoted_in t ≡ Some w → path_of w ≡ Some p → path_at ts ≡ Some (IsPath p, us)
 unfolding path_at quoted_in
-path_quoted ts us t w e d = rw e (go t d)
+path_found ts us t w p e d f = rw e (go t d)
   where
-    go : (t : Token) → quoted_in t ≡ Some w → path_at (t ∷ us) ≡ (path_of w >>= λ p. Some (IsPath p, us))
-    go (Quoted v) d = let same : v ≡ w = same_Some _ _ d in rw same refl
+    go : (t : Token) → quoted_in t ≡ Some w → path_at (t ∷ us) ≡ Some (IsPath p, us)
+    go (Quoted v) d = let same : v ≡ w = same_Some _ _ d in rw (same, f, then_some) refl
+    go _ d = absurd (cc d)
+
+pub path_unread : (ts us : List Token) (t : Token) (w : List ℕ) → ts ≡ (t ∷ us) → quoted_in t ≡ Some w → path_of w ≡ None → path_at ts ≡ None
+unfolding path_at quoted_in
+path_unread ts us t w e d f = rw e (go t d)
+  where
+    go : (t : Token) → quoted_in t ≡ Some w → path_at (t ∷ us) ≡ None
+    go (Quoted v) d = let same : v ≡ w = same_Some _ _ d in rw (same, f, then_none) refl
     go _ d = absurd (cc d)
 
 pub ruleset phrases = (then_some, then_none, expression_phrase, target_phrase, loop_phrase, path_phrase)
 
 pub ruleset loops = (then_some, then_none, loop_reads)
 
-pub ruleset paths = (then_some, then_none, path_missing, path_other, path_quoted)
+pub ruleset paths = (path_missing, path_other, path_found, path_unread)
 
 pub ruleset sources = (has_read, has_none)

@@ -10,7 +10,7 @@ ghost use Rattle.vast_rows.proofs.PhraseLaws.{phrases_told};
 use crate::build::{Build, Unbuilt};
 use crate::fault::Fault;
 use crate::reader::Reader;
-use crate::reader::include_path_of;
+use crate::reader::path_of;
 use std::alloc::AllocError;
 use vast_rows::{Kind, Phrase, Source};
 
@@ -71,11 +71,13 @@ impl<'t> Reader<'t> {
             None => Err(Fault::Underived),
             Some(token) => match token.quoted() {
                 None => Err(Fault::Underived),
-                Some(text) => {
-                    let path = include_path_of(text)?;
-                    self.skip();
-                    Ok(Made::Path(path))
-                }
+                Some(text) => match path_of(text) {
+                    None => Err(Fault::Underived),
+                    Some(path) => {
+                        self.skip();
+                        Ok(Made::Path(path))
+                    }
+                },
             },
         }
     }
