@@ -4,7 +4,6 @@ pub mod Sets
 pub mod RowLaws
 pub mod Once
 pub mod Trees
-pub mod SameTrees
 pub mod OneTree
 pub mod Steps
 pub mod Leads
@@ -22,4 +21,3 @@ pub mod StatementsToRows
 pub mod MembersToRows
 pub mod Bridge
 pub mod Bare
-pub mod Trials
