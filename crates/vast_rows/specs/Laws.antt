@@ -13,7 +13,7 @@ use Rattle.vast_rows.specs.Numbers.{rule_number}
 use Rattle.vast_rows.specs.Page.{page}
 use Rattle.vast_rows.specs.Rows.{Row}
 use Rattle.vast_rows.specs.Trace.{trace}
-use Rattle.vast_rows.specs.Tree.{Spells}
+use Rattle.vast_rows.specs.Telling.{Spells}
 
 -- The rule spells the tokens, and this is told of them.
 abbrev pub Tells : List Row → (rule : ℕ) → List Token → List Event → Type 0

@@ -7,7 +7,7 @@ pub mod Phrases
 pub mod Events
 pub mod Facts
 pub mod Tables
-pub mod Tree
+pub mod Telling
 pub mod Trace
 pub mod Built
 pub mod Laws

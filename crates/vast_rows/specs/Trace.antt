@@ -132,13 +132,22 @@ unfoldable mutual
 unfoldable pub trace_parameter : NormalParameter → List Event → List Event
 trace_parameter p es = Makes HeaderParameter ∷ trace_declaration p.declaration (read p.value ∷ es)
 
+abbrev pub trace_parameters : List NormalParameter → List Event → List Event
+trace_parameters = trace_list listed.Parameter trace_parameter
+
 unfoldable pub trace_port : NormalPort → List Event → List Event
 trace_port p es = Makes (PortOf p.direction) ∷ trace_declaration p.declaration es
 
+abbrev pub trace_ports : List NormalPort → List Event → List Event
+trace_ports = trace_list listed.Port trace_port
+
 -- The macro of an include has a name, which is told as every macro's.
 unfoldable pub trace_item : NormalItem → List Event → List Event
-trace_item (ModulePart m) es = Makes ModuleItem ∷ Names m.name ∷ trace_list listed.Parameter trace_parameter m.parameters (trace_list listed.Port trace_port m.ports (trace_members m.members es))
+trace_item (ModulePart m) es = Makes ModuleItem ∷ Names m.name ∷ trace_parameters m.parameters (trace_ports m.ports (trace_members m.members es))
 trace_item (IncludePart path) es = Makes IncludeItem ∷ Names (codes "include") ∷ Reads (IsPath path) ∷ es
 
+abbrev pub trace_items : List NormalItem → List Event → List Event
+trace_items = trace_list listed.Item trace_item
+
 unfoldable pub trace : NormalFile → List Event → List Event
-trace f es = trace_list listed.Item trace_item f.items es
+trace f es = trace_items f.items es

@@ -4,6 +4,8 @@ ghost use Rattle.std.specs.Prelude.{◌≡◌, ◌<◌, ◌++◌, [], true, None
 ghost use Rattle.std.specs.Prelude.{IfOk, MatchBool, MatchOption, OnOk};
 ghost use Rattle.vast_literal.specs.FileGrammar.{IsFile};
 ghost use Rattle.vast_literal.specs.NormalFile.{NormalFile};
+ghost use Rattle.vast_rows.specs.Events.{first_name, made_by, named_by};
+ghost use Rattle.vast_rows.specs.Internal.Sources.{tail};
 ghost use Rattle.vast_rows.specs.Internal.Reading.{IsTaken, LeadsTo};
 ghost use Rattle.vast_rows.specs.Kinds.{has};
 ghost use Rattle.vast_rows.specs.Laws.{IsRead, IsUnspelled};
@@ -117,6 +119,28 @@ pub(crate) enum Due {
     Wrong,
 }
 
+/// Tells what a row makes, if it makes something.
+fn tell<S: Source, K: Sink<S>>(sink: &mut K, action: Option<Action>) -> Result<(), AllocError>
+    ensures { IfOk result (λ _. K.after sink.old (made_by action []) sink.new) }
+{
+    match action {
+        None => Ok(()),
+        Some(action) => sink.makes(action),
+    }
+}
+
+/// Leaves the next token behind, and tells it if it is a name.
+fn take<S: Source, K: Sink<S>>(source: &mut S, sink: &mut K) -> Result<(), AllocError>
+    ensures left { IfOk result (λ _. S.left source.new ≡ tail (S.left source.old)) }
+    ensures told { IfOk result (λ _. K.after sink.old
+        (named_by (first_name (S.left source.old)) []) sink.new) }
+{
+    match source.take() {
+        None => Ok(()),
+        Some(name) => sink.names(name),
+    }
+}
+
 /// Opens rules until a token or a phrase is due.
 pub(crate) fn open<S: Source, K: Sink<S>>(
     table: &Table,
@@ -136,9 +160,7 @@ pub(crate) fn open<S: Source, K: Sink<S>>(
             Some(Item::Rule(rule)) => match taken(table, rule, kind) {
                 None => return Ok(Due::Wrong),
                 Some(row) => {
-                    if let Some(action) = row.action {
-                        sink.makes(action)?;
-                    }
+                    tell(sink, row.action)?;
                     push_all(stack, row.items)?;
                 }
             },
@@ -176,9 +198,7 @@ pub fn read<S: Source, K: Sink<S>>(
                 if source.kind().number() != kind {
                     return Ok(false);
                 }
-                if let Some(name) = source.take() {
-                    sink.names(name)?;
-                }
+                take(source, sink)?;
             }
             Due::Phrase(phrase) => match source.phrase(phrase)? {
                 None => return Ok(false),
