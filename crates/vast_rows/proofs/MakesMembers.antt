@@ -4,7 +4,7 @@ use Rattle.vast_literal.specs.FileGrammar.{is_parameter_word, is_clocked, is_edg
 use Rattle.vast_literal.specs.Grammar.{none, some, last, next}
 use Rattle.vast_literal.specs.NormalFile.{LoopPart}
 use Rattle.vast_literal.specs.Tokens.{Mark}
-use Rattle.vast_rows.specs.declared.rule.Rule.TheVariants.{File, FileItem, Parameters, MoreParameters, Parameter, Ports, MorePorts, Port, Direction, ModuleMembers, LoopMembers, Member, AnyMacro, MacroArguments, Expressions, MoreExpressions, LastSemicolon, GivenList, Given, MoreGiven, Connections, Connection, Connected, MoreConnections, Events, OneEvent, MoreEvents, Inputs, Input, MoreInputs, Locals, Local, FunctionBody, LoneBegins, LoneEnds, LoopLabel}
+use Rattle.vast_rows.specs.declared.rule.Rule.TheVariants.{File, FileItem, Parameters, MoreParameters, Parameter, Ports, MorePorts, Port, Direction, ModuleMembers, LoopMembers, Member, AnyMacro, MacroArguments, Expressions, MoreExpressions, LastSemicolon, GivenList, Given, MoreGiven, Connections, Connection, Connected, MoreConnections, Events, OneEvent, MoreEvents, Inputs, Input, MoreInputs, Locals, Local, FunctionBody, NoEnd, NoWait, LoopLabel}
 use Rattle.vast_rows.specs.Numbers.{CloseParen, InputKey, OutputKey, InOutKey, ParameterKey, LocalparamKey, AlwaysFFKey, AlwaysKey, PosedgeKey, NegedgeKey, EndModuleKey, EndKey}
 use Rattle.vast_rows.specs.Phrases.{expression, target, loop_head, path}
 use Rattle.vast_rows.proofs.Meant.{Makes, is_key, is_macro, is_nothing, no_tails, more_tails}
@@ -97,7 +97,7 @@ pub member5 : Makes Member 5
 member5 m ps p i cs c = (_, instance m i p.1 c.1)
 
 pub member6 : Makes Member 6
-member6 bs b = (_, combinational b.1)
+member6 ns is_nothing bs b = (_, combinational b.1)
 
 pub member7 : Makes Member 7
 unfolding is_clocked
@@ -233,13 +233,13 @@ pub function_body0 : Makes FunctionBody 0
 function_body0 bs b = (_, block_body b.1)
 
 pub function_body1 : Makes FunctionBody 1
-function_body1 ns is_nothing ts s es is_nothing = rw (append-nil ts) (_, casez_body s.1)
+function_body1 us u ts after es is_nothing = let s = after us u.0 u.1 in rw (append-nil ts) (_, casez_body s.1)
 
-pub lone_begins0 : Makes LoneBegins 0
-lone_begins0 = is_nothing
+pub no_end0 : Makes NoEnd 0
+no_end0 = is_nothing
 
-pub lone_ends0 : Makes LoneEnds 0
-lone_ends0 = is_nothing
+pub no_wait0 : Makes NoWait 0
+no_wait0 = is_nothing
 
 pub label0 : Makes LoopLabel 0
 label0 = (_, no_label)

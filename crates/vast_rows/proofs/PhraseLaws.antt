@@ -13,7 +13,6 @@ use Rattle.vast_literal.proofs.Sound.{level_small}
 use Rattle.vast_rows.specs.declared.grammar.Phrase.{Phrase}
 use Rattle.vast_rows.specs.declared.grammar.Phrase.TheVariants.{Expression, Target}
 use Rattle.vast_rows.specs.Kinds.{has, head_kind}
-use Rattle.vast_rows.specs.Laws.{PhrasesAreTold}
 use Rattle.vast_rows.specs.Numbers.{Op, LogicOr, BitOr, BitXor, BitAnd, LessEqual, Less, Plus, Minus, BitNot, LogicNot, OpenParen, CloseParen, OpenBracket, Semicolon, Question, DoubleColon, Assign, Apostrophe, Key, IfKey, LogicKey, SignedKey, UnsignedKey, IntegerKey, IntKey}
 use Rattle.vast_rows.specs.Phrases.{IsPhrase, expression, target, loop_head, path, Meaning, IsExpression, IsLoop, IsPath, firsts, stops}
 
@@ -87,7 +86,7 @@ begins_so k ts x (package_cast p w e) = operand 14 _ _ refl refl
 begins_so k ts x (paren_cast h e) = operand 14 _ _ refl refl
 begins_so k ts x (word_cast w h e) = let b = cast_word w h in operand 14 _ _ b.0 b.1
 
-begins : (phrase : Phrase) (ts rest : List Token) (m : Meaning) → IsPhrase phrase ts m → has (firsts phrase) (head_kind (ts ++ rest)) ≡ true
+pub begins : (phrase : Phrase) (ts rest : List Token) (m : Meaning) → IsPhrase phrase ts m → has (firsts phrase) (head_kind (ts ++ rest)) ≡ true
 begins phrase ts rest m (expression e) = (begins_so 0 _ _ e).signed rest
 begins phrase ts rest m (target e) = (begins_so 13 _ _ e).bare (omega arith) rest
 begins phrase ts rest m (loop_head i s c) = refl
@@ -159,7 +158,7 @@ one_loop xs cs us ds r q i j x c y d e f a b a' b' same h =
     let v : r ≡ q = cc rests in
     (rw (same, s.0, w) refl, v)
 
-apart : (phrase : Phrase) (ts us r q : List Token) (m n : Meaning) → IsPhrase phrase ts m → IsPhrase phrase us n → ts ++ r ≡ us ++ q →
+pub apart : (phrase : Phrase) (ts us r q : List Token) (m n : Meaning) → IsPhrase phrase ts m → IsPhrase phrase us n → ts ++ r ≡ us ++ q →
     has (stops phrase) (head_kind r) ≡ true → has (stops phrase) (head_kind q) ≡ true → (m ≡ n) × (r ≡ q)
 apart phrase ts us r q m n (expression {x = x} a) (expression {x = y} b) e h k =
     let s = one_expression ts us r q x y a b e (quiet_expression r h) (quiet_expression q k) in (ap IsExpression s.0, s.1)
@@ -173,6 +172,3 @@ apart phrase ts us r q m n (path p) (path o) e h k =
     let quotes : p ++ (34 ∷ []) ≡ o ++ (34 ∷ []) = cc e in
     let rests : r ≡ q = cc e in
     (ap IsPath (append_cancel_right p o (34 ∷ []) quotes), rests)
-
-pub phrases_told : PhrasesAreTold
-phrases_told = record { begin = begins; apart = apart }

@@ -4,4 +4,3 @@ pub mod Sources
 pub mod Predictive
 pub mod Derives
 pub mod Reading
-pub mod Trial

@@ -1,11 +1,11 @@
 -- Phrases: what rows take from a reader of its own.
-use Rattle.std.specs.Prelude.{◌≡◌, ℕ, List, [], ◌∷◌, ◌++◌, codes, true}
+use Rattle.std.specs.Prelude.{ℕ, List, [], ◌∷◌, ◌++◌, codes}
 use Rattle.vast_rows.specs.Numbers.{Less, LessEqual, Plus, Minus, BitNot, LogicNot, BitAnd, BitOr, BitXor, LogicKey, SignedKey, UnsignedKey, IntegerKey, IntKey, GenvarKey, OrKey}
 use Rattle.vast_rows.specs.Numbers.{OpenParen, CloseParen, OpenBrace, CloseBracket, Comma, Colon, Semicolon, Apostrophe, Assign}
 use Rattle.vast_literal.specs.Tokens.{Token, Reserved, Word, Number, Quoted, Operator, Mark}
 use Rattle.vast_literal.specs.NormalExpr.{NormalExpr, Name, Binary}
 use Rattle.vast_literal.specs.Grammar.{Spells}
-use Rattle.vast_rows.specs.Kinds.{has, head_kind, set_of}
+use Rattle.vast_rows.specs.Kinds.{set_of}
 use Rattle.vast_rows.specs.declared.grammar.Item.{Item}
 use Rattle.vast_rows.specs.declared.grammar.Item.TheVariants as item
 use Rattle.vast_rows.specs.declared.grammar.Phrase.{Phrase}
@@ -18,11 +18,7 @@ pub data Meaning : Type 0 where
   IsLoop : (variable : List ℕ) (start end : NormalExpr) → Meaning
   IsPath : List ℕ → Meaning
 
--- Which tokens are a phrase, and what it means.
-abbrev pub Phrasing : Type 1
-Phrasing = Phrase → List Token → Meaning → Type 0
-
--- The phrases of the grammar of files.
+-- Which tokens are a phrase of the grammar of files, and what it means.
 pub data IsPhrase : Phrase → List Token → Meaning → Type 0 where
   expression : {ts : List Token} {x : NormalExpr} → Spells 0 ts x → IsPhrase Expression ts (IsExpression x)
   target : {ts : List Token} {x : NormalExpr} → Spells 13 ts x → IsPhrase Target ts (IsExpression x)
@@ -73,13 +69,3 @@ stops Expression = mask after_expressions
 stops Target = mask after_targets
 stops LoopHead = 0xffffffffffffffffffffffffffffffff
 stops Path = 0xffffffffffffffffffffffffffffffff
-
--- A phrase begins with one of those kinds.
-abbrev pub BeginsWell : Phrasing → Type 0
-BeginsWell is = (phrase : Phrase) (ts rest : List Token) (m : Meaning) → is phrase ts m → has (firsts phrase) (head_kind (ts ++ rest)) ≡ true
-
--- Where two stand at the front of the same tokens, each before a kind that may follow it, they are one.
-abbrev pub IsToldApart : Phrasing → Type 0
-IsToldApart is = (phrase : Phrase) (ts us behind_ts behind_us : List Token) (m n : Meaning) → is phrase ts m → is phrase us n →
-    ts ++ behind_ts ≡ us ++ behind_us → has (stops phrase) (head_kind behind_ts) ≡ true → has (stops phrase) (head_kind behind_us) ≡ true →
-    (m ≡ n) × (behind_ts ≡ behind_us)

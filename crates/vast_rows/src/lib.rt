@@ -5,6 +5,7 @@
 //! That the page spells exactly what the grammar of `vast_literal` does is a law ([`laws`]).
 #![tactic(auto)]
 
+mod action;
 mod grammar;
 mod kind;
 pub mod laws;
@@ -14,12 +15,11 @@ mod sink;
 mod source;
 mod stack;
 mod table;
-#[cfg(test)]
-mod trial;
 
+pub use action::{Action, Listed};
 pub use grammar::{Phrase, Table};
 pub use kind::Kind;
-pub use machine::{is_file, is_spelled, read};
+pub use machine::{is_file, read, read_file};
 pub use rule::Rule;
 pub use sink::{Nothing, Sink};
 pub use source::Source;
