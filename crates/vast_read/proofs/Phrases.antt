@@ -32,7 +32,7 @@ use Rattle.vast_rows.specs.Internal.Sources.{HasRead, HasNone}
 use Rattle.vast_rows.specs.Phrases.{IsPhrase, expression, target, loop_head, path, Meaning, IsExpression, IsLoop, IsPath, stops}
 use Rattle.vast_rows.specs.declared.grammar.Phrase.{Phrase}
 use Rattle.vast_rows.specs.declared.grammar.Phrase.TheVariants.{Expression, Target, LoopHead, Path}
-use Rattle.vast_rows.proofs.PhraseLaws.{quiet_expression, quiet_target, semicolon_quiet, step_of, phrases_told}
+use Rattle.vast_rows.proofs.PhraseLaws.{quiet_expression, quiet_target, semicolon_quiet, step_of, begins}
 use Rattle.vast_read.specs.Internal.PhraseReadings.{loop_range, path_at, phrase_at}
 use Rattle.vast_read.specs.Internal.FileSteps.{quoted_in}
 use Rattle.vast_read.proofs.Steps.{then_some, then_none}
@@ -208,10 +208,10 @@ phrase_reads p ts rest m (path q) h = path_gives q rest
 -- What the machine of rows wants to know of both.
 
 not_empty : (p : Phrase) (m : Meaning) → IsPhrase p [] m → ⊥
-not_empty Expression m i = let b = phrases_told.begin Expression [] [] m i in absurd (cc b)
-not_empty Target m i = let b = phrases_told.begin Target [] [] m i in absurd (cc b)
-not_empty LoopHead m i = let b = phrases_told.begin LoopHead [] [] m i in absurd (cc b)
-not_empty Path m i = let b = phrases_told.begin Path [] [] m i in absurd (cc b)
+not_empty Expression m i = let b = begins Expression [] [] m i in absurd (cc b)
+not_empty Target m i = let b = begins Target [] [] m i in absurd (cc b)
+not_empty LoopHead m i = let b = begins LoopHead [] [] m i in absurd (cc b)
+not_empty Path m i = let b = begins Path [] [] m i in absurd (cc b)
 
 shorter : (p : Phrase) (front before rest : List Token) (m : Meaning) → IsPhrase p front m → before ≡ front ++ rest → length rest < length before
 shorter p [] before rest m i e = absurd (not_empty p m i)
@@ -220,7 +220,7 @@ shorter p (t ∷ ts) before rest m i e = let n : length before ≡ suc (length (
 one_result : (p : Phrase) (before behind rest : List Token) (m n : Meaning) → phrase_at p before ≡ Some (m, behind) → phrase_at p before ≡ Some (n, rest) → (n ≡ m) × (rest ≡ behind)
 one_result p before behind rest m n e d = let pair = same_Some _ _ (sym d ∙ e) in (ap (λ (v : Meaning × List Token). v.0) pair, ap (λ (v : Meaning × List Token). v.1) pair)
 
-pub has_read : (p : Phrase) (before behind : List Token) (m : Meaning) → phrase_at p before ≡ Some (m, behind) → HasRead IsPhrase p before m behind
+pub has_read : (p : Phrase) (before behind : List Token) (m : Meaning) → phrase_at p before ≡ Some (m, behind) → HasRead p before m behind
 has_read p before behind m e = let f = phrase_is p before (m, behind) e in record {
   front = f.front;
   reads = f.spelled;
@@ -229,7 +229,7 @@ has_read p before behind m e = let f = phrase_is p before (m, behind) e in recor
   same = λ ts rest n i s h. one_result p before behind rest m n e (ap (phrase_at p) s ∙ phrase_reads p ts rest n i h);
 }
 
-pub has_none : (p : Phrase) (before : List Token) → phrase_at p before ≡ None → HasNone IsPhrase p before
+pub has_none : (p : Phrase) (before : List Token) → phrase_at p before ≡ None → HasNone p before
 has_none p before e ts rest m i s h = let d : phrase_at p before ≡ Some (m, rest) = ap (phrase_at p) s ∙ phrase_reads p ts rest m i h in absurd (cc (e, d))
 
 -- What the functions that read them are proved by.

@@ -14,16 +14,8 @@ use Rattle.vast_literal.proofs.SettledFiles.{file_soon, file_none, file_more}
 use Rattle.vast_literal.proofs.SoundFiles.{file_derived}
 use Rattle.vast_literal.proofs.DerivedOnce.{file_once}
 use Rattle.vast_literal.proofs.Longest.{scan_lexes, lexes_scan}
-use Rattle.vast_rows.specs.declared.rule.Rule.TheVariants.{File}
-use Rattle.vast_rows.specs.Laws.{IsSpelled, IsUnspelled}
-use Rattle.vast_rows.specs.Numbers.{rule_number}
-use Rattle.vast_rows.specs.Page.{page}
-use Rattle.vast_rows.specs.Phrases.{IsPhrase}
-use Rattle.vast_rows.proofs.Bridge.{rows_are_so}
+use Rattle.std.proofs.lemmas.Option.{same_Some}
 use Rattle.vast_read.specs.Internal.FileReadings.{IsFileOf}
-
-pub file_spelled : (ts rest : List Token) (x : NormalFile) → settled_file ts ≡ Some (x, rest) → rest ≡ [] → IsFile ts x
-file_spelled ts rest x e d = let s = file_soon ts (x, []) (e ∙ ap (λ (r : List Token). Some (x, r)) d) in file_derived s.from ts x (s.holds s.from (omega arith))
 
 pub text_derives : (text : List ℕ) (x : NormalFile) → IsFile (lex Gap text) x → DerivesFile text x
 text_derives text x d = record { parts = lex Gap text; lexed = scan_lexes text (lex Gap text) (tokens_used text (file_used (lex Gap text) x d)); spelled = d }
@@ -48,13 +40,10 @@ module _ {E : Type 0} (text : List ℕ) where
   file_read_back (Ok None) n = λ t y. absurd (text_without_file text n t y)
   file_read_back (Err e) n = tt
 
--- What the rows of the grammar spell.
-pub rows_derive : (text : List ℕ) → IsSpelled IsPhrase page (rule_number File) (lex Gap text) → (t : NormalFile) × DerivesFile text t
-rows_derive text p = let t = (rows_are_so (lex Gap text)).0 p in (t.0, text_derives text t.0 t.1)
+-- What was read as a file, and what was not.
 
-pub rows_refuse : (text : List ℕ) → IsUnspelled IsPhrase page (rule_number File) (lex Gap text) → (t : NormalFile) → DerivesFile text t → ⊥
-rows_refuse text n = text_without_file text (λ t d. let p = (rows_are_so (lex Gap text)).1 (t, d) in n p.0 p.1)
+pub file_found : (text : List ℕ) (t : NormalFile) (found : Option code.NormalFile) → IsFile (lex Gap text) t → option_map file_view found ≡ Some t → IsFileOf text found
+file_found text t (Some x) d e = subst (λ (v : NormalFile). IsFile (lex Gap text) v) (sym (same_Some _ _ e)) d
+file_found text t None d e = absurd (cc e)
 
-pub ruleset places = (rows_derive, rows_refuse)
-
-pub ruleset files = (file_spelled, file_none, file_more)
+pub ruleset places = (text_derives, text_without_file)

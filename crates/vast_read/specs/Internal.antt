@@ -31,6 +31,7 @@ pub mod Machine
 pub mod OpenBlocks
 pub mod OpenLoops
 pub mod PhraseReadings
+pub mod Made
 pub mod Position
 pub mod KeywordSlots
 pub mod Scanner

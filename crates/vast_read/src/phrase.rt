@@ -1,16 +1,20 @@
 //! Phrases: what the machine of rows asks of the reader.
 
-ghost use Rattle.std.specs.Prelude.{◌≤◌, length};
+ghost use Rattle.std.specs.Prelude.{◌≡◌, ◌≤◌, length, MatchOption, Some, None};
 ghost use Rattle.vast_read.specs.Internal.Answers.{ReadsAs};
 ghost use Rattle.vast_read.specs.Internal.PhraseReadings.{loop_range, meaning_of, path_at, phrase_at};
 ghost use Rattle.vast_read.specs.Internal.Readings.{tree_of};
-ghost use Rattle.vast_rows.specs.Phrases.{IsPhrase};
-ghost use Rattle.vast_rows.proofs.PhraseLaws.{phrases_told};
+ghost use Rattle.vast_read.specs.Internal.Steps.{tail};
+ghost use Rattle.vast_read.specs.View.{view};
+ghost use Rattle.vast_rows.specs.Events.{first_name};
+ghost use Rattle.vast_rows.specs.Kinds.{kind_of_first};
 
-use crate::build::{Build, Unbuilt};
+use crate::build::{Build, Trees, Unbuilt};
 use crate::fault::Fault;
 use crate::reader::Reader;
 use crate::reader::path_of;
+use crate::token::Token;
+use crate::tree::NormalExpr;
 use std::alloc::AllocError;
 use vast_rows::{Kind, Phrase, Source};
 
@@ -83,24 +87,50 @@ impl<'t> Reader<'t> {
     }
 }
 
-impl<'t> Source for Reader<'t> {
-    type Made = Made<'t, <Unbuilt as Build<'t>>::Expr>;
+impl<'t> Reader<'t> {
+    /// Leaves the next token behind, and hands over its text where it is a name.
+    #[tactic(auto, using(crate::proofs::Phrases::names))]
+    pub(crate) fn take_name(&mut self) -> Option<&'t str>
+        ensures left { self.new ≡ tail self.old }
+        ensures name { MatchOption result (first_name self.old ≡ None)
+            (λ name. first_name self.old ≡ Some name.now) }
+    {
+        match self.next() {
+            Some(Token::Word(name)) => Some(name),
+            Some(Token::MacroWord(name)) => Some(name),
+            _ => None,
+        }
+    }
 
-    ghost left = { λ ts. ts };
-
-    ghost is_phrase = { IsPhrase };
-
-    ghost sees = { meaning_of (λ x. tree_of x.value) };
-
-    fn kind(&self) -> Kind {
+    /// The kind of the next token.
+    pub(crate) fn next_kind(&self) -> Kind
+        ensures { result ≡ kind_of_first self.now }
+    {
         match self.peek() {
             None => Kind::End,
             Some(token) => token.kind(),
         }
     }
+}
 
-    fn skip(&mut self) {
-        Reader::skip(self)
+/// The reader as the source of a machine that makes nothing of phrases.
+impl<'t> Source for Reader<'t> {
+    type Made = Made<'t, <Unbuilt as Build<'t>>::Expr>;
+
+    type Name = &'t str;
+
+    ghost left = { λ ts. ts };
+
+    ghost sees = { meaning_of (λ x. tree_of x.value) };
+
+    ghost text = { λ w. w.now };
+
+    fn kind(&self) -> Kind {
+        self.next_kind()
+    }
+
+    fn take(&mut self) -> Option<&'t str> {
+        self.take_name()
     }
 
     #[tactic(auto, using(crate::proofs::Phrases::sources))]
@@ -111,8 +141,39 @@ impl<'t> Source for Reader<'t> {
             Err(Fault::Memory) => Err(AllocError),
         }
     }
+}
 
-    ghost begins = { phrases_told.begin };
+/// The same, where the trees of phrases are made.
+#[derive(Drop)]
+pub(crate) struct TreeSource<'t> {
+    pub(crate) reader: Reader<'t>,
+}
 
-    ghost told_apart = { phrases_told.apart };
+impl<'t> Source for TreeSource<'t> {
+    type Made = Made<'t, Box<NormalExpr>>;
+
+    type Name = &'t str;
+
+    ghost left = { λ s. s.reader };
+
+    ghost sees = { meaning_of (λ x. view x.value) };
+
+    ghost text = { λ w. w.now };
+
+    fn kind(&self) -> Kind {
+        self.reader.next_kind()
+    }
+
+    fn take(&mut self) -> Option<&'t str> {
+        self.reader.take_name()
+    }
+
+    #[tactic(auto, using(crate::proofs::Phrases::sources))]
+    fn phrase(&mut self, phrase: Phrase) -> Result<Option<Made<'t, Box<NormalExpr>>>, AllocError> {
+        match self.reader.made::<Trees>(phrase) {
+            Ok(made) => Ok(Some(made)),
+            Err(Fault::Underived) => Ok(None),
+            Err(Fault::Memory) => Err(AllocError),
+        }
+    }
 }
