@@ -7,12 +7,14 @@ ghost use Rattle.vast_read.specs.Internal.Made.{Grown, events_heard, seen, told_
 ghost use Rattle.vast_rows.specs.Built.{happens};
 ghost use Rattle.vast_rows.specs.Trace.{trace};
 
+use crate::children::Children;
 use crate::fault::Fault;
-use crate::made::make::make;
+use crate::made::make::{make, put};
+use crate::made::part::{Part, first};
 use crate::made::value::{Path, Range, Value, Values};
 use crate::phrase::{Made, TreeSource};
 use crate::stack::Stack;
-use crate::tree::{NormalExpr, NormalFile};
+use crate::tree::{NormalExpr, NormalFile, NormalItem};
 use std::alloc::{AllocError, Global};
 use vast_rows::{Action, Sink};
 
@@ -37,17 +39,17 @@ impl<'t> Sink<TreeSource<'t>> for Heard<'t> {
     ghost after = { λ before events now.
         events_heard now.events ≡ events_heard before.events ++ events };
 
-    #[tactic(auto, using(crate::proofs::Made::hears))]
+    #[tactic(auto, using(crate::proofs::Making::hears))]
     fn makes(&mut self, action: Action) -> Result<(), AllocError> {
         self.events.push(Told::Makes(action))
     }
 
-    #[tactic(auto, using(crate::proofs::Made::hears))]
+    #[tactic(auto, using(crate::proofs::Making::hears))]
     fn reads(&mut self, made: Made<'t, Box<NormalExpr>>) -> Result<(), AllocError> {
         self.events.push(Told::Reads(made))
     }
 
-    #[tactic(auto, using(crate::proofs::Made::hears))]
+    #[tactic(auto, using(crate::proofs::Making::hears))]
     fn names(&mut self, name: &'t str) -> Result<(), AllocError> {
         self.events.push(Told::Names(name))
     }
@@ -78,18 +80,18 @@ impl<'t> Heard<'t> {
         while let Some(event) = events.pop() {
             happens(alloc, event, &mut values)?;
         }
-        match values.pop() {
-            Some(Value::Items(items)) => Ok(Some(NormalFile {
+        match first::<Children<NormalItem>>(&mut values) {
+            Some(items) => Ok(Some(NormalFile {
                 items: items.reversed(),
             })),
-            _ => Ok(None),
+            None => Ok(None),
         }
     }
 }
 
 /// Puts what the event makes in the place of what it makes it of.
 fn happens<'t>(alloc: Global, event: Told<'t>, values: &mut Values<'t>) -> Result<(), Fault>
-    ensures { IfOk result (λ _. Grown (happens (told_event event) (seen values.old)) values.new) }
+    ensures { IfOk result (λ _. Grown (happens (told_event event.entry) (seen values.old)) values.new) }
 {
     match event {
         Told::Makes(action) => make(alloc, action, values),

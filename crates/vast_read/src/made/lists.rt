@@ -54,7 +54,7 @@ pub(crate) fn one_more(what: Listed, values: &mut Values<'_>) -> Result<(), Faul
     }
 }
 
-#[tactic(auto, using(crate::proofs::Made::lists), unfolding(vast_rows::specs::Built::make_more, vast_rows::specs::Built::of_one, vast_rows::specs::Built::of_two))]
+#[tactic(auto, using(crate::proofs::Making::lists), unfolding(vast_rows::specs::Built::make_more, vast_rows::specs::Built::of_one, vast_rows::specs::Built::of_two))]
 fn one_more_item(values: &mut Values<'_>) -> Result<(), Fault>
     ensures { IfOk result (λ _. Grown (make_more listed.Item (seen values.old)) values.new) }
 {
@@ -69,7 +69,7 @@ fn one_more_item(values: &mut Values<'_>) -> Result<(), Fault>
     Ok(())
 }
 
-#[tactic(auto, using(crate::proofs::Made::lists), unfolding(vast_rows::specs::Built::make_more, vast_rows::specs::Built::of_one, vast_rows::specs::Built::of_two))]
+#[tactic(auto, using(crate::proofs::Making::lists), unfolding(vast_rows::specs::Built::make_more, vast_rows::specs::Built::of_one, vast_rows::specs::Built::of_two))]
 fn one_more_parameter(values: &mut Values<'_>) -> Result<(), Fault>
     ensures { IfOk result (λ _. Grown (make_more listed.Parameter (seen values.old)) values.new) }
 {
@@ -84,7 +84,7 @@ fn one_more_parameter(values: &mut Values<'_>) -> Result<(), Fault>
     Ok(())
 }
 
-#[tactic(auto, using(crate::proofs::Made::lists), unfolding(vast_rows::specs::Built::make_more, vast_rows::specs::Built::of_one, vast_rows::specs::Built::of_two))]
+#[tactic(auto, using(crate::proofs::Making::lists), unfolding(vast_rows::specs::Built::make_more, vast_rows::specs::Built::of_one, vast_rows::specs::Built::of_two))]
 fn one_more_port(values: &mut Values<'_>) -> Result<(), Fault>
     ensures { IfOk result (λ _. Grown (make_more listed.Port (seen values.old)) values.new) }
 {
@@ -99,7 +99,7 @@ fn one_more_port(values: &mut Values<'_>) -> Result<(), Fault>
     Ok(())
 }
 
-#[tactic(auto, using(crate::proofs::Made::lists), unfolding(vast_rows::specs::Built::make_more, vast_rows::specs::Built::of_one, vast_rows::specs::Built::of_two))]
+#[tactic(auto, using(crate::proofs::Making::lists), unfolding(vast_rows::specs::Built::make_more, vast_rows::specs::Built::of_one, vast_rows::specs::Built::of_two))]
 fn one_more_member(values: &mut Values<'_>) -> Result<(), Fault>
     ensures { IfOk result (λ _. Grown (make_more listed.Member (seen values.old)) values.new) }
 {
@@ -114,7 +114,7 @@ fn one_more_member(values: &mut Values<'_>) -> Result<(), Fault>
     Ok(())
 }
 
-#[tactic(auto, using(crate::proofs::Made::lists), unfolding(vast_rows::specs::Built::make_more, vast_rows::specs::Built::of_one, vast_rows::specs::Built::of_two))]
+#[tactic(auto, using(crate::proofs::Making::lists), unfolding(vast_rows::specs::Built::make_more, vast_rows::specs::Built::of_one, vast_rows::specs::Built::of_two))]
 fn one_more_group(values: &mut Values<'_>) -> Result<(), Fault>
     ensures { IfOk result (λ _. Grown (make_more listed.Group (seen values.old)) values.new) }
 {
@@ -129,7 +129,7 @@ fn one_more_group(values: &mut Values<'_>) -> Result<(), Fault>
     Ok(())
 }
 
-#[tactic(auto, using(crate::proofs::Made::lists), unfolding(vast_rows::specs::Built::make_more, vast_rows::specs::Built::of_one, vast_rows::specs::Built::of_two))]
+#[tactic(auto, using(crate::proofs::Making::lists), unfolding(vast_rows::specs::Built::make_more, vast_rows::specs::Built::of_one, vast_rows::specs::Built::of_two))]
 fn one_more_declaration(values: &mut Values<'_>) -> Result<(), Fault>
     ensures { IfOk result (λ _. Grown (make_more listed.Declaration (seen values.old)) values.new) }
 {
@@ -144,7 +144,7 @@ fn one_more_declaration(values: &mut Values<'_>) -> Result<(), Fault>
     Ok(())
 }
 
-#[tactic(auto, using(crate::proofs::Made::lists), unfolding(vast_rows::specs::Built::make_more, vast_rows::specs::Built::of_one, vast_rows::specs::Built::of_two))]
+#[tactic(auto, using(crate::proofs::Making::lists), unfolding(vast_rows::specs::Built::make_more, vast_rows::specs::Built::of_one, vast_rows::specs::Built::of_two))]
 fn one_more_connection(values: &mut Values<'_>) -> Result<(), Fault>
     ensures { IfOk result (λ _. Grown (make_more listed.Connection (seen values.old)) values.new) }
 {
@@ -159,7 +159,7 @@ fn one_more_connection(values: &mut Values<'_>) -> Result<(), Fault>
     Ok(())
 }
 
-#[tactic(auto, using(crate::proofs::Made::lists), unfolding(vast_rows::specs::Built::make_more, vast_rows::specs::Built::of_one, vast_rows::specs::Built::of_two))]
+#[tactic(auto, using(crate::proofs::Making::lists), unfolding(vast_rows::specs::Built::make_more, vast_rows::specs::Built::of_one, vast_rows::specs::Built::of_two))]
 fn one_more_event(values: &mut Values<'_>) -> Result<(), Fault>
     ensures { IfOk result (λ _. Grown (make_more listed.Event (seen values.old)) values.new) }
 {
@@ -174,7 +174,7 @@ fn one_more_event(values: &mut Values<'_>) -> Result<(), Fault>
     Ok(())
 }
 
-#[tactic(auto, using(crate::proofs::Made::lists), unfolding(vast_rows::specs::Built::make_more, vast_rows::specs::Built::of_one, vast_rows::specs::Built::of_two))]
+#[tactic(auto, using(crate::proofs::Making::lists), unfolding(vast_rows::specs::Built::make_more, vast_rows::specs::Built::of_one, vast_rows::specs::Built::of_two))]
 fn one_more_statement(values: &mut Values<'_>) -> Result<(), Fault>
     ensures { IfOk result (λ _. Grown (make_more listed.Statement (seen values.old)) values.new) }
 {
@@ -189,7 +189,7 @@ fn one_more_statement(values: &mut Values<'_>) -> Result<(), Fault>
     Ok(())
 }
 
-#[tactic(auto, using(crate::proofs::Made::lists), unfolding(vast_rows::specs::Built::make_more, vast_rows::specs::Built::of_one, vast_rows::specs::Built::of_two))]
+#[tactic(auto, using(crate::proofs::Making::lists), unfolding(vast_rows::specs::Built::make_more, vast_rows::specs::Built::of_one, vast_rows::specs::Built::of_two))]
 fn one_more_expression(values: &mut Values<'_>) -> Result<(), Fault>
     ensures { IfOk result (λ _. Grown (make_more listed.Expression (seen values.old)) values.new) }
 {

@@ -1,6 +1,6 @@
 //! What each action makes.
 
-ghost use Rattle.std.specs.Prelude.{◌≡◌, IfOk};
+ghost use Rattle.std.specs.Prelude.{◌≡◌, ◌∷◌, IfOk};
 ghost use Rattle.vast_rows.specs.Built.{make};
 ghost use Rattle.vast_read.specs.Internal.Made.{Grown, seen};
 
@@ -71,7 +71,7 @@ pub(crate) fn make(alloc: Global, action: Action, values: &mut Values<'_>) -> Re
 
 /// One more value in front.
 pub(crate) fn put<'t>(value: Value<'t>, values: &mut Values<'t>) -> Result<(), Fault>
-    ensures { IfOk result (λ _. values.new ≡ (value ∷ values.old)) }
+    ensures { IfOk result (λ _. values.new ≡ (value.entry ∷ values.old)) }
 {
     values.push(value)?;
     Ok(())

@@ -29,8 +29,8 @@ pub(crate) trait Part<'t>: Sized {
 
     /// The value, if it is such a part.
     fn of(value: Value<'t>) -> Option<Self>
-        ensures { MatchOption result (kind (value_view value) ≡ None)
-            (λ x. kind (value_view value) ≡ Some (sees x)) };
+        ensures { MatchOption result (kind (value_view value.entry) ≡ None)
+            (λ x. kind (value_view value.entry) ≡ Some (sees x)) };
 }
 
 /// The first of these values, if it is such a part. Whatever it is, it leaves.

@@ -57,7 +57,7 @@ pub(crate) fn assigns_by_word(values: &mut Values<'_>) -> Result<(), Fault>
 
 impl Alternatives {
     /// All arms, the first of them first, and the block of the last `else`.
-    #[tactic(auto, using(crate::proofs::Made::arms))]
+    #[tactic(auto, using(crate::proofs::Making::arms))]
     pub(crate) fn in_order(
         self,
     ) -> Result<(Children<Arm>, Option<Children<NormalStatement>>), Fault>
@@ -96,13 +96,7 @@ pub(crate) fn unique_case(values: &mut Values<'_>) -> Result<(), Fault>
     let Some(statement) = first::<NormalStatement>(values) else {
         return Ok(());
     };
-    let made = match statement {
-        NormalStatement::Case(_, word, selector, arms) => {
-            NormalStatement::Case(true, word, selector, arms)
-        }
-        other => other,
-    };
-    values.push(Value::Statement(made))?;
+    values.push(Value::Statement(statement.into_unique()))?;
     Ok(())
 }
 
@@ -123,7 +117,7 @@ pub(crate) fn case_of(alloc: Global, key: Key, values: &mut Values<'_>) -> Resul
 }
 
 /// The arms of a conditional, of its condition, its block and what follows that.
-#[tactic(auto, using(crate::proofs::Made::arms), unfolding(vast_rows::specs::Built::alternated, vast_rows::specs::Built::make, vast_rows::specs::Built::of_one, vast_rows::specs::Built::of_two, vast_rows::specs::Built::of_three, vast_rows::specs::Built::of_four))]
+#[tactic(auto, using(crate::proofs::Making::arms), unfolding(vast_rows::specs::Built::alternated, vast_rows::specs::Built::make, vast_rows::specs::Built::of_one, vast_rows::specs::Built::of_two, vast_rows::specs::Built::of_three, vast_rows::specs::Built::of_four))]
 pub(crate) fn conditional(alloc: Global, values: &mut Values<'_>) -> Result<(), Fault>
     ensures { IfOk result (λ _. Grown (make action.Conditional (seen values.old)) values.new) }
 {
@@ -160,7 +154,7 @@ pub(crate) fn conditional(alloc: Global, values: &mut Values<'_>) -> Result<(), 
 }
 
 /// An arm of a case of its label and block, before others.
-#[tactic(auto, using(crate::proofs::Made::lists), unfolding(vast_rows::specs::Built::make, vast_rows::specs::Built::of_one, vast_rows::specs::Built::of_two, vast_rows::specs::Built::of_three, vast_rows::specs::Built::of_four))]
+#[tactic(auto, using(crate::proofs::Making::lists), unfolding(vast_rows::specs::Built::make, vast_rows::specs::Built::of_one, vast_rows::specs::Built::of_two, vast_rows::specs::Built::of_three, vast_rows::specs::Built::of_four))]
 pub(crate) fn arm(values: &mut Values<'_>) -> Result<(), Fault>
     ensures { IfOk result (λ _. Grown (make action.Arm (seen values.old)) values.new) }
 {
@@ -179,7 +173,7 @@ pub(crate) fn arm(values: &mut Values<'_>) -> Result<(), Fault>
 }
 
 /// An arm of a case without a label, before others.
-#[tactic(auto, using(crate::proofs::Made::lists), unfolding(vast_rows::specs::Built::make, vast_rows::specs::Built::of_one, vast_rows::specs::Built::of_two, vast_rows::specs::Built::of_three, vast_rows::specs::Built::of_four))]
+#[tactic(auto, using(crate::proofs::Making::lists), unfolding(vast_rows::specs::Built::make, vast_rows::specs::Built::of_one, vast_rows::specs::Built::of_two, vast_rows::specs::Built::of_three, vast_rows::specs::Built::of_four))]
 pub(crate) fn default_arm(values: &mut Values<'_>) -> Result<(), Fault>
     ensures { IfOk result (λ _. Grown (make action.DefaultArm (seen values.old)) values.new) }
 {
