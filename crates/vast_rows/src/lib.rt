@@ -15,6 +15,8 @@ mod sink;
 mod source;
 mod stack;
 mod table;
+#[cfg(test)]
+mod trial;
 
 pub use action::{Action, Listed};
 pub use grammar::{Phrase, Table};
