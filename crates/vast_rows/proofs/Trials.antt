@@ -1,87 +1,71 @@
 -- The source of the tests does what its contract says.
-use Rattle.std.proofs.Common.{◌≡◌, ◌<◌, List, [], ◌∷◌, length, get_or, drop, map, true, false, None, refl, sym, ap, ◌∙◌, arith}
+use Rattle.std.proofs.Common.{◌≡◌, ℕ, ◌<◌, List, [], ◌∷◌, length, get_or, drop, map, true, Some, None, refl, sym, ap, ◌∙◌, arith}
+use Rattle.std.proofs.lemmas.Nat.Bits.{bit_at-zero}
+use Rattle.vast_literal.specs.NormalExpr.{Name}
 use Rattle.vast_literal.specs.Grammar.{name}
 use Rattle.vast_literal.specs.Tokens as tokens
 use Rattle.vast_literal.proofs.Sound.{lower}
 use Rattle.vast_rows.specs.declared.grammar.Phrase.{Phrase}
 use Rattle.vast_rows.specs.declared.grammar.Phrase.TheVariants.{Expression, Target, LoopHead, Path}
-use Rattle.vast_rows.specs.declared.kind.Kind.{Kind}
-use Rattle.vast_rows.specs.declared.kind.Kind.TheVariants.{End, Word, Quoted, Mark, Operator, Reserved}
-use Rattle.vast_rows.specs.Events.{name_of}
-use Rattle.vast_rows.specs.Internal.Sources.{tail, HasRead, HasNone, first_name, kind_of_first, head_kind}
-use Rattle.vast_rows.specs.Internal.Trial.{token_of, lone, meaning_of}
-use Rattle.vast_rows.specs.Kinds.{has, number, kind_of}
-use Rattle.vast_rows.specs.Phrases.{IsPhrase, expression, target, path}
-use Rattle.vast_rows.specs.Internal.PhraseKinds.{firsts, stops}
-use Rattle.vast_rows.proofs.PhraseLaws.{begins, apart}
+use Rattle.vast_rows.specs.declared.trial.Tried.{Tried}
+use Rattle.vast_rows.specs.declared.trial.Tried.TheVariants.{Word, Mark, Operator, Reserved}
+use Rattle.vast_rows.specs.Internal.PhraseKinds.{stops}
+use Rattle.vast_rows.specs.Internal.Sources.{tail, kind_of_first, head_kind, first_name, HasRead}
+use Rattle.vast_rows.specs.Internal.Trial.{token_of, name_ends}
+use Rattle.vast_rows.specs.Kinds.{has, kind_of}
+use Rattle.vast_rows.specs.Phrases.{IsExpression, IsPhrase, expression, target}
+use Rattle.vast_rows.proofs.PhraseLaws.{apart}
 
-pub first_kind : (ks : List Kind) (d : Kind) → 0 < length ks → kind_of (token_of (get_or ks 0 d)) ≡ kind_of_first (map token_of ks)
+pub first_kind : (ks : List Tried) (d : Tried) → 0 < length ks → kind_of_first (map token_of ks) ≡ kind_of (token_of (get_or ks 0 d))
 first_kind [] d h = absurd (let z : ⊥ = omega arith in z)
 first_kind (k ∷ ks) d h = refl
 
-pub no_kind : (ks : List Kind) → length ks ≡ 0 → kind_of_first [] ≡ kind_of_first (map token_of ks)
+pub no_kind : (ks : List Tried) → length ks ≡ 0 → kind_of_first [] ≡ kind_of_first (map token_of ks)
 no_kind [] h = refl
 no_kind (k ∷ ks) h = absurd (let z : ⊥ = omega arith in z)
 
-pub first_text : (ks : List Kind) (d : Kind) → 0 < length ks → first_name (map token_of ks) ≡ name_of (token_of (get_or ks 0 d))
-first_text [] d h = absurd (let z : ⊥ = omega arith in z)
-first_text (k ∷ ks) d h = refl
-
-pub no_text : (ks : List Kind) → length ks ≡ 0 → first_name (map token_of ks) ≡ None
-no_text [] h = refl
-no_text (k ∷ ks) h = absurd (let z : ⊥ = omega arith in z)
-
-pub skips_one : (ks : List Kind) → map token_of (drop 1 ks) ≡ tail (map token_of ks)
+pub skips_one : (ks : List Tried) → map token_of (drop 1 ks) ≡ tail (map token_of ks)
 skips_one [] = refl
 skips_one (k ∷ ks) = refl
 
-pub skips_none : (ks : List Kind) → length ks ≡ 0 → map token_of ks ≡ tail (map token_of ks)
+pub skips_none : (ks : List Tried) → length ks ≡ 0 → map token_of ks ≡ tail (map token_of ks)
 skips_none [] h = refl
 skips_none (k ∷ ks) h = absurd (let z : ⊥ = omega arith in z)
 
-no_end : (p : Phrase) → has (firsts p) 0 ≡ false
-no_end Expression = refl
-no_end Target = refl
-no_end LoopHead = refl
-no_end Path = refl
+pub is_word : (ks : List Tried) → head_kind (map token_of ks) ≡ 1 → first_name (map token_of ks) ≡ Some []
+is_word [] h = absurd (cc h)
+is_word (Word ∷ ks) h = refl
+is_word (Mark m ∷ ks) h = absurd (let z : ⊥ = omega (arith, h) in z)
+is_word (Operator o ∷ ks) h = absurd (let z : ⊥ = omega (arith, h) in z)
+is_word (Reserved k ∷ ks) h = absurd (let z : ⊥ = omega (arith, h) in z)
 
-word_is : (k : Kind) → number (kind_of (token_of k)) ≡ 1 → token_of k ≡ tokens.Word []
-word_is End h = refl
-word_is Word h = refl
-word_is (Mark m) h = absurd (let z : ⊥ = omega (arith, h) in z)
-word_is (Operator o) h = absurd (let z : ⊥ = omega (arith, h) in z)
-word_is (Reserved k) h = absurd (let z : ⊥ = omega (arith, h) in z)
-word_is Quoted h = absurd (cc h)
-word_is _ h = absurd (cc h)
+pub is_no_word : (ks : List Tried) → (head_kind (map token_of ks) ≡ 1 → ⊥) → first_name (map token_of ks) ≡ None
+is_no_word [] h = refl
+is_no_word (Word ∷ ks) h = absurd (h refl)
+is_no_word (Mark m ∷ ks) h = refl
+is_no_word (Operator o ∷ ks) h = refl
+is_no_word (Reserved k ∷ ks) h = refl
 
-string_is : (k : Kind) → number (kind_of (token_of k)) ≡ 8 → token_of k ≡ tokens.Quoted (34 ∷ 34 ∷ [])
-string_is Quoted h = refl
-string_is (Mark m) h = absurd (let z : ⊥ = omega (arith, h) in z)
-string_is (Operator o) h = absurd (let z : ⊥ = omega (arith, h) in z)
-string_is (Reserved k) h = absurd (let z : ⊥ = omega (arith, h) in z)
-string_is Word h = absurd (cc h)
-string_is _ h = absurd (cc h)
+-- A name is the phrase, and ends where the phrase may.
+alone : (p : Phrase) (k : ℕ) → has (name_ends p) k ≡ true → IsPhrase p (tokens.Word [] ∷ []) (IsExpression (Name [])) × (has (stops p) k ≡ true)
+alone Expression k h = (expression (lower 14 0 _ _ (omega arith) (omega arith) (name [])), h)
+alone Target k h = (target (lower 14 13 _ _ (omega arith) (omega arith) (name [])), h)
+alone LoopHead k h = let z = bit_at-zero k in absurd (cc (z, h))
+alone Path k h = let z = bit_at-zero k in absurd (cc (z, h))
 
-alone : (p : Phrase) (k : Kind) → has (firsts p) (number (kind_of (token_of k))) ≡ true → number (kind_of (token_of k)) ≡ lone p → IsPhrase p (token_of k ∷ []) (meaning_of p)
-alone Expression k h e = rw (word_is k e) (expression (lower 14 0 _ _ (omega arith) (omega arith) (name [])))
-alone Target k h e = rw (word_is k e) (target (lower 14 13 _ _ (omega arith) (omega arith) (name [])))
-alone LoopHead k h e = let z : has (firsts LoopHead) 0 ≡ true = rw e at h in absurd (cc z)
-alone Path k h e = rw (string_is k e) (path [])
-
-pub reads_one : (p : Phrase) (ks : List Kind) (us : List tokens.Token) → has (firsts p) (head_kind (map token_of ks)) ≡ true → head_kind (map token_of ks) ≡ lone p → has (stops p) (head_kind us) ≡ true → us ≡ tail (map token_of ks) →
-    HasRead p (map token_of ks) (meaning_of p) us
-reads_one p [] us h l s e = let n = no_end p in absurd (cc (sym n ∙ h))
-reads_one p (k ∷ ks) us h l s e = let a = alone p k h l in record {
-  front = token_of k ∷ [];
-  reads = a;
-  split = ap (λ (v : List tokens.Token). token_of k ∷ v) (sym e);
+pub reads_one : (p : Phrase) (ks : List Tried) (us : List tokens.Token) → head_kind (map token_of ks) ≡ 1 → has (name_ends p) (head_kind us) ≡ true → us ≡ tail (map token_of ks) → HasRead p (map token_of ks) (IsExpression (Name [])) us
+reads_one p [] us w h e = absurd (cc w)
+reads_one p (Word ∷ ks) us w h e = let a = alone p (head_kind us) h in record {
+  front = tokens.Word [] ∷ [];
+  reads = a.0;
+  split = ap (λ (v : List tokens.Token). tokens.Word [] ∷ v) (sym e);
   fewer = rw e (omega arith);
-  same = λ ts rest n i same t. apart p ts (token_of k ∷ []) rest us n (meaning_of p) i a (sym same ∙ ap (λ (v : List tokens.Token). token_of k ∷ v) (sym e)) t s;
+  same = λ ts rest n i same t. apart p ts (tokens.Word [] ∷ []) rest us n (IsExpression (Name [])) i a.0 (sym same ∙ ap (λ (v : List tokens.Token). tokens.Word [] ∷ v) (sym e)) t a.1;
 }
+reads_one p (Mark m ∷ ks) us w h e = absurd (let z : ⊥ = omega (arith, w) in z)
+reads_one p (Operator o ∷ ks) us w h e = absurd (let z : ⊥ = omega (arith, w) in z)
+reads_one p (Reserved k ∷ ks) us w h e = absurd (let z : ⊥ = omega (arith, w) in z)
 
-pub reads_none : (p : Phrase) (ts : List tokens.Token) → has (firsts p) (head_kind ts) ≡ false → HasNone p ts
-reads_none p ts h us rest m i same s = let b = begins p us rest m i in let c : has (firsts p) (head_kind ts) ≡ true = rw same b in absurd (cc (sym h ∙ c))
+pub ruleset sources = (first_kind, no_kind, skips_one, skips_none, is_word, is_no_word)
 
-pub ruleset sources = (first_kind, no_kind, first_text, no_text, skips_one, skips_none)
-
-pub ruleset phrases = (reads_one, reads_none)
+pub ruleset phrases = (reads_one, skips_one)
