@@ -13,40 +13,40 @@ use crate::source::Source;
 use std::alloc::{AllocError, Global};
 use vast_literal::{Key, Mark, Sign};
 
-/// A token. All names are without bytes.
-#[derive(Clone, Copy)]
-enum Tried {
-    Word,
-    Mark(Mark),
-    Operator(Sign),
-    Reserved(Key),
-}
-
-/// Tokens in which each expression is a name. Of others the source says that it has no memory.
+/// Tokens by their kinds: names without bytes, marks, signs and keywords. Each expression is a name;
+/// of others the source says that it has no memory.
 #[derive(Drop)]
 struct Trial<'a> {
-    rest: &'a [Tried],
+    rest: &'a [Kind],
 }
 
 /// The kind of the first token.
 #[tactic(auto, using(crate::proofs::Trials::sources))]
-fn first_of(tokens: &[Tried]) -> Kind
+fn first_of(tokens: &[Kind]) -> Kind
     ensures { result ≡ kind_of_first (map token_of tokens.now) }
 {
     if tokens.is_empty() {
         return Kind::End;
     }
     match tokens[0] {
-        Tried::Word => Kind::Word,
-        Tried::Mark(mark) => Kind::Mark(mark),
-        Tried::Operator(sign) => Kind::Operator(sign),
-        Tried::Reserved(key) => Kind::Reserved(key),
+        Kind::End => Kind::Word,
+        Kind::Word => Kind::Word,
+        Kind::Keyword => Kind::Word,
+        Kind::SystemWord => Kind::Word,
+        Kind::MacroWord => Kind::Word,
+        Kind::IncludeWord => Kind::Word,
+        Kind::Number => Kind::Word,
+        Kind::Based => Kind::Word,
+        Kind::Quoted => Kind::Word,
+        Kind::Mark(mark) => Kind::Mark(mark),
+        Kind::Operator(sign) => Kind::Operator(sign),
+        Kind::Reserved(key) => Kind::Reserved(key),
     }
 }
 
 /// The others.
 #[tactic(auto, using(crate::proofs::Trials::sources))]
-fn behind<'a>(tokens: &'a [Tried]) -> &'a [Tried]
+fn behind<'a>(tokens: &'a [Kind]) -> &'a [Kind]
     ensures { map token_of result.now ≡ tail (map token_of tokens.now) }
 {
     if tokens.is_empty() {
@@ -105,7 +105,7 @@ impl<'a> Source for Trial<'a> {
 }
 
 /// These tokens, so many times.
-fn repeated(tokens: &mut Vec<Tried>, count: u32, some: &[Tried]) -> Result<(), AllocError> {
+fn repeated(tokens: &mut Vec<Kind>, count: u32, some: &[Kind]) -> Result<(), AllocError> {
     for _ in 0..count {
         for token in some {
             tokens.push(*token)?;
@@ -115,7 +115,7 @@ fn repeated(tokens: &mut Vec<Tried>, count: u32, some: &[Tried]) -> Result<(), A
 }
 
 /// Whether the tokens are those of a file.
-fn reads(alloc: Global, tokens: &[Tried]) -> Result<bool, AllocError> {
+fn reads(alloc: Global, tokens: &[Kind]) -> Result<bool, AllocError> {
     let mut source = Trial { rest: tokens };
     is_file(alloc, &mut source)
 }
@@ -124,26 +124,26 @@ fn reads(alloc: Global, tokens: &[Tried]) -> Result<bool, AllocError> {
 fn nested(alloc: Global, opened: u32, closed: u32) -> Result<bool, AllocError> {
     let mut tokens = Vec::new(alloc);
     let head = [
-        Tried::Reserved(Key::Module),
-        Tried::Word,
-        Tried::Mark(Mark::Semicolon),
-        Tried::Reserved(Key::AlwaysComb),
-        Tried::Reserved(Key::Begin),
+        Kind::Reserved(Key::Module),
+        Kind::Word,
+        Kind::Mark(Mark::Semicolon),
+        Kind::Reserved(Key::AlwaysComb),
+        Kind::Reserved(Key::Begin),
     ];
     let open = [
-        Tried::Reserved(Key::If),
-        Tried::Mark(Mark::OpenParen),
-        Tried::Word,
-        Tried::Mark(Mark::CloseParen),
-        Tried::Reserved(Key::Begin),
+        Kind::Reserved(Key::If),
+        Kind::Mark(Mark::OpenParen),
+        Kind::Word,
+        Kind::Mark(Mark::CloseParen),
+        Kind::Reserved(Key::Begin),
     ];
     repeated(&mut tokens, 1, &head)?;
     repeated(&mut tokens, opened, &open)?;
-    repeated(&mut tokens, closed, &[Tried::Reserved(Key::End)])?;
+    repeated(&mut tokens, closed, &[Kind::Reserved(Key::End)])?;
     repeated(
         &mut tokens,
         1,
-        &[Tried::Reserved(Key::End), Tried::Reserved(Key::EndModule)],
+        &[Kind::Reserved(Key::End), Kind::Reserved(Key::EndModule)],
     )?;
     reads(alloc, &tokens)
 }
@@ -152,36 +152,36 @@ fn nested(alloc: Global, opened: u32, closed: u32) -> Result<bool, AllocError> {
 fn reads_files(rt: HostRuntime) {
     // nothing; a module without its end
     let header = [
-        Tried::Reserved(Key::Module),
-        Tried::Word,
-        Tried::Mark(Mark::Semicolon),
+        Kind::Reserved(Key::Module),
+        Kind::Word,
+        Kind::Mark(Mark::Semicolon),
     ];
     assert!(rt; reads(rt.alloc(), &[]) == Ok(true));
     assert!(rt; reads(rt.alloc(), &header) == Ok(false));
     // `logic T [ a ] x ;`, and `logic T x y ;`
     let declared = [
-        Tried::Reserved(Key::Module),
-        Tried::Word,
-        Tried::Mark(Mark::Semicolon),
-        Tried::Reserved(Key::Logic),
-        Tried::Word,
-        Tried::Mark(Mark::OpenBracket),
-        Tried::Word,
-        Tried::Mark(Mark::CloseBracket),
-        Tried::Word,
-        Tried::Mark(Mark::Semicolon),
-        Tried::Reserved(Key::EndModule),
+        Kind::Reserved(Key::Module),
+        Kind::Word,
+        Kind::Mark(Mark::Semicolon),
+        Kind::Reserved(Key::Logic),
+        Kind::Word,
+        Kind::Mark(Mark::OpenBracket),
+        Kind::Word,
+        Kind::Mark(Mark::CloseBracket),
+        Kind::Word,
+        Kind::Mark(Mark::Semicolon),
+        Kind::Reserved(Key::EndModule),
     ];
     let twice = [
-        Tried::Reserved(Key::Module),
-        Tried::Word,
-        Tried::Mark(Mark::Semicolon),
-        Tried::Reserved(Key::Logic),
-        Tried::Word,
-        Tried::Word,
-        Tried::Word,
-        Tried::Mark(Mark::Semicolon),
-        Tried::Reserved(Key::EndModule),
+        Kind::Reserved(Key::Module),
+        Kind::Word,
+        Kind::Mark(Mark::Semicolon),
+        Kind::Reserved(Key::Logic),
+        Kind::Word,
+        Kind::Word,
+        Kind::Word,
+        Kind::Mark(Mark::Semicolon),
+        Kind::Reserved(Key::EndModule),
     ];
     assert!(rt; reads(rt.alloc(), &declared) == Ok(true));
     assert!(rt; reads(rt.alloc(), &twice) == Ok(false));
@@ -191,33 +191,33 @@ fn reads_files(rt: HostRuntime) {
 fn reads_bare_arms(rt: HostRuntime) {
     // `casez ( a ) a : a <= a ; endcase` in a block, and with `case`, which has no bare arms
     let arm = [
-        Tried::Mark(Mark::OpenParen),
-        Tried::Word,
-        Tried::Mark(Mark::CloseParen),
-        Tried::Word,
-        Tried::Mark(Mark::Colon),
-        Tried::Word,
-        Tried::Operator(Sign::LessEqual),
-        Tried::Word,
-        Tried::Mark(Mark::Semicolon),
-        Tried::Reserved(Key::EndCase),
-        Tried::Reserved(Key::End),
-        Tried::Reserved(Key::EndModule),
+        Kind::Mark(Mark::OpenParen),
+        Kind::Word,
+        Kind::Mark(Mark::CloseParen),
+        Kind::Word,
+        Kind::Mark(Mark::Colon),
+        Kind::Word,
+        Kind::Operator(Sign::LessEqual),
+        Kind::Word,
+        Kind::Mark(Mark::Semicolon),
+        Kind::Reserved(Key::EndCase),
+        Kind::Reserved(Key::End),
+        Kind::Reserved(Key::EndModule),
     ];
     let head = [
-        Tried::Reserved(Key::Module),
-        Tried::Word,
-        Tried::Mark(Mark::Semicolon),
-        Tried::Reserved(Key::AlwaysComb),
-        Tried::Reserved(Key::Begin),
+        Kind::Reserved(Key::Module),
+        Kind::Word,
+        Kind::Mark(Mark::Semicolon),
+        Kind::Reserved(Key::AlwaysComb),
+        Kind::Reserved(Key::Begin),
     ];
     let mut bare = Vec::new(rt.alloc());
     let mut blocks = Vec::new(rt.alloc());
     assert!(rt; repeated(&mut bare, 1, &head).is_ok());
-    assert!(rt; repeated(&mut bare, 1, &[Tried::Reserved(Key::Casez)]).is_ok());
+    assert!(rt; repeated(&mut bare, 1, &[Kind::Reserved(Key::Casez)]).is_ok());
     assert!(rt; repeated(&mut bare, 1, &arm).is_ok());
     assert!(rt; repeated(&mut blocks, 1, &head).is_ok());
-    assert!(rt; repeated(&mut blocks, 1, &[Tried::Reserved(Key::Case)]).is_ok());
+    assert!(rt; repeated(&mut blocks, 1, &[Kind::Reserved(Key::Case)]).is_ok());
     assert!(rt; repeated(&mut blocks, 1, &arm).is_ok());
     assert!(rt; reads(rt.alloc(), &bare) == Ok(true));
     assert!(rt; reads(rt.alloc(), &blocks) == Ok(false));
