@@ -1,6 +1,6 @@
 -- The page spells what the grammar of files does.
-use Rattle.std.proofs.Common.{◌≡◌, ℕ, List, [], true, false, Result, Ok, Err, Bool, IfOk, MatchBool, sym, subst}
-use Rattle.vast_literal.specs.FileGrammar.{IsFile, file, OneFile}
+use Rattle.std.proofs.Common.{◌≡◌, ℕ, List, [], true, false, Result, Ok, Err, Bool, codes, refl, IfOk, MatchBool, sym, subst}
+use Rattle.vast_literal.specs.FileGrammar.{arrow, is_direction, is_kind, is_sign, is_member_kind, is_local_kind, IsFile, file, OneFile}
 use Rattle.vast_literal.specs.NormalFile.{NormalFile}
 use Rattle.vast_literal.specs.Tokens.{Token}
 use Rattle.vast_rows.specs.declared.rule.Rule.TheVariants.{File}
@@ -9,38 +9,40 @@ use Rattle.vast_rows.specs.Facts.{Fact}
 use Rattle.vast_rows.specs.Internal.Predictive.{is_predictive}
 use Rattle.vast_rows.specs.Kinds.{has}
 use Rattle.vast_rows.specs.Laws.{Tells, IsRead, IsUnspelled, RowsAreTheGrammar}
-use Rattle.vast_rows.specs.Numbers.{rule_number}
+use Rattle.vast_rows.specs.Numbers.{rule_number, WireKey, RegKey, LogicKey, IntegerKey, IntKey, GenvarKey, SignedKey, UnsignedKey, InputKey, OutputKey, InOutKey}
 use Rattle.vast_rows.specs.Page.{page}
 use Rattle.vast_rows.specs.Rows.{Row, bare}
 use Rattle.vast_rows.specs.Trace.{trace}
 use Rattle.vast_rows.proofs.Bare.{by_page}
 use Rattle.vast_rows.proofs.Builds.{trace_is_one}
 use Rattle.vast_rows.proofs.Means.{AllMake, folds, ◌&◌}
-use Rattle.vast_rows.proofs.Meant.{MeantBy}
-use Rattle.vast_rows.proofs.MakesDeclarations.{declaration0, declaration1, kind0, kind1, kind2, kind3, kind4, kind5, declarator0, declarator1, declarator2, sign0, sign1, after_word0, after_word1, after_word2, own_type0, signed_name0, signed_name1, grouped_name0, after_groups0, after_groups1, first_groups0, groups0, groups1, group0, group_end0, group_end1, net0, net1, net2, local_kind0, local_kind1}
-use Rattle.vast_rows.proofs.MakesStatements.{lone_case0, statements0, statements1, statement0, statement1, statement2, statement3, assignment0, arrow0, arrow1, choice0, else0, else1, branch0, branch1, unique0, unique1, case0, case1, case2, arms0, arms1, arms2, bare_arms0, bare_arms1, bare_arms2, arm_body0, arm_body1}
-use Rattle.vast_rows.proofs.MakesMembers.{file0, file1, item0, item1, parameters0, parameters1, more_parameters0, more_parameters1, parameter0, ports0, ports1, more_ports0, more_ports1, port0, direction0, direction1, direction2, module_members0, module_members1, loop_members0, loop_members1, member0, member1, member2, member3, member4, member5, member6, member7, member8, member9, member10, member11, macro0, macro1, arguments0, arguments1, expressions0, expressions1, more_expressions0, more_expressions1, semicolon0, semicolon1, given_list0, given_list1, given0, more_given0, more_given1, connections0, connections1, connection0, connected0, connected1, more_connections0, more_connections1, events0, events1, event0, event1, event2, more_events0, more_events1, inputs0, inputs1, input0, more_inputs0, more_inputs1, locals0, locals1, local0, function_body0, function_body1, no_end0, no_wait0, label0, label1}
+use Rattle.vast_rows.proofs.Meant.{MeantBy, is_key, is_arrow, is_macro, is_nothing, no_tails, more_tails}
+use Rattle.vast_rows.proofs.MakesDeclarations.{declaration0, declaration1, declarator0, declarator1, declarator2, after_word0, after_word1, after_word2, own_type0, signed_name0, signed_name1, grouped_name0, after_groups0, after_groups1, first_groups0, groups0, groups1, group0, group_end0, group_end1}
+use Rattle.vast_rows.proofs.MakesStatements.{lone_case0, statements0, statements1, statement0, statement1, statement2, statement3, assignment0, choice0, else0, else1, branch0, branch1, unique0, unique1, case0, case1, case2, arms0, arms1, arms2, bare_arms0, bare_arms1, bare_arms2, arm_body0, arm_body1}
+use Rattle.vast_rows.proofs.MakesMembers.{file0, file1, item0, item1, parameters0, parameters1, parameter0, ports0, ports1, port0, module_members0, module_members1, loop_members0, loop_members1, member0, member1, member2, member3, member4, member5, member6, member7, member8, member9, member10, member11, macro0, arguments0, arguments1, expressions0, expressions1, more_expressions0, more_expressions1, semicolon0, semicolon1, given_list0, given_list1, given0, connections0, connections1, connection0, connected0, connected1, events0, events1, event0, event1, event2, inputs0, inputs1, input0, locals0, locals1, local0, function_body0, function_body1, label0, label1}
 use Rattle.vast_rows.proofs.MembersToRows.{items_to}
 use Rattle.vast_rows.proofs.OneTelling.{tells_once}
 
 -- Each row in its place.
 makes : AllMake MeantBy page
+unfolding arrow is_direction is_kind is_sign is_member_kind is_local_kind
 makes =
-    file0 & file1 & item0 & item1 & parameters0 & parameters1 & more_parameters0 & more_parameters1 & parameter0 &
-    ports0 & ports1 & more_ports0 & more_ports1 & port0 & direction0 & direction1 & direction2 & module_members0 &
-    module_members1 & loop_members0 & loop_members1 & declaration0 & declaration1 & kind0 & kind1 & kind2 & kind3 &
-    kind4 & kind5 & declarator0 & declarator1 & declarator2 & sign0 & sign1 & after_word0 & after_word1 & after_word2 &
-    own_type0 & signed_name0 & signed_name1 & grouped_name0 & after_groups0 & after_groups1 & first_groups0 & groups0 &
-    groups1 & group0 & group_end0 & group_end1 & member0 & member1 & member2 & member3 & member4 & member5 & member6 &
-    member7 & member8 & member9 & member10 & member11 & net0 & net1 & net2 & no_wait0 & macro0 & macro1 & arguments0 &
-    arguments1 & expressions0 & expressions1 & more_expressions0 & more_expressions1 & semicolon0 & semicolon1 &
-    given_list0 & given_list1 & given0 & more_given0 & more_given1 & connections0 & connections1 & connection0 &
-    connected0 & connected1 & more_connections0 & more_connections1 & events0 & events1 & event0 & event1 & event2 &
-    more_events0 & more_events1 & inputs0 & inputs1 & input0 & more_inputs0 & more_inputs1 & locals0 & locals1 &
-    local0 & local_kind0 & local_kind1 & function_body0 & function_body1 & lone_case0 & no_end0 & label0 & label1 &
-    statements0 & statements1 & statement0 & statement1 & statement2 & statement3 & assignment0 & arrow0 & arrow1 &
-    choice0 & else0 & else1 & branch0 & branch1 & unique0 & unique1 & case0 & case1 & case2 & arms0 & arms1 & arms2 &
-    bare_arms0 & bare_arms1 & bare_arms2 & arm_body0 & arm_body1 & tt
+    file0 & file1 & item0 & item1 & parameters0 & parameters1 & no_tails & more_tails & parameter0 & ports0 & ports1 &
+    no_tails & more_tails & port0 & is_key InputKey refl & is_key OutputKey refl & is_key InOutKey refl & module_members0 &
+    module_members1 & loop_members0 & loop_members1 & declaration0 & declaration1 & is_key WireKey refl & is_key RegKey refl &
+    is_key LogicKey refl & is_key IntegerKey refl & is_key IntKey refl & is_key GenvarKey refl & declarator0 & declarator1 &
+    declarator2 & is_key SignedKey refl & is_key UnsignedKey refl & after_word0 & after_word1 & after_word2 & own_type0 &
+    signed_name0 & signed_name1 & grouped_name0 & after_groups0 & after_groups1 & first_groups0 & groups0 & groups1 & group0 &
+    group_end0 & group_end1 & member0 & member1 & member2 & member3 & member4 & member5 & member6 & member7 & member8 &
+    member9 & member10 & member11 & is_key WireKey refl & is_key RegKey refl & is_key LogicKey refl & is_nothing & macro0 &
+    is_macro (codes "include") & arguments0 & arguments1 & expressions0 & expressions1 & more_expressions0 & more_expressions1 &
+    semicolon0 & semicolon1 & given_list0 & given_list1 & given0 & no_tails & more_tails & connections0 & connections1 &
+    connection0 & connected0 & connected1 & no_tails & more_tails & events0 & events1 & event0 & event1 & event2 & no_tails &
+    more_tails & inputs0 & inputs1 & input0 & no_tails & more_tails & locals0 & locals1 & local0 & is_key RegKey refl &
+    is_key LogicKey refl & function_body0 & function_body1 & lone_case0 & is_nothing & label0 & label1 & statements0 &
+    statements1 & statement0 & statement1 & statement2 & statement3 & assignment0 & is_arrow true & is_arrow false & choice0 &
+    else0 & else1 & branch0 & branch1 & unique0 & unique1 & case0 & case1 & case2 & arms0 & arms1 & arms2 & bare_arms0 &
+    bare_arms1 & bare_arms2 & arm_body0 & arm_body1 & tt
 
 file_to : (ts : List Token) (t : NormalFile) → IsFile ts t → Tells page (rule_number File) ts (trace t [])
 unfolding trace

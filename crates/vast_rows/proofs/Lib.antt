@@ -22,3 +22,4 @@ pub mod MembersToRows
 pub mod Builds
 pub mod Bridge
 pub mod Bare
+pub mod Trials

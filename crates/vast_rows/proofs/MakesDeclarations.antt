@@ -1,9 +1,9 @@
 -- The rows of declarations make what the typed relations say.
 use Rattle.std.proofs.Common.{[], ◌∷◌, Some, None, IsTrue, refl, append-nil}
-use Rattle.vast_literal.specs.FileGrammar.{is_kind, is_sign, is_member_kind, is_local_kind, no_items, more_items, one, range, absent, present, no_type, own_type, packaged, declares}
+use Rattle.vast_literal.specs.FileGrammar.{is_kind, is_member_kind, is_local_kind, no_items, more_items, one, range, absent, present, no_type, own_type, packaged, declares}
 use Rattle.vast_literal.specs.Tokens.{Reserved, Word, Mark}
-use Rattle.vast_rows.specs.declared.rule.Rule.TheVariants.{Declaration, KindWord, Declarator, SignWord, AfterWord, OwnType, SignedName, GroupedName, AfterGroups, FirstGroups, Groups, BracketGroup, GroupEnd, NetKind, LocalKind}
-use Rattle.vast_rows.specs.Numbers.{Key, WireKey, RegKey, LogicKey, IntegerKey, IntKey, GenvarKey, SignedKey, UnsignedKey, IfKey, DoubleColon}
+use Rattle.vast_rows.specs.declared.rule.Rule.TheVariants.{Declaration, Declarator, AfterWord, OwnType, SignedName, GroupedName, AfterGroups, FirstGroups, Groups, BracketGroup, GroupEnd}
+use Rattle.vast_rows.specs.Numbers.{Key, WireKey, RegKey, LogicKey, IfKey, DoubleColon}
 use Rattle.vast_rows.specs.Phrases.{expression}
 use Rattle.vast_rows.proofs.Meant.{Makes, is_key}
 
@@ -12,58 +12,6 @@ declaration0 ds d = let r = d [] None absent in (r.0, r.1)
 
 pub declaration1 : Makes Declaration 1
 declaration1 ks (is_key k h) ds d = let r = d ks (Some k) (present k h) in (r.0, r.1)
-
-pub kind0 : Makes KindWord 0
-unfolding is_kind
-kind0 = is_key WireKey refl
-
-pub kind1 : Makes KindWord 1
-unfolding is_kind
-kind1 = is_key RegKey refl
-
-pub kind2 : Makes KindWord 2
-unfolding is_kind
-kind2 = is_key LogicKey refl
-
-pub kind3 : Makes KindWord 3
-unfolding is_kind
-kind3 = is_key IntegerKey refl
-
-pub kind4 : Makes KindWord 4
-unfolding is_kind
-kind4 = is_key IntKey refl
-
-pub kind5 : Makes KindWord 5
-unfolding is_kind
-kind5 = is_key GenvarKey refl
-
-pub net0 : Makes NetKind 0
-unfolding is_member_kind
-net0 = is_key WireKey refl
-
-pub net1 : Makes NetKind 1
-unfolding is_member_kind
-net1 = is_key RegKey refl
-
-pub net2 : Makes NetKind 2
-unfolding is_member_kind
-net2 = is_key LogicKey refl
-
-pub local_kind0 : Makes LocalKind 0
-unfolding is_local_kind
-local_kind0 = is_key RegKey refl
-
-pub local_kind1 : Makes LocalKind 1
-unfolding is_local_kind
-local_kind1 = is_key LogicKey refl
-
-pub sign0 : Makes SignWord 0
-unfolding is_sign
-sign0 = is_key SignedKey refl
-
-pub sign1 : Makes SignWord 1
-unfolding is_sign
-sign1 = is_key UnsignedKey refl
 
 pub declarator0 : Makes Declarator 0
 declarator0 ss (is_key s h) us name = name [] (Reserved s ∷ []) None None (Some s) no_type (present s h)

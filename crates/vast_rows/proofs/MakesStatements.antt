@@ -1,7 +1,7 @@
 -- The rows of statements make what the typed relations say.
-use Rattle.std.proofs.Common.{true, false, append-nil}
-use Rattle.vast_literal.specs.FileGrammar.{arrow, unique, not_unique, case_word, casez_word, casex_word, simple, assigned, choice, cases, cased, assigns, done, then, only, otherwise, or, no_labels, label, default, body, bare}
-use Rattle.vast_rows.specs.declared.rule.Rule.TheVariants.{Statements, Statement, Assignment, Arrow, Choice, Else, Branch, Unique, CaseKind, CaseArms, BareArms, ArmBody, LoneCase}
+use Rattle.std.proofs.Common.{append-nil}
+use Rattle.vast_literal.specs.FileGrammar.{unique, not_unique, case_word, casez_word, casex_word, simple, assigned, choice, cases, cased, assigns, done, then, only, otherwise, or, no_labels, label, default, body, bare}
+use Rattle.vast_rows.specs.declared.rule.Rule.TheVariants.{Statements, Statement, Assignment, Choice, Else, Branch, Unique, CaseKind, CaseArms, BareArms, ArmBody, LoneCase}
 use Rattle.vast_rows.specs.Numbers.{CaseKey, CasezKey, CasexKey}
 use Rattle.vast_rows.specs.Phrases.{expression, target}
 use Rattle.vast_rows.proofs.Meant.{Makes, is_arrow, is_nothing}
@@ -26,14 +26,6 @@ statement3 us u ts after = after us u.0 u.1
 
 pub assignment0 : Makes Assignment 0
 assignment0 ls m (target p) arrows (is_arrow b) rs n (expression q) = (_, assigns b p q)
-
-pub arrow0 : Makes Arrow 0
-unfolding arrow
-arrow0 = is_arrow true
-
-pub arrow1 : Makes Arrow 1
-unfolding arrow
-arrow1 = is_arrow false
 
 pub choice0 : Makes Choice 0
 choice0 cs m (expression {x = c} p) bs b us after = after cs bs c b.0 p b.1

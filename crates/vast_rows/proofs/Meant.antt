@@ -117,5 +117,5 @@ Makes name which = let row = get_or page (row_of name which) (record { rule = 0;
 pub no_tails : {A : Type 0} {P : List Token → A → Type 0} {between : Token} → Tails P between []
 no_tails {P = P} {between = between} ts x p = (x ∷ [], subst (λ (v : List Token). IsJoined P between v (x ∷ [])) (sym (append-nil ts)) (last_item p))
 
-pub more_tails : {A : Type 0} {P : List Token → A → Type 0} {between : Token} {vs : List Token} (us : List Token) (y : A) → P us y → Tails P between vs → Tails P between (between ∷ (us ++ vs))
-more_tails us y q tails ts x p = let r = tails us y q in (x ∷ r.0, next_item p r.1)
+pub more_tails : {A : Type 0} {P : List Token → A → Type 0} {between : Token} (us : List Token) → (y : A) × P us y → (vs : List Token) → Tails P between vs → Tails P between (between ∷ (us ++ vs))
+more_tails us y vs tails ts x p = let r = tails us y.0 y.1 in (x ∷ r.0, next_item p r.1)

@@ -6,9 +6,10 @@ use Rattle.vast_rows.specs.declared.grammar.Item.{Item}
 use Rattle.vast_rows.specs.declared.grammar.Item.TheVariants.{Rule, Phrase}
 use Rattle.vast_rows.specs.declared.grammar.Phrase as code
 use Rattle.vast_rows.specs.Internal.Derives.{Derives, nothing, token, phrase, choice}
-use Rattle.vast_rows.specs.Kinds.{has, only, head_kind}
-use Rattle.vast_rows.specs.Internal.Sets.{within}
-use Rattle.vast_rows.specs.Phrases.{stops}
+use Rattle.vast_rows.specs.Kinds.{has}
+use Rattle.vast_rows.specs.Internal.Sources.{head_kind}
+use Rattle.vast_rows.specs.Internal.Sets.{within, only}
+use Rattle.vast_rows.specs.Internal.PhraseKinds.{stops}
 use Rattle.vast_rows.specs.Internal.Predictive.{row_at, starts, begins, follows, may_be_empty, lead, are_good, are_apart, are_together, is_predictive}
 use Rattle.vast_rows.specs.Facts.{Fact}
 use Rattle.vast_rows.specs.Rows.{Row}

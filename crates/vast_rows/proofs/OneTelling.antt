@@ -1,16 +1,14 @@
 -- The same tokens are told alike.
-use Rattle.std.proofs.Common.{◌≡◌, ℕ, List, [], ◌∷◌, ◌++◌, true, nat_lt, refl, sym, ap, ◌∙◌, ◌&&◌}
+use Rattle.std.proofs.Common.{◌≡◌, ℕ, List, ◌++◌, true, nat_lt, refl, sym, ◌∙◌}
 use Rattle.vast_literal.specs.Tokens as tokens
 use Rattle.vast_rows.specs.declared.grammar.Item.{Item}
-use Rattle.vast_rows.specs.declared.grammar.Item.TheVariants.{Rule}
 use Rattle.vast_rows.specs.Events.{Event}
 use Rattle.vast_rows.specs.Facts.{Fact}
 use Rattle.vast_rows.specs.Internal.Derives.{Derives, nothing, token, phrase, choice}
 use Rattle.vast_rows.specs.Internal.Predictive.{begins, follows, is_predictive}
-use Rattle.vast_rows.specs.Internal.Sets.{within}
-use Rattle.vast_rows.specs.Kinds.{only}
+use Rattle.vast_rows.specs.Internal.Sets.{within, only}
 use Rattle.vast_rows.specs.Laws.{TellsOnce}
-use Rattle.vast_rows.specs.Phrases.{stops}
+use Rattle.vast_rows.specs.Internal.PhraseKinds.{stops}
 use Rattle.vast_rows.specs.Rows.{Row}
 use Rattle.vast_rows.proofs.Derivations.{whole_derived}
 use Rattle.vast_rows.proofs.Once.{one_row, good, follows_row, follows_rule, start_follows, stopped}

@@ -12,9 +12,11 @@ use Rattle.vast_literal.proofs.Moves.{Quiet, quieter, stop_selects}
 use Rattle.vast_literal.proofs.Sound.{level_small}
 use Rattle.vast_rows.specs.declared.grammar.Phrase.{Phrase}
 use Rattle.vast_rows.specs.declared.grammar.Phrase.TheVariants.{Expression, Target}
-use Rattle.vast_rows.specs.Kinds.{has, head_kind}
+use Rattle.vast_rows.specs.Kinds.{has}
+use Rattle.vast_rows.specs.Internal.Sources.{head_kind}
 use Rattle.vast_rows.specs.Numbers.{Op, LogicOr, BitOr, BitXor, BitAnd, LessEqual, Less, Plus, Minus, BitNot, LogicNot, OpenParen, CloseParen, OpenBracket, Semicolon, Question, DoubleColon, Assign, Apostrophe, Key, IfKey, LogicKey, SignedKey, UnsignedKey, IntegerKey, IntKey}
-use Rattle.vast_rows.specs.Phrases.{IsPhrase, expression, target, loop_head, path, Meaning, IsExpression, IsLoop, IsPath, firsts, stops}
+use Rattle.vast_rows.specs.Phrases.{IsPhrase, expression, target, loop_head, path, Meaning, IsExpression, IsLoop, IsPath}
+use Rattle.vast_rows.specs.Internal.PhraseKinds.{firsts, stops}
 
 -- How an expression begins: at the upper levels with no sign.
 record Begins (k : ℕ) (ts : List Token) : Type 0 where

@@ -26,12 +26,9 @@ Spelled s ts es fs = Spells page s ts es fs
 abbrev pub Node : RuleName → List tokens.Token → (told others : List Event) → Type 0
 Node name ts es fs = Spelled (Rule (rule_number name) ∷ []) ts es fs
 
--- The same along an equation of tokens, and of what is told.
+-- The same along an equation of tokens.
 pub along : {s : List Item} {ts us : List tokens.Token} {es fs : List Event} → ts ≡ us → Spelled s ts es fs → Spelled s us es fs
 along {s} {es = es} {fs = fs} e p = subst (λ (v : List tokens.Token). Spelled s v es fs) e p
-
-pub told_so : {s : List Item} {ts : List tokens.Token} {es ds fs : List Event} → es ≡ ds → Spelled s ts es fs → Spelled s ts ds fs
-told_so {s} {ts} {fs = fs} e p = subst (λ (v : List Event). Spelled s ts v fs) e p
 
 -- Items behind others.
 pub thens : {s s' : List Item} {ts us : List tokens.Token} {es fs gs : List Event} → Spelled s ts es fs → Spelled s' us fs gs → Spelled (s ++ s') (ts ++ us) es gs

@@ -8,10 +8,11 @@ use Rattle.vast_rows.specs.declared.grammar.Item.TheVariants.{Token, Rule, Phras
 use Rattle.vast_rows.specs.declared.grammar.Phrase as code
 use Rattle.vast_rows.specs.Internal.Derives.{Derives, nothing, token, phrase, choice}
 use Rattle.vast_rows.specs.Internal.Reading.{Reading, Underived}
-use Rattle.vast_rows.specs.Kinds.{has, only, head_kind, token_kind}
-use Rattle.vast_rows.specs.Internal.Sets.{within}
-use Rattle.vast_rows.specs.Phrases.{Meaning, IsPhrase, stops}
-use Rattle.vast_rows.specs.Internal.Sources.{HasRead, HasNone}
+use Rattle.vast_rows.specs.Kinds.{has, token_kind}
+use Rattle.vast_rows.specs.Internal.Sets.{within, only}
+use Rattle.vast_rows.specs.Phrases.{Meaning, IsPhrase}
+use Rattle.vast_rows.specs.Internal.PhraseKinds.{stops}
+use Rattle.vast_rows.specs.Internal.Sources.{HasRead, HasNone, head_kind}
 use Rattle.vast_rows.specs.Internal.Predictive.{row_at, begins, follows, is_predictive}
 use Rattle.vast_rows.specs.Facts.{Fact}
 use Rattle.vast_rows.specs.Rows.{Row}

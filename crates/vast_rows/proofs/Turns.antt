@@ -1,6 +1,5 @@
 -- The turns of the machine keep a reading and what was heard of it.
-use Rattle.std.proofs.Common.{◌≡◌, ℕ, suc, zero, ◌<◌, List, [], ◌∷◌, ◌++◌, Bool, true, false, cond, nat_eq, nat_lt, length, Option, Some, None, refl, sym, ap, ◌∙◌, subst, arith, codes, bytes_eq, MatchBool}
-use Rattle.std.specs.List.{slice_get}
+use Rattle.std.proofs.Common.{◌≡◌, ℕ, suc, ◌<◌, List, [], ◌∷◌, ◌++◌, Bool, true, false, cond, nat_eq, nat_lt, length, Option, Some, None, refl, sym, ap, ◌∙◌, subst, arith, codes, bytes_eq, MatchBool}
 use Rattle.std.proofs.lemmas.Bool.{ltb-true}
 use Rattle.vast_literal.specs.Tokens as tokens
 use Rattle.vast_rows.specs.declared.action.Action.{Action}
@@ -10,8 +9,9 @@ use Rattle.vast_rows.specs.declared.grammar.Phrase as code
 use Rattle.vast_rows.specs.Internal.Reading.{Reading, Underived, Underway, IsTaken, IsDue, LeadsTo}
 use Rattle.vast_rows.specs.declared.machine.Due.{Due}
 use Rattle.vast_rows.specs.declared.kind.Kind.TheVariants.{MacroWord, IncludeWord}
-use Rattle.vast_rows.specs.Kinds.{has, only, number, head_kind, token_kind}
-use Rattle.vast_rows.specs.Internal.Sources.{tail}
+use Rattle.vast_rows.specs.Kinds.{has, number, token_kind}
+use Rattle.vast_rows.specs.Internal.Sets.{only}
+use Rattle.vast_rows.specs.Internal.Sources.{tail, first_name, head_kind}
 use Rattle.vast_rows.specs.Numbers.{OpenParen, LogicOr, IfKey}
 use Rattle.vast_rows.specs.Laws.{IsRead, IsUnspelled}
 use Rattle.vast_rows.specs.Phrases.{Meaning}
@@ -19,7 +19,7 @@ use Rattle.vast_rows.specs.Internal.Sources.{HasRead, HasNone}
 use Rattle.vast_rows.specs.Internal.Predictive.{row_at, follows, is_predictive}
 use Rattle.vast_rows.specs.Facts.{Fact}
 use Rattle.vast_rows.specs.Rows.{Row}
-use Rattle.vast_rows.specs.Events.{Event, Reads, name_of, first_name, made_by, named_by}
+use Rattle.vast_rows.specs.Events.{Event, Reads, name_of, made_by, named_by}
 use Rattle.vast_rows.proofs.Sets.{both}
 use Rattle.vast_rows.proofs.Steps.{begun, ate, wrong, finished, left_over, read_phrase, wrong_phrase, opened, refused}
 use Rattle.vast_rows.proofs.Derivations.{spelled, whole_derived}

@@ -1,5 +1,5 @@
 -- What is told of a reading, in the order of the text.
-use Rattle.std.specs.Prelude.{ℕ, List, [], ◌∷◌, Option, Some, None}
+use Rattle.std.specs.Prelude.{ℕ, List, ◌∷◌, Option, Some, None}
 use Rattle.vast_literal.specs.Tokens as tokens
 use Rattle.vast_rows.specs.Phrases.{Meaning}
 use Rattle.vast_rows.specs.declared.action.Action.{Action}
@@ -15,10 +15,6 @@ abbrev pub name_of : tokens.Token → Option (List ℕ)
 name_of (tokens.Word w) = Some w
 name_of (tokens.MacroWord w) = Some w
 name_of _ = None
-
-abbrev pub first_name : List tokens.Token → Option (List ℕ)
-first_name [] = None
-first_name (t ∷ ts) = name_of t
 
 -- What is told of a row, and of a token, before other events.
 abbrev pub made_by : Option Action → List Event → List Event

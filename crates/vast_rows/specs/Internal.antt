@@ -1,6 +1,8 @@
 pub mod Stack
 pub mod Sets
 pub mod Sources
+pub mod PhraseKinds
 pub mod Predictive
 pub mod Derives
 pub mod Reading
+pub mod Trial

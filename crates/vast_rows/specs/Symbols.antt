@@ -7,7 +7,7 @@ use Rattle.vast_rows.specs.Rows.{Row}
 use Rattle.vast_rows.specs.declared.action.Action.{Action}
 use Rattle.vast_rows.specs.declared.grammar.Item.{Item}
 use Rattle.vast_rows.specs.declared.grammar.Item.TheVariants.{Token, Rule}
-use Rattle.vast_rows.specs.declared.kind.Kind.TheVariants.{Word, SystemWord, MacroWord, IncludeWord, Number, Based, Quoted, Mark, Operator, Reserved}
+use Rattle.vast_rows.specs.declared.kind.Kind.TheVariants.{Word, MacroWord, IncludeWord, Mark, Operator, Reserved}
 use Rattle.vast_rows.specs.declared.rule.Rule.{Rule as RuleName}
 
 abbrev pub key : Key → Item
@@ -22,24 +22,12 @@ op sign = Token (number (Operator sign))
 abbrev pub word : Item
 word = Token (number Word)
 
-abbrev pub system_word : Item
-system_word = Token (number SystemWord)
-
 -- Any macro but the one that includes a file, and that one.
 abbrev pub macro_word : Item
 macro_word = Token (number MacroWord)
 
 abbrev pub include_word : Item
 include_word = Token (number IncludeWord)
-
-abbrev pub number_word : Item
-number_word = Token (number Number)
-
-abbrev pub based : Item
-based = Token (number Based)
-
-abbrev pub quoted : Item
-quoted = Token (number Quoted)
 
 abbrev pub rule : RuleName → Item
 rule name = Rule (rule_number name)

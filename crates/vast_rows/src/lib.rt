@@ -2,7 +2,8 @@
 //! such a table spells.
 //!
 //! The rows stand on a page (`specs/Page.antt`), and [`files`] has them as the machine wants them.
-//! That the page spells exactly what the grammar of `vast_literal` does is a law ([`laws`]).
+//! That the page spells exactly what the grammar of `vast_literal` does is a law ([`laws`]), and what
+//! is told of a file is its trace (`specs/Trace.antt`), which builds it again (`specs/Built.antt`).
 #![tactic(auto)]
 
 mod action;
@@ -15,6 +16,8 @@ mod sink;
 mod source;
 mod stack;
 mod table;
+#[cfg(test)]
+mod trial;
 
 pub use action::{Action, Listed};
 pub use grammar::{Phrase, Table};

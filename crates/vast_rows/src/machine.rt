@@ -4,8 +4,8 @@ ghost use Rattle.std.specs.Prelude.{◌≡◌, ◌<◌, ◌++◌, [], true, None
 ghost use Rattle.std.specs.Prelude.{IfOk, MatchBool, MatchOption, OnOk};
 ghost use Rattle.vast_literal.specs.FileGrammar.{IsFile};
 ghost use Rattle.vast_literal.specs.NormalFile.{NormalFile};
-ghost use Rattle.vast_rows.specs.Events.{first_name, made_by, named_by};
-ghost use Rattle.vast_rows.specs.Internal.Sources.{tail};
+ghost use Rattle.vast_rows.specs.Events.{made_by, named_by};
+ghost use Rattle.vast_rows.specs.Internal.Sources.{tail, first_name};
 ghost use Rattle.vast_rows.specs.Internal.Reading.{IsTaken, LeadsTo};
 ghost use Rattle.vast_rows.specs.Kinds.{has};
 ghost use Rattle.vast_rows.specs.Laws.{IsRead, IsUnspelled};

@@ -2,10 +2,8 @@
 
 ghost use Rattle.std.specs.Prelude.{◌≡◌, ℕ, List, IfOk, MatchOption, Some, None};
 ghost use Rattle.vast_literal.specs.Tokens.{Token};
-ghost use Rattle.vast_rows.specs.Events.{first_name};
-ghost use Rattle.vast_rows.specs.Kinds.{kind_of_first};
 ghost use Rattle.vast_rows.specs.Phrases.{Meaning};
-ghost use Rattle.vast_rows.specs.Internal.Sources.{tail, HasRead, HasNone};
+ghost use Rattle.vast_rows.specs.Internal.Sources.{tail, HasRead, HasNone, first_name, kind_of_first};
 
 use crate::grammar::Phrase;
 use crate::kind::Kind;

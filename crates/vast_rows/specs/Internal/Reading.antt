@@ -9,7 +9,7 @@ use Rattle.vast_rows.specs.declared.grammar.Phrase.{Phrase}
 use Rattle.vast_rows.specs.declared.machine.Due.{Due}
 use Rattle.vast_rows.specs.declared.machine.Due.TheVariants as due
 use Rattle.vast_rows.specs.Internal.Derives.{Derives}
-use Rattle.vast_rows.specs.Kinds.{only}
+use Rattle.vast_rows.specs.Internal.Sets.{only}
 use Rattle.vast_rows.specs.Facts.{Fact}
 use Rattle.vast_rows.specs.Internal.Predictive.{follows, row_at}
 use Rattle.vast_rows.specs.Rows.{Row}
