@@ -28,7 +28,7 @@ arms_more p q (x ∷ xs) last = refl
 
 pub arms_grown : (before : List Arm) (a innermost : Arm) (last : Option normal.NormalStatements) →
     arms_of (map arm_view (reverse (before ++ (a ∷ [])) ++ (innermost ∷ []))) last ≡ Or (arm_view a).0 (arm_view a).1 (arms_of (map arm_view (reverse before ++ (innermost ∷ []))) last)
-arms_grown before a innermost last = rw (reverse_grown before a, map-append) (arms_more (arm_view a) (arm_view innermost) (map arm_view (reverse before)) last)
+arms_grown before a innermost last = rw (reverse_grown before a, map-append arm_view (a ∷ reverse before) (innermost ∷ []), map-append arm_view (reverse before) (innermost ∷ [])) (arms_more (arm_view a) (arm_view innermost) (map arm_view (reverse before)) last)
 
 -- What was heard, in order.
 

@@ -11,8 +11,7 @@ ghost use Rattle.vast_rows.specs.Kinds.{kind_of_first};
 
 use crate::build::{Build, Trees, Unbuilt};
 use crate::fault::Fault;
-use crate::reader::Reader;
-use crate::reader::path_of;
+use crate::reader::{Reader, path_of};
 use crate::token::Token;
 use crate::tree::NormalExpr;
 use std::alloc::AllocError;

@@ -1,15 +1,16 @@
 //! Declarations.
 
-ghost use Rattle.std.specs.Prelude.{◌≡◌, IfOk, option_map};
-ghost use Rattle.vast_rows.specs.Built.{make};
+ghost use Rattle.std.specs.Prelude.{◌≡◌, ◌∷◌, IfOk, option_map, reverse};
+ghost use Rattle.vast_rows.specs.Built.{make, name_before, name_behind};
 ghost use Rattle.vast_rows.specs.declared.action.Action.TheVariants as action;
-ghost use Rattle.vast_read.specs.DeclarationView.{package_of, sign_of, type_name_of};
-ghost use Rattle.vast_read.specs.Internal.Made.{Grown, names_type, seen};
+ghost use Rattle.vast_read.specs.DeclarationView.{groups_view, package_of, sign_of, type_name_of};
+ghost use Rattle.vast_read.specs.Internal.Made.{Grown, names_type, seen, value_view};
 ghost use Rattle.vast_read.specs.Texts.{key_of};
 
 use crate::children::Children;
 use crate::fault::Fault;
-use crate::made::part::{Part, first, maybe_expression};
+use crate::made::make::put;
+use crate::made::part::{first, maybe_expression};
 use crate::made::value::{Value, Values};
 use crate::tree::words::key_word;
 use crate::tree::{DeclaredType, Group, NormalDeclaration, NormalExpr};
@@ -42,23 +43,34 @@ pub(crate) fn declares(alloc: Global, values: &mut Values<'_>) -> Result<(), Fau
         return Ok(());
     };
     match values.pop() {
-        Some(Value::Nothing) => values.push(Value::Groups(groups))?,
-        Some(Value::Name(name)) => {
+        None => Ok(()),
+        Some(value) => name_behind(alloc, groups, value, values),
+    }
+}
+
+/// A declaration of these groups, of a name that follows them and of the groups after that; the
+/// groups alone before the mark that none follows.
+#[tactic(auto, unfolding(vast_rows::specs::Built::name_behind, vast_rows::specs::Built::of_one))]
+fn name_behind<'t>(
+    alloc: Global,
+    groups: Children<Group>,
+    value: Value<'t>,
+    values: &mut Values<'t>,
+) -> Result<(), Fault>
+    ensures { IfOk result (λ _. Grown (name_behind (groups_view (reverse groups))
+        (value_view value.entry ∷ seen values.old)) values.new) }
+{
+    match value {
+        Value::Nothing => put(Value::Groups(groups), values),
+        Value::Name(name) => {
             let Some(after) = first::<Children<Group>>(values) else {
                 return Ok(());
             };
-            let made = NormalDeclaration {
-                kind: None,
-                typed: None,
-                groups: groups.reversed(),
-                name: Word::new(alloc, name)?,
-                after: after.reversed(),
-            };
-            values.push(Value::Declaration(made))?;
+            let made = NormalDeclaration::plain(alloc, groups.reversed(), name, after.reversed())?;
+            put(Value::Declaration(made), values)
         }
-        _ => {}
+        _ => Ok(()),
     }
-    Ok(())
 }
 
 /// A type and a sign, which may be none.
@@ -86,38 +98,49 @@ pub(crate) fn name_before(alloc: Global, values: &mut Values<'_>) -> Result<(), 
     let Some(name) = first::<&str>(values) else {
         return Ok(());
     };
-    let name = Word::new(alloc, name)?;
     match values.pop() {
-        Some(Value::Groups(after)) => {
-            let made = NormalDeclaration {
-                kind: None,
-                typed: None,
-                groups: Children::new(alloc),
-                name,
-                after: after.reversed(),
-            };
-            values.push(Value::Declaration(made))?;
+        None => Ok(()),
+        Some(value) => named(alloc, name, value, values),
+    }
+}
+
+/// The same for a name and the value after it.
+#[tactic(auto, unfolding(vast_rows::specs::Built::name_before))]
+fn named<'t>(
+    alloc: Global,
+    name: &'t str,
+    value: Value<'t>,
+    values: &mut Values<'t>,
+) -> Result<(), Fault>
+    ensures { IfOk result (λ _. Grown (name_before name.now
+        (value_view value.entry ∷ seen values.old)) values.new) }
+{
+    match value {
+        Value::Groups(after) => {
+            let none = Children::new(alloc);
+            let made = NormalDeclaration::plain(alloc, none, name, after.reversed())?;
+            put(Value::Declaration(made), values)
         }
-        Some(Value::Declaration(declared)) => {
+        Value::Declaration(declared) => {
             let mut declared = declared;
             declared.typed = name_type(alloc, name, declared.typed)?;
-            values.push(Value::Declaration(declared))?;
+            put(Value::Declaration(declared), values)
         }
-        _ => {}
+        _ => Ok(()),
     }
-    Ok(())
 }
 
 /// A name before a type: that of its package, where this is still to come, else its own.
 fn name_type(
     alloc: Global,
-    name: Word,
+    name: &str,
     typed: Option<Box<DeclaredType>>,
 ) -> Result<Option<Box<DeclaredType>>, Fault>
     ensures names { IfOk result (λ t. (package_of t, type_name_of t)
-        ≡ names_type (package_of typed) (type_name_of typed) name) }
+        ≡ names_type (package_of typed) (type_name_of typed) name.now) }
     ensures sign { IfOk result (λ t. sign_of t ≡ sign_of typed) }
 {
+    let name = Word::new(alloc, name)?;
     let mut typed = typed_parts(typed);
     match typed.package {
         None => typed.type_name = Some(name),

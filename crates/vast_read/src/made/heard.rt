@@ -10,7 +10,7 @@ ghost use Rattle.vast_rows.specs.Trace.{trace};
 use crate::children::Children;
 use crate::fault::Fault;
 use crate::made::make::{make, put};
-use crate::made::part::{Part, first};
+use crate::made::part::first;
 use crate::made::value::{Path, Range, Value, Values};
 use crate::phrase::{Made, TreeSource};
 use crate::stack::Stack;

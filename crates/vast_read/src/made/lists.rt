@@ -7,7 +7,7 @@ ghost use Rattle.vast_rows.specs.declared.action.Listed.TheVariants as listed;
 
 use crate::children::Children;
 use crate::fault::Fault;
-use crate::made::part::{Part, first};
+use crate::made::part::first;
 use crate::made::value::{Value, Values};
 use crate::tree::{
     Connection, Event, Group, NormalDeclaration, NormalExpr, NormalItem, NormalMember,

@@ -6,9 +6,7 @@ ghost use Rattle.vast_read.specs.Internal.Made.{Grown, seen};
 
 use crate::children::Children;
 use crate::fault::Fault;
-use crate::made::declarations::{
-    declares, group_of, kind_of, name_before, packaged, sign_of,
-};
+use crate::made::declarations::{declares, group_of, kind_of, name_before, packaged, sign_of};
 use crate::made::lists::{none_of, one_more};
 use crate::made::members::{
     always_member, assign_member, change_of, conditional_member, connects, declaration_member,

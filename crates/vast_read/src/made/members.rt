@@ -7,7 +7,7 @@ ghost use Rattle.vast_read.specs.Internal.Made.{Grown, seen};
 
 use crate::children::Children;
 use crate::fault::Fault;
-use crate::made::part::{Part, first, maybe_expression, maybe_expressions, maybe_name};
+use crate::made::part::{first, maybe_expression, maybe_expressions, maybe_name};
 use crate::made::value::{Alternatives, Path, Range, Value, Values};
 use crate::tree::{
     Connection, Event, NormalDeclaration, NormalExpr, NormalItem, NormalMember, NormalStatement,
@@ -45,7 +45,11 @@ pub(crate) fn assign_member(values: &mut Values<'_>) -> Result<(), Fault>
 
 /// A parameter by that word, of its declaration and value.
 #[tactic(auto, unfolding(vast_rows::specs::Built::make, vast_rows::specs::Built::of_one, vast_rows::specs::Built::of_two, vast_rows::specs::Built::of_three, vast_rows::specs::Built::of_four))]
-pub(crate) fn parameter_member(alloc: Global, key: Key, values: &mut Values<'_>) -> Result<(), Fault>
+pub(crate) fn parameter_member(
+    alloc: Global,
+    key: Key,
+    values: &mut Values<'_>,
+) -> Result<(), Fault>
     ensures { IfOk result (λ _. Grown (make (action.ParameterMember key) (seen values.old)) values.new) }
 {
     let Some(declared) = first::<NormalDeclaration>(values) else {

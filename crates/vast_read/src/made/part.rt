@@ -77,8 +77,19 @@ pub(crate) fn maybe_name<'t>(values: &mut Values<'t>) -> Option<Option<&'t str>>
         ≡ Some (option_map (λ w. w.now) x, seen values.new)) }
 {
     match values.pop() {
-        Some(Value::Nothing) => Some(None),
-        Some(Value::Name(name)) => Some(Some(name)),
+        None => None,
+        Some(value) => name_of(value),
+    }
+}
+
+/// The name that a value is, or none where it is the mark of one that is left out.
+fn name_of<'t>(value: Value<'t>) -> Option<Option<&'t str>>
+    ensures { MatchOption result (maybe as_name (value_view value.entry) ≡ None)
+        (λ x. maybe as_name (value_view value.entry) ≡ Some (option_map (λ w. w.now) x)) }
+{
+    match value {
+        Value::Nothing => Some(None),
+        Value::Name(name) => Some(Some(name)),
         _ => None,
     }
 }

@@ -1,16 +1,17 @@
 //! Statements.
 
-ghost use Rattle.std.specs.Prelude.{◌≡◌, IfOk, option_map, map};
-ghost use Rattle.vast_rows.specs.Built.{make};
+ghost use Rattle.std.specs.Prelude.{◌≡◌, ◌∷◌, IfOk, option_map, map};
+ghost use Rattle.vast_rows.specs.Built.{alternated, make};
 ghost use Rattle.vast_rows.specs.declared.action.Action.TheVariants as action;
-ghost use Rattle.vast_read.specs.Internal.Made.{Grown, arms_seen, seen};
+ghost use Rattle.vast_read.specs.Internal.Made.{Grown, arms_seen, seen, value_view};
 ghost use Rattle.vast_read.specs.Internal.StatementView.{arm_view};
 ghost use Rattle.vast_read.specs.StatementParts.{arms_of};
 ghost use Rattle.vast_read.specs.StatementView.{block_view};
 
 use crate::children::Children;
 use crate::fault::Fault;
-use crate::made::part::{Part, first};
+use crate::made::make::put;
+use crate::made::part::first;
 use crate::made::value::{Alternatives, Value, Values};
 use crate::tree::words::key_word;
 use crate::tree::{Arm, CaseArm, NormalExpr, NormalStatement};
@@ -117,7 +118,7 @@ pub(crate) fn case_of(alloc: Global, key: Key, values: &mut Values<'_>) -> Resul
 }
 
 /// The arms of a conditional, of its condition, its block and what follows that.
-#[tactic(auto, using(crate::proofs::Making::arms), unfolding(vast_rows::specs::Built::alternated, vast_rows::specs::Built::make, vast_rows::specs::Built::of_one, vast_rows::specs::Built::of_two, vast_rows::specs::Built::of_three, vast_rows::specs::Built::of_four))]
+#[tactic(auto, unfolding(vast_rows::specs::Built::make, vast_rows::specs::Built::of_one, vast_rows::specs::Built::of_two, vast_rows::specs::Built::of_three, vast_rows::specs::Built::of_four))]
 pub(crate) fn conditional(alloc: Global, values: &mut Values<'_>) -> Result<(), Fault>
     ensures { IfOk result (λ _. Grown (make action.Conditional (seen values.old)) values.new) }
 {
@@ -131,26 +132,47 @@ pub(crate) fn conditional(alloc: Global, values: &mut Values<'_>) -> Result<(), 
         condition,
         block: block.reversed(),
     };
-    let made = match values.pop() {
-        Some(Value::Nothing) => Alternatives {
-            innermost: arm,
-            before: Children::new(alloc),
-            last: None,
-        },
-        Some(Value::Statements(last)) => Alternatives {
-            innermost: arm,
-            before: Children::new(alloc),
-            last: Some(last.reversed()),
-        },
-        Some(Value::Arms(others)) => {
+    match values.pop() {
+        None => Ok(()),
+        Some(value) => alternated(alloc, arm, value, values),
+    }
+}
+
+/// This arm before what follows it: nothing, the block of an `else`, or other arms.
+#[tactic(auto, using(crate::proofs::Making::arms), unfolding(vast_rows::specs::Built::alternated))]
+fn alternated<'t>(
+    alloc: Global,
+    arm: Arm,
+    value: Value<'t>,
+    values: &mut Values<'t>,
+) -> Result<(), Fault>
+    ensures { IfOk result (λ _. Grown (alternated (arm_view arm).0 (arm_view arm).1
+        (value_view value.entry ∷ seen values.old)) values.new) }
+{
+    match value {
+        Value::Nothing => {
+            let made = Alternatives {
+                innermost: arm,
+                before: Children::new(alloc),
+                last: None,
+            };
+            put(Value::Arms(made), values)
+        }
+        Value::Statements(last) => {
+            let made = Alternatives {
+                innermost: arm,
+                before: Children::new(alloc),
+                last: Some(last.reversed()),
+            };
+            put(Value::Arms(made), values)
+        }
+        Value::Arms(others) => {
             let mut others = others;
             others.before.push(arm)?;
-            others
+            put(Value::Arms(others), values)
         }
-        _ => return Ok(()),
-    };
-    values.push(Value::Arms(made))?;
-    Ok(())
+        _ => Ok(()),
+    }
 }
 
 /// An arm of a case of its label and block, before others.

@@ -3,8 +3,8 @@
 use crate::children::Children;
 use crate::stack::Stack;
 use crate::tree::{
-    Arm, CaseArm, Connection, Event, Group, NormalDeclaration, NormalExpr, NormalItem, NormalMember,
-    NormalStatement, Parameter, Port,
+    Arm, CaseArm, Connection, Event, Group, NormalDeclaration, NormalExpr, NormalItem,
+    NormalMember, NormalStatement, Parameter, Port,
 };
 
 /// A path, which is no name.

@@ -4,6 +4,7 @@ ghost use Rattle.std.specs.Prelude.{◌≡◌, IfOk, IfErr, option_map};
 ghost use Rattle.vast_read.specs.declared.fault.Fault.TheVariants.{Memory};
 ghost use Rattle.vast_read.specs.DeclarationView.{package_of, type_name_of, sign_of, groups_view, declaration_view};
 ghost use Rattle.vast_read.specs.Internal.DeclarationView.{head_view, with_head};
+ghost use Rattle.vast_rows.specs.Built.{declared};
 
 use crate::children::Children;
 use crate::fault::Fault;
@@ -119,6 +120,26 @@ impl NormalDeclaration {
         Ok(NormalDeclaration {
             kind,
             typed,
+            groups,
+            name,
+            after,
+        })
+    }
+
+    /// A declaration without a kind, a type and a sign.
+    pub(crate) fn plain(
+        alloc: Global,
+        groups: Children<Group>,
+        name: &str,
+        after: Children<Group>,
+    ) -> Result<NormalDeclaration, Fault>
+        ensures { IfOk result (λ d. declaration_view d
+            ≡ declared (groups_view groups) name.now (groups_view after)) }
+    {
+        let name = Word::new(alloc, name)?;
+        Ok(NormalDeclaration {
+            kind: None,
+            typed: None,
             groups,
             name,
             after,
