@@ -27,9 +27,10 @@ use Rattle.vast_literal.proofs.SoundLists.{Fronted, answers, passed, after_key_i
 use Rattle.vast_literal.proofs.SoundMemberParts.{bound_is, same_word_is}
 use Rattle.vast_literal.proofs.SoundPrimary.{enclosed_sound}
 use Rattle.vast_literal.proofs.StatementsParse.{key_self}
-use Rattle.vast_rows.specs.Kinds.{has, head_kind}
-use Rattle.vast_rows.specs.Internal.Sources.{HasRead, HasNone}
-use Rattle.vast_rows.specs.Phrases.{IsPhrase, expression, target, loop_head, path, Meaning, IsExpression, IsLoop, IsPath, stops}
+use Rattle.vast_rows.specs.Kinds.{has}
+use Rattle.vast_rows.specs.Internal.PhraseKinds.{stops}
+use Rattle.vast_rows.specs.Internal.Sources.{HasRead, HasNone, head_kind}
+use Rattle.vast_rows.specs.Phrases.{IsPhrase, expression, target, loop_head, path, Meaning, IsExpression, IsLoop, IsPath}
 use Rattle.vast_rows.specs.declared.grammar.Phrase.{Phrase}
 use Rattle.vast_rows.specs.declared.grammar.Phrase.TheVariants.{Expression, Target, LoopHead, Path}
 use Rattle.vast_rows.proofs.PhraseLaws.{quiet_expression, quiet_target, semicolon_quiet, step_of, begins}

@@ -6,8 +6,7 @@ ghost use Rattle.vast_read.specs.Internal.PhraseReadings.{loop_range, meaning_of
 ghost use Rattle.vast_read.specs.Internal.Readings.{tree_of};
 ghost use Rattle.vast_read.specs.Internal.Steps.{tail};
 ghost use Rattle.vast_read.specs.View.{view};
-ghost use Rattle.vast_rows.specs.Events.{first_name};
-ghost use Rattle.vast_rows.specs.Kinds.{kind_of_first};
+ghost use Rattle.vast_rows.specs.Internal.Sources.{first_name, kind_of_first};
 
 use crate::build::{Build, Trees, Unbuilt};
 use crate::fault::Fault;
@@ -88,7 +87,6 @@ impl<'t> Reader<'t> {
 
 impl<'t> Reader<'t> {
     /// Leaves the next token behind, and hands over its text where it is a name.
-    #[tactic(auto, using(crate::proofs::Phrases::names))]
     pub(crate) fn take_name(&mut self) -> Option<&'t str>
         ensures left { self.new ≡ tail self.old }
         ensures name { MatchOption result (first_name self.old ≡ None)

@@ -1,10 +1,11 @@
 //! What is heard of a file, and what is built of that.
 
-ghost use Rattle.std.specs.Prelude.{◌≡◌, [], ◌∷◌, ◌++◌, IfOk, MatchOption, Some, reverse, map, refl};
+ghost use Rattle.std.specs.Prelude.{◌≡◌, [], ◌∷◌, ◌++◌, IfOk, Some, option_map};
+ghost use Rattle.std.proofs.Common.{sym, ap, ◌∙◌, append-nil, append_assoc};
 ghost use Rattle.vast_literal.specs.NormalFile as normal;
 ghost use Rattle.vast_read.specs.FileView.{file_view};
 ghost use Rattle.vast_read.specs.Internal.Made.{Grown, events_heard, seen, told_event};
-ghost use Rattle.vast_rows.specs.Built.{happens};
+ghost use Rattle.vast_rows.specs.Built.{SeenFile, happens};
 ghost use Rattle.vast_rows.specs.Trace.{trace};
 
 use crate::children::Children;
@@ -73,13 +74,9 @@ impl<'t> Heard<'t> {
     /// The file of which this was heard.
     pub(crate) fn file(self, alloc: Global) -> Result<Option<NormalFile>, Fault>
         ensures { IfOk result (λ o. (t : normal.NormalFile) →
-            events_heard self.events ≡ trace t [] → option_map file_view o ≡ Some t) }
+            events_heard self.entry.events ≡ trace t [] → option_map file_view o ≡ Some t) }
     {
-        let mut events = self.events;
-        let mut values: Values<'t> = Stack::new(alloc);
-        while let Some(event) = events.pop() {
-            happens(alloc, event, &mut values)?;
-        }
+        let mut values = built(alloc, self.events)?;
         match first::<Children<NormalItem>>(&mut values) {
             Some(items) => Ok(Some(NormalFile {
                 items: items.reversed(),
@@ -87,6 +84,19 @@ impl<'t> Heard<'t> {
             None => Ok(None),
         }
     }
+}
+
+/// What the events make, from the last to the first.
+fn built<'t>(alloc: Global, events: Stack<Told<'t>>) -> Result<Values<'t>, Fault>
+    ensures { IfOk result (λ values. (t : normal.NormalFile) →
+        events_heard events.entry ≡ trace t [] → seen values ≡ (SeenFile t ∷ [])) }
+{
+    let mut events = events;
+    let mut values: Values<'t> = Stack::new(alloc);
+    'events: while let Some(event) = events.pop() {
+        happens(alloc, event, &mut values)?;
+    }
+    Ok(values)
 }
 
 /// Puts what the event makes in the place of what it makes it of.

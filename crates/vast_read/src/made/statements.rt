@@ -118,7 +118,7 @@ pub(crate) fn case_of(alloc: Global, key: Key, values: &mut Values<'_>) -> Resul
 }
 
 /// The arms of a conditional, of its condition, its block and what follows that.
-#[tactic(auto, unfolding(vast_rows::specs::Built::make, vast_rows::specs::Built::of_one, vast_rows::specs::Built::of_two, vast_rows::specs::Built::of_three, vast_rows::specs::Built::of_four))]
+#[tactic(auto, unfolding(vast_rows::specs::Built::alternated, vast_rows::specs::Built::make, vast_rows::specs::Built::of_one, vast_rows::specs::Built::of_two, vast_rows::specs::Built::of_three, vast_rows::specs::Built::of_four))]
 pub(crate) fn conditional(alloc: Global, values: &mut Values<'_>) -> Result<(), Fault>
     ensures { IfOk result (λ _. Grown (make action.Conditional (seen values.old)) values.new) }
 {
