@@ -8,19 +8,11 @@ ghost use Rattle.vast_read.specs.Internal.Reading.{Reading};
 ghost use Rattle.vast_read.specs.Internal.Steps.{join};
 ghost use Rattle.vast_read.specs.View.{view};
 
-mod declarations;
-mod files;
-mod members;
-mod statements;
 mod trees;
 mod unbuilt;
 
 use crate::fault::Fault;
 use crate::tree::NormalExpr;
-pub(crate) use declarations::BuildDeclarations;
-pub(crate) use files::BuildFiles;
-pub(crate) use members::{BuildMembers, MemberForm, MemberFormOf};
-pub(crate) use statements::{BuildStatements, StatementForm, StatementFormOf};
 use std::alloc::Global;
 pub(crate) use trees::Trees;
 pub(crate) use unbuilt::Unbuilt;

@@ -6,10 +6,6 @@ ghost use Rattle.vast_read.specs.Internal.Forms.{form_tree};
 ghost use Rattle.vast_read.specs.Internal.Readings.{trees};
 ghost use Rattle.vast_read.specs.View.{view};
 
-mod declarations;
-mod files;
-mod members;
-mod statements;
 
 use crate::build::{Build, Form};
 use crate::children::Children;

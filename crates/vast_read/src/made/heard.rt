@@ -33,7 +33,7 @@ pub(crate) enum Told<'t> {
 /// All that was heard. In contracts it is the list of it, the last first.
 #[derive(Drop)]
 pub(crate) struct Heard<'t> {
-    events: Stack<Told<'t>>,
+    pub(crate) events: Stack<Told<'t>>,
 }
 
 impl<'t> Sink<TreeSource<'t>> for Heard<'t> {
