@@ -1,6 +1,8 @@
 pub mod LiteralToken
 pub mod ExprTokens
 pub mod FileParser
+pub mod SettledDeclarationsWords
+pub mod SettledMembersWords
 pub mod FileTokens
 pub mod EscapeLaws
 pub mod QuotedLaws
@@ -49,9 +51,18 @@ pub mod Worked
 pub mod Same
 pub mod SettledExpressions
 pub mod Agree
+pub mod SettledStatements
+pub mod SettledLists
 pub mod SettledDeclarations
+pub mod SettledMemberParts
+pub mod SettledMembers
+pub mod SettledFiles
 pub mod SoundLists
+pub mod SoundStatements
+pub mod SoundDeclarations
 pub mod SoundMemberParts
+pub mod SoundMembers
+pub mod SoundFiles
 pub mod KeywordTable
 pub mod LexemeShapes
 pub mod LexemeFronts
