@@ -1,5 +1,5 @@
 -- What is made of the parts of a file, from the right.
-use Rattle.std.proofs.Common.{◌≡◌, ℕ, List, [], ◌∷◌, ◌++◌, Option, Some, None, map, reverse, option_map, refl, sym, ap, ◌∙◌, subst, append_assoc, append-nil}
+use Rattle.std.proofs.Common.{◌≡◌, List, [], ◌∷◌, ◌++◌, Option, Some, None, map, reverse, refl, sym, ap, ◌∙◌, subst, append_assoc, append-nil}
 use Rattle.std.proofs.lemmas.List.{reverse-append, map-append}
 use Rattle.std.proofs.lemmas.Option.{same_Some}
 use Rattle.vast_literal.specs.NormalFile as normal
@@ -8,7 +8,7 @@ use Rattle.vast_rows.specs.Built.{Seen, SeenFile, and_then, happens, built}
 use Rattle.vast_rows.specs.Events.{Event}
 use Rattle.vast_rows.specs.Trace.{trace}
 use Rattle.vast_rows.proofs.Builds.{trace_builds}
-use Rattle.vast_read.specs.Internal.Made.{Building, Grown, events_heard, seen, told_event, value_view}
+use Rattle.vast_read.specs.Internal.Made.{Building, Grown, events_heard, seen, told_event}
 use Rattle.vast_read.specs.Internal.StatementView.{arm_view}
 use Rattle.vast_read.specs.StatementParts.{ChoicePart, arms_of}
 use Rattle.vast_read.specs.declared.made.heard.Told.{Told}

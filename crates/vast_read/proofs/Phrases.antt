@@ -1,5 +1,5 @@
 -- Phrases as the settled parser reads them: what it reads is one, and one before what may follow it is read.
-use Rattle.std.proofs.Common.{◌≡◌, ℕ, zero, suc, ◌+◌, ◌*◌, ◌<◌, ◌≤◌, Bool, true, false, cond, List, [], ◌∷◌, ◌++◌, length, Option, Some, None, codes, eqb, bytes_eq, refl, sym, ap, subst, ◌∙◌, arith, append_assoc}
+use Rattle.std.proofs.Common.{◌≡◌, ℕ, suc, ◌+◌, ◌*◌, ◌<◌, true, cond, List, [], ◌∷◌, ◌++◌, length, Some, None, codes, eqb, refl, sym, ap, subst, ◌∙◌, arith, append_assoc}
 use Rattle.std.proofs.lemmas.Bool.{eqb-true}
 use Rattle.std.proofs.lemmas.List.{length-append}
 use Rattle.std.proofs.lemmas.Option.{same_Some}
@@ -13,10 +13,9 @@ use Rattle.vast_literal.specs.Grammar.{Spells}
 use Rattle.vast_literal.specs.Internal.FileParser.{path_end, path_of}
 use Rattle.vast_literal.specs.Internal.MemberParser.{bound_of, same_word}
 use Rattle.vast_literal.specs.Internal.Nexts.{sign_with, is_plus}
-use Rattle.vast_literal.specs.Internal.Parser.{◌>>=◌, after, word_at, number_at, enclosed_at, selected_at, run}
+use Rattle.vast_literal.specs.Internal.Parser.{◌>>=◌, after, word_at, number_at, selected_at, run}
 use Rattle.vast_literal.specs.Internal.Settled.{fuel, settled}
 use Rattle.vast_literal.specs.Internal.SettledMembers.{loop_start, loop_bound, number_one, loop_step}
-use Rattle.vast_literal.specs.Internal.StatementParser.{after_key}
 use Rattle.vast_literal.proofs.Complete.{parses}
 use Rattle.vast_literal.proofs.Gives.{Gives, now}
 use Rattle.vast_literal.proofs.Moves.{Quiet, quieter, bound, after_self, enclosed_gives, stop_selects}

@@ -1,6 +1,5 @@
 -- What is decided of a text: whether the grammar derives a file from it, and which.
-use Rattle.std.proofs.Common.{◌≡◌, ℕ, List, [], Option, Some, None, Result, Ok, Err, IfOk, IfSome, option_map, sym, ap, subst, arith, ◌∙◌}
-use Rattle.vast_literal.specs.Tokens.{Token}
+use Rattle.std.proofs.Common.{◌≡◌, ℕ, List, Option, Some, None, Result, Ok, Err, IfOk, IfSome, option_map, sym, ap, subst}
 use Rattle.vast_literal.specs.Scan.{Gap}
 use Rattle.vast_read.specs.Lexed.{lex}
 use Rattle.vast_read.proofs.Spellable.{file_used}
@@ -9,12 +8,8 @@ use Rattle.vast_literal.specs.NormalFile.{NormalFile}
 use Rattle.vast_read.specs.FileView.{file_view}
 use Rattle.vast_read.specs.declared.tree.file.NormalFile as code
 use Rattle.vast_literal.specs.FileGrammar.{IsFile, DerivesFile}
-use Rattle.vast_literal.specs.Internal.SettledFiles.{settled_file}
-use Rattle.vast_literal.proofs.SettledFiles.{file_soon, file_none, file_more}
-use Rattle.vast_literal.proofs.SoundFiles.{file_derived}
 use Rattle.vast_literal.proofs.DerivedOnce.{file_once}
 use Rattle.vast_literal.proofs.Longest.{scan_lexes, lexes_scan}
-use Rattle.std.proofs.lemmas.Option.{same_Some}
 use Rattle.vast_read.specs.Internal.FileReadings.{IsFileOf}
 
 pub text_derives : (text : List ℕ) (x : NormalFile) → IsFile (lex Gap text) x → DerivesFile text x
@@ -41,9 +36,5 @@ module _ {E : Type 0} (text : List ℕ) where
   file_read_back (Err e) n = tt
 
 -- What was read as a file, and what was not.
-
-pub file_found : (text : List ℕ) (t : NormalFile) (found : Option code.NormalFile) → IsFile (lex Gap text) t → option_map file_view found ≡ Some t → IsFileOf text found
-file_found text t (Some x) d e = subst (λ (v : NormalFile). IsFile (lex Gap text) v) (sym (same_Some _ _ e)) d
-file_found text t None d e = absurd (cc e)
 
 pub ruleset places = (text_derives, text_without_file)

@@ -1,5 +1,5 @@
 -- Phrases of the rows of the grammar, as the settled parser reads them.
-use Rattle.std.specs.Prelude.{List, [], ◌∷◌, Option, Some, None}
+use Rattle.std.specs.Prelude.{List, [], ◌∷◌, Some, None}
 use Rattle.vast_literal.specs.Tokens.{Token, Quoted}
 use Rattle.vast_literal.specs.Internal.FileParser.{path_of}
 use Rattle.vast_literal.specs.Internal.Parser.{◌>>=◌, selected_at}

@@ -1,6 +1,6 @@
 //! Members, modules and files.
 
-ghost use Rattle.std.specs.Prelude.{◌≡◌, IfOk};
+ghost use Rattle.std.specs.Prelude.{IfOk};
 ghost use Rattle.vast_rows.specs.Built.{make};
 ghost use Rattle.vast_rows.specs.declared.action.Action.TheVariants as action;
 ghost use Rattle.vast_read.specs.Internal.Made.{Grown, seen};

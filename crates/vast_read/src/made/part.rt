@@ -1,6 +1,6 @@
 //! Parts by their kinds.
 
-ghost use Rattle.std.specs.Prelude.{◌≡◌, ℕ, List, Bool, Option, Some, None, MatchOption, option_map, map, reverse};
+ghost use Rattle.std.specs.Prelude.{◌≡◌, ℕ, List, Bool, Option, Some, None, MatchOption, option_map, reverse};
 ghost use Rattle.vast_literal.specs.NormalExpr as normal_expr;
 ghost use Rattle.vast_literal.specs.NormalFile as normal;
 ghost use Rattle.vast_read.specs.DeclarationView.{group_view, groups_view, declaration_view, declarations_view};
