@@ -1,10 +1,10 @@
 -- What a sound parser of lists answers: a front of the tokens and the items that it spells.
-use Rattle.std.proofs.Common.{◌≡◌, ℕ, Bool, true, false, cond, List, [], ◌∷◌, ◌++◌, Option, Some, None, refl, sym, subst, ap, ◌∙◌}
+use Rattle.std.proofs.Common.{◌≡◌, Bool, true, false, cond, List, [], ◌∷◌, ◌++◌, Option, Some, None, refl, sym, subst, ap, ◌∙◌}
 use Rattle.std.proofs.lemmas.Option.{same_Some, cond_some}
 use Rattle.std.proofs.lemmas.Slice.Eq.{bytes_eq-Decides}
 use Rattle.vast_literal.specs.Tokens.{Key, IfKey, reserved_keys, key_written, Token, Reserved, key_text}
 use Rattle.vast_literal.specs.Internal.Parser.{key_at}
-use Rattle.vast_literal.specs.Internal.StatementParser.{ReadOf, after_key_on, after_key}
+use Rattle.vast_literal.specs.Internal.StatementParser.{after_key_on, after_key}
 
 -- a front of the tokens spells what was read, and the rest is behind it
 pub record Fronted {A : Type 0} (P : List Token → A → Type 0) (ts : List Token) (r : A × List Token) : Type 0 where
@@ -47,11 +47,3 @@ after_key_on_is k ts (Some v) us h e = let c = cond_some _ _ _ e in let d = key_
 pub after_key_is : (k : Key) (ts us : List Token) → after_key k ts ≡ Some us → ts ≡ (Reserved k ∷ us)
 unfolding after_key
 after_key_is k ts us e = after_key_on_is k ts (key_at ts) us refl e
-
--- items while one begins
-
-module _ {A : Type 0} (P : List Token → A → Type 0) (begins : List Token → Bool) (item : ℕ → List Token → ReadOf A)
-
--- items with a token between them
-
-module _ {A : Type 0} (P : List Token → A → Type 0) (mark : Token) (between : List Token → Option (List Token)) (item : ℕ → List Token → ReadOf A)

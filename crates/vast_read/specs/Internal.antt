@@ -20,7 +20,6 @@ pub mod Scanner
 pub mod Release
 pub mod StatementRelease
 pub mod MemberRelease
-pub mod Compared
 pub mod Comparison
 pub mod Levels
 pub mod Pairs

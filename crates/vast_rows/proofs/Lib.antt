@@ -23,3 +23,4 @@ pub mod Builds
 pub mod Bridge
 pub mod Bare
 pub mod Trials
+pub mod Actions

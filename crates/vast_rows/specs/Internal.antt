@@ -6,3 +6,4 @@ pub mod Predictive
 pub mod Derives
 pub mod Reading
 pub mod Trial
+pub mod Actions

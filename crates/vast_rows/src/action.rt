@@ -1,5 +1,8 @@
 //! What rows make of what their items made.
 
+ghost use Rattle.std.specs.Prelude.{◌≡◌, MatchBool};
+ghost use Rattle.vast_rows.specs.Internal.Actions.{action_number};
+
 use vast_literal::Key;
 
 /// What stands in a list.
@@ -104,4 +107,58 @@ pub enum Action {
     Arm,
     /// An arm without a label, before others.
     DefaultArm,
+}
+
+impl Action {
+    /// A number of its own.
+    fn number(self) -> u16
+        ensures { result ≡ action_number self }
+    {
+        match self {
+            Action::Nothing => 0,
+            Action::Yes => 1,
+            Action::No => 2,
+            Action::ModuleItem => 3,
+            Action::IncludeItem => 4,
+            Action::HeaderParameter => 5,
+            Action::DeclarationMember => 6,
+            Action::AssignMember => 7,
+            Action::MacroMember => 8,
+            Action::InstanceMember => 9,
+            Action::ConditionalMember => 10,
+            Action::FunctionMember => 11,
+            Action::LoopMember => 12,
+            Action::NameBefore => 13,
+            Action::Packaged => 14,
+            Action::Declares => 15,
+            Action::GroupOf => 16,
+            Action::Connects => 17,
+            Action::ChangeOf => 18,
+            Action::Assigns => 19,
+            Action::AssignsByWord => 20,
+            Action::Chooses => 21,
+            Action::UniqueCase => 22,
+            Action::Conditional => 23,
+            Action::NoArms => 24,
+            Action::Arm => 25,
+            Action::DefaultArm => 26,
+            Action::NoMore(what) => 40 + what as u16,
+            Action::OneMore(what) => 50 + what as u16,
+            Action::PortOf(key) => 60 + key as u16,
+            Action::ParameterMember(key) => 100 + key as u16,
+            Action::AlwaysMember(key) => 140 + key as u16,
+            Action::KindOf(key) => 180 + key as u16,
+            Action::SignOf(key) => 220 + key as u16,
+            Action::EdgeOf(key) => 260 + key as u16,
+            Action::CaseOf(key) => 300 + key as u16,
+        }
+    }
+
+    /// Whether it is the other one.
+    #[tactic(auto, using(crate::proofs::Actions::decided))]
+    pub fn is(self, other: Action) -> bool
+        ensures { MatchBool result (self ≡ other) (self ≡ other → ⊥) }
+    {
+        self.number() == other.number()
+    }
 }

@@ -6,7 +6,6 @@ ghost use Rattle.vast_read.specs.Internal.Forms.{form_tree};
 ghost use Rattle.vast_read.specs.Internal.Readings.{trees};
 ghost use Rattle.vast_read.specs.View.{view};
 
-
 use crate::build::{Build, Form};
 use crate::children::Children;
 use crate::fault::Fault;

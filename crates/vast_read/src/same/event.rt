@@ -17,6 +17,7 @@ use std::alloc::{AllocError, Global};
 ///
 /// # Errors
 /// Out of memory.
+#[tactic(auto, using(crate::proofs::FilesCompared::events))]
 pub(crate) fn same_events<'t>(
     alloc: Global,
     left: Heard<'t>,
@@ -29,7 +30,12 @@ pub(crate) fn same_events<'t>(
     let mut right = right.events;
     'events: loop {
         match left.pop() {
-            None => return Ok(right.pop().is_none()),
+            None => {
+                return match right.pop() {
+                    None => Ok(true),
+                    Some(_) => Ok(false),
+                };
+            }
             Some(event) => match right.pop() {
                 None => return Ok(false),
                 Some(other) => {
@@ -48,7 +54,7 @@ fn same_event(alloc: Global, one: &Told<'_>, other: &Told<'_>) -> Result<bool, A
 {
     match one {
         Told::Makes(action) => match other {
-            Told::Makes(same) => Ok(action == same),
+            Told::Makes(same) => Ok(action.is(*same)),
             _ => Ok(false),
         },
         Told::Reads(made) => match other {
