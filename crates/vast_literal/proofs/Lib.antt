@@ -1,8 +1,6 @@
 pub mod LiteralToken
 pub mod ExprTokens
 pub mod FileParser
-pub mod SettledDeclarationsWords
-pub mod SettledMembersWords
 pub mod FileTokens
 pub mod EscapeLaws
 pub mod QuotedLaws
@@ -51,18 +49,8 @@ pub mod Worked
 pub mod Same
 pub mod SettledExpressions
 pub mod Agree
-pub mod SettledStatements
-pub mod SettledLists
-pub mod SettledDeclarations
-pub mod SettledMemberParts
-pub mod SettledMembers
-pub mod SettledFiles
 pub mod SoundLists
-pub mod SoundStatements
-pub mod SoundDeclarations
 pub mod SoundMemberParts
-pub mod SoundMembers
-pub mod SoundFiles
 pub mod KeywordTable
 pub mod LexemeShapes
 pub mod LexemeFronts

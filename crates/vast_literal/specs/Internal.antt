@@ -6,6 +6,4 @@ pub mod MemberParser
 pub mod FileParser
 pub mod Settled
 pub mod Nexts
-pub mod SettledDeclarations
 pub mod SettledMembers
-pub mod SettledFiles

@@ -1,29 +1,10 @@
 -- The laws that the functions of the reader of files are proved by.
-use Rattle.std.proofs.Common.{◌≡◌, ◌≢◌, ℕ, Bool, true, false, cond, eqb, bytes_eq, codes, List, [], ◌∷◌, ◌++◌, Option, Some, None, refl, ap, Bor}
+use Rattle.std.proofs.Common.{◌≡◌, ◌≢◌, ℕ, Bool, true, false, cond, eqb, List, [], ◌∷◌, ◌++◌, Option, Some, None, refl, ap, Bor}
 use Rattle.std.proofs.lemmas.Bool.{eqb-true}
 use Rattle.std.specs.Prelude.{MatchOption}
-use Rattle.vast_literal.specs.Tokens.{Token}
-use Rattle.vast_literal.specs.NormalFile.{IncludePart}
 use Rattle.vast_literal.specs.Internal.Parser.{◌>>=◌}
-use Rattle.vast_literal.specs.Internal.FileParser.{path_end, path_of, include_on}
-use Rattle.vast_read.specs.Internal.FileSteps.{quoted_in}
-use Rattle.vast_read.specs.Internal.Includes.{include_text}
-use Rattle.vast_read.proofs.Steps.{then_some, then_none, either_some, either_none}
-use Rattle.vast_read.proofs.FileSteps.{parameter_reads, parameters_join, parameters_end, parameters_go_on, parameters_fail, parameter_list_reads, parameters_read, port_reads, ports_join, ports_end, ports_go_on, ports_fail, port_list_reads, ports_read, module_reads, include_nothing, include_other, include_macro, path_missing, path_other, quoted_is, path_end_gives, item_reads, items_begin, items_end, items_go_on, items_fail, file_reads}
-
--- includes
-
-pub include_yes : (m w : List ℕ) (ts us : List Token) (t : Token) → ts ≡ (t ∷ us) → quoted_in t ≡ Some w → bytes_eq m (codes "include") ≡ true → include_on m ts ≡ include_text w us
-unfolding include_on include_text
-include_yes m w ts us t e d h = rw (e, quoted_is t w d) (rw h)
-
-pub include_no : (m w : List ℕ) (ts us : List Token) (t : Token) → ts ≡ (t ∷ us) → quoted_in t ≡ Some w → bytes_eq m (codes "include") ≡ false → include_on m ts ≡ None
-unfolding include_on
-include_no m w ts us t e d h = rw (e, quoted_is t w d) (rw h)
-
-pub include_reads : (w : List ℕ) (ts : List Token) → include_text w ts ≡ (path_of w >>= λ p. Some (IncludePart p, ts))
-unfolding include_text
-include_reads w ts = refl
+use Rattle.vast_literal.specs.Internal.FileParser.{path_end, path_of}
+use Rattle.vast_read.proofs.FileSteps.{path_end_gives}
 
 -- the path between its quotes
 
@@ -69,35 +50,3 @@ quote_behind v None h = unclosed v h
 quote_behind v (Some p) h = closed v p.now h
 
 pub ruleset paths = (opened, unopened)
-
-pub ruleset parameters = (then_some, then_none, parameter_reads)
-
-pub ruleset parameter_lists = (then_some, then_none, parameters_join, parameters_end, parameters_go_on, parameters_fail)
-
-pub ruleset parameters_in_parentheses = (then_some, then_none, parameter_list_reads)
-
-pub ruleset header_parameters = (either_some, either_none, parameters_read)
-
-pub ruleset ports = (then_some, then_none, port_reads)
-
-pub ruleset port_lists = (then_some, then_none, ports_join, ports_end, ports_go_on, ports_fail)
-
-pub ruleset closed_ports = (then_some, then_none, port_list_reads)
-
-pub ruleset header_ports = (either_some, either_none, ports_read)
-
-pub ruleset modules = (then_some, then_none, module_reads)
-
-pub ruleset macro_names = (include_nothing, include_other, include_macro)
-
-pub ruleset include_paths = (path_missing, path_other, include_yes, include_no)
-
-pub ruleset include_texts = (then_some, then_none, include_reads)
-
-pub ruleset includes = (then_some, then_none)
-
-pub ruleset items = (either_some, either_none, item_reads)
-
-pub ruleset item_lists = (then_some, then_none, items_begin, items_end, items_go_on, items_fail)
-
-pub ruleset files = (then_some, then_none, file_reads)

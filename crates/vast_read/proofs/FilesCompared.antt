@@ -1,42 +1,65 @@
--- What is found of two texts, by the files that were read of them.
-use Rattle.std.proofs.Common.{◌≡◌, ◌≢◌, ℕ, List, Option, Some, None, Result, Ok, Err, IfOk, IfSome, option_map, refl, sym, ap, subst, ◌∙◌}
+-- What is found of two texts, by what was heard of them.
+use Rattle.std.proofs.Common.{◌≡◌, ◌≢◌, ℕ, List, [], ◌∷◌, Option, Some, None, map, reverse, sym, ap, subst, ◌∙◌}
+use Rattle.std.proofs.lemmas.List.{reverse-reverse}
 use Rattle.vast_literal.specs.FileGrammar.{DerivesFile}
 use Rattle.vast_literal.specs.NormalFile.{NormalFile}
 use Rattle.vast_literal.proofs.DerivedOnce.{file_once}
+use Rattle.vast_rows.specs.Trace.{trace}
+use Rattle.vast_rows.proofs.Builds.{trace_is_one}
 use Rattle.vast_read.specs.Compared.{Compares}
-use Rattle.vast_read.specs.Internal.Compared.{Found}
-use Rattle.vast_read.specs.FileView.{file_view}
-use Rattle.vast_read.specs.declared.same.Comparison.{Comparison}
-use Rattle.vast_read.specs.declared.same.Comparison.TheVariants.{Same, Different, OldUnderived, NewUnderived}
-use Rattle.vast_read.specs.declared.tree.file.NormalFile as code
+use Rattle.vast_read.specs.Internal.Comparison.{Comparing}
+use Rattle.vast_read.specs.Internal.FileReadings.{IsHeardOf}
+use Rattle.vast_read.specs.Internal.Made.{events_heard, told_event}
+use Rattle.vast_read.specs.declared.made.heard.Heard.{Heard}
+use Rattle.vast_read.specs.declared.made.heard.Told.{Told}
+use Rattle.vast_read.specs.declared.same.Comparison.TheVariants.{Same, Different}
+use Rattle.vast_read.proofs.TextDecides.{text_derives, text_without_file}
 
-none_read : (o : Option code.NormalFile) → option_map file_view o ≡ None → o ≡ None
-none_read None e = refl
-none_read (Some x) e = absurd (cc)
+-- What was heard is compared event by event.
 
-module _ (old new : List ℕ) where
-  same_found : (t u : NormalFile) → DerivesFile old t → DerivesFile new u → t ≡ u → Compares Same old new
-  same_found t u d e h = (t, d, subst (DerivesFile new) (sym h) e)
+pub begins_compared : (left right : List Told) → Comparing left right left right
+begins_compared left right = record { to = λ e. e; from = λ e. e }
 
-  different_found : (t u : NormalFile) → DerivesFile old t → DerivesFile new u → t ≢ u → Compares Different old new
-  different_found t u d e h = ((t, d), (u, e), λ x a b. h (file_once old t x d a ∙ file_once new x u b e))
+pub goes_on_compared : (all_left all_right left right ls rs : List Told) (l r : Told) → Comparing all_left all_right left right → left ≡ l ∷ ls → right ≡ r ∷ rs → told_event l ≡ told_event r → Comparing all_left all_right ls rs
+goes_on_compared all_left all_right left right ls rs l r c e d same = record {
+  to = λ h. let both : told_event l ∷ map told_event ls ≡ told_event r ∷ map told_event rs = sym (ap (map told_event) e) ∙ (c.to h ∙ ap (map told_event) d) in cc both;
+  from = λ h. c.from (ap (map told_event) e ∙ (cc (same, h) ∙ sym (ap (map told_event) d)));
+}
 
-  same_read : (o n : Option code.NormalFile) → IfSome o (λ x. DerivesFile old (file_view x)) → IfSome n (λ x. DerivesFile new (file_view x)) → Found Same (option_map file_view o) (option_map file_view n) → Compares Same old new
-  same_read None n d e f = absurd (f.1 refl)
-  same_read (Some x) None d e f = absurd (let h : Some (file_view x) ≡ None = f.0 in cc)
-  same_read (Some x) (Some y) d e f = same_found (file_view x) (file_view y) d e (let h : Some (file_view x) ≡ Some (file_view y) = f.0 in cc)
+in_order : (left right : List Told) → events_heard left ≡ events_heard right → map told_event left ≡ map told_event right
+in_order left right h = sym (reverse-reverse (map told_event left)) ∙ (ap reverse h ∙ reverse-reverse (map told_event right))
 
-  different_read : (o n : Option code.NormalFile) → IfSome o (λ x. DerivesFile old (file_view x)) → IfSome n (λ x. DerivesFile new (file_view x)) → Found Different (option_map file_view o) (option_map file_view n) → Compares Different old new
-  different_read None n d e f = absurd (f.1 refl)
-  different_read (Some x) None d e f = absurd (f.2 refl)
-  different_read (Some x) (Some y) d e f = different_found (file_view x) (file_view y) d e (λ h. f.0 (ap (λ (t : NormalFile). Some t) h))
+pub differs : (all_left all_right left right ls rs : List Told) (l r : Told) → Comparing all_left all_right left right → left ≡ l ∷ ls → right ≡ r ∷ rs → told_event l ≢ told_event r → events_heard all_left ≢ events_heard all_right
+differs all_left all_right left right ls rs l r c e d other h =
+    let both : told_event l ∷ map told_event ls ≡ told_event r ∷ map told_event rs = sym (ap (map told_event) e) ∙ (c.to (in_order all_left all_right h) ∙ ap (map told_event) d) in other (cc both)
 
-  found : (o n : Option code.NormalFile) (c : Comparison) → IfSome o (λ x. DerivesFile old (file_view x)) → (o ≡ None → (t : NormalFile) → DerivesFile old t → ⊥) → IfSome n (λ x. DerivesFile new (file_view x)) → (n ≡ None → (t : NormalFile) → DerivesFile new t → ⊥) → Found c (option_map file_view o) (option_map file_view n) → Compares c old new
-  found o n Same d u e v f = same_read o n d e f
-  found o n Different d u e v f = different_read o n d e f
-  found o n OldUnderived d u e v f = u (none_read o f)
-  found o n NewUnderived d u e v f = v (none_read n f)
+pub ends_early : (all_left all_right left right ls : List Told) (l : Told) → Comparing all_left all_right left right → left ≡ l ∷ ls → right ≡ [] → events_heard all_left ≢ events_heard all_right
+ends_early all_left all_right left right ls l c e d h =
+    let both : told_event l ∷ map told_event ls ≡ [] = sym (ap (map told_event) e) ∙ (c.to (in_order all_left all_right h) ∙ ap (map told_event) d) in absurd (cc both)
 
-  pub files_compared : {E : Type 0} (o n : Option code.NormalFile) (r : Result Comparison E) → IfSome o (λ x. DerivesFile old (file_view x)) → (o ≡ None → (t : NormalFile) → DerivesFile old t → ⊥) → IfSome n (λ x. DerivesFile new (file_view x)) → (n ≡ None → (t : NormalFile) → DerivesFile new t → ⊥) → IfOk r (λ c. Found c (option_map file_view o) (option_map file_view n)) → IfOk r (λ c. Compares c old new)
-  files_compared o n (Ok c) d u e v f = found o n c d u e v f
-  files_compared o n (Err x) d u e v f = tt
+pub both_end : (all_left all_right left right : List Told) → Comparing all_left all_right left right → left ≡ [] → right ≡ [] → events_heard all_left ≡ events_heard all_right
+both_end all_left all_right left right c e d = ap reverse (c.from (ap (map told_event) e ∙ sym (ap (map told_event) d)))
+
+pub ends_late : (all_left all_right left right rs : List Told) (r : Told) → Comparing all_left all_right left right → left ≡ [] → right ≡ r ∷ rs → events_heard all_left ≢ events_heard all_right
+ends_late all_left all_right left right rs r c e d h =
+    let both : [] ≡ told_event r ∷ map told_event rs = sym (ap (map told_event) e) ∙ (c.to (in_order all_left all_right h) ∙ ap (map told_event) d) in absurd (cc both)
+
+-- Two files, by their traces.
+
+module _ (old new : List ℕ) (o n : Option Heard) (l r : Heard) where
+  pub same_found : IsHeardOf old o → o ≡ Some l → IsHeardOf new n → n ≡ Some r → events_heard l.events ≡ events_heard r.events → Compares Same old new
+  same_found d f e g h =
+      let x = subst (IsHeardOf old) f d in let y = subst (IsHeardOf new) g e in
+      let one : x.0 ≡ y.0 = trace_is_one x.0 y.0 (sym x.2 ∙ (h ∙ y.2)) in
+      (x.0, text_derives old x.0 x.1, subst (DerivesFile new) (sym one) (text_derives new y.0 y.1))
+
+  pub different_found : IsHeardOf old o → o ≡ Some l → IsHeardOf new n → n ≡ Some r → events_heard l.events ≢ events_heard r.events → Compares Different old new
+  different_found d f e g h =
+      let x = subst (IsHeardOf old) f d in let y = subst (IsHeardOf new) g e in
+      let i : DerivesFile old x.0 = text_derives old x.0 x.1 in let j : DerivesFile new y.0 = text_derives new y.0 y.1 in
+      ((x.0, i), (y.0, j), λ z a b. h (x.2 ∙ (ap (λ (v : NormalFile). trace v []) (file_once old x.0 z i a ∙ file_once new z y.0 b j) ∙ sym y.2)))
+
+pub unheard : (text : List ℕ) (o : Option Heard) → IsHeardOf text o → o ≡ None → (t : NormalFile) → DerivesFile text t → ⊥
+unheard text o d e = text_without_file text (subst (IsHeardOf text) e d)
+
+pub ruleset events = (begins_compared, goes_on_compared, differs, ends_early, both_end, ends_late)

@@ -3,15 +3,11 @@ use Rattle.std.proofs.Common.{◌≡◌, true, false, cond, Bool, List, [], ◌�
 use Rattle.std.specs.Str.{bytes_eq}
 use Rattle.vast_literal.specs.Tokens.{key_text, Token, Reserved, Operator, Mark}
 use Rattle.vast_literal.specs.declared.token.Sign.{Sign as Op}
-use Rattle.vast_literal.specs.declared.token.Sign.TheVariants.{LessEqual}
-use Rattle.vast_literal.specs.declared.token.Mark.TheVariants.{Assign}
 use Rattle.vast_literal.specs.declared.token.Key.{Key}
-use Rattle.vast_literal.specs.Internal.Parser.{code}
-use Rattle.vast_literal.specs.Internal.Parser.{after, key_at}
-use Rattle.vast_literal.specs.Internal.StatementParser.{after_key_on, after_key, arrow_at}
-use Rattle.vast_literal.specs.Internal.Settled.{either}
+use Rattle.vast_literal.specs.Internal.Parser.{key_at}
+use Rattle.vast_literal.specs.Internal.StatementParser.{after_key_on, after_key}
 use Rattle.vast_read.specs.Internal.Steps.{sign_in}
-use Rattle.vast_literal.specs.Internal.Nexts.{key_in, key_with, sign_with, is_less_equal}
+use Rattle.vast_literal.specs.Internal.Nexts.{key_in, sign_with}
 use Rattle.vast_read.proofs.Nexts.{sign_is}
 use Rattle.vast_literal.proofs.SoundLists.{same_key}
 use Rattle.std.proofs.lemmas.Bool.{false_from_ne_true}
@@ -50,31 +46,6 @@ after_key_differs k v ts us t e d n = rw (after_key_next k v ts us t e d) (rw (f
 
 pub ruleset keys = (after_key_nothing, after_key_other, after_key_same, after_key_differs)
 
--- a keyword of a kind
-
-pub key_with_nothing : (test : Key → Bool) (ts : List Token) → ts ≡ [] → key_with test ts ≡ None
-unfolding key_with
-key_with_nothing test ts e = rw e
-
-pub key_with_other : (test : Key → Bool) (ts us : List Token) (t : Token) → ts ≡ (t ∷ us) → key_in t ≡ None → key_with test ts ≡ None
-unfolding key_with key_in
-key_with_other test ts us t e d = rw e (go t d)
-  where
-    go : (t : Token) → key_in t ≡ None → key_with test (t ∷ us) ≡ None
-    go (Reserved v) d = absurd (cc)
-    go (Mark p) d = refl
-    go _ d = refl
-
-pub key_with_yes : (test : Key → Bool) (k : Key) (ts us : List Token) (t : Token) → ts ≡ (t ∷ us) → key_in t ≡ Some k → test k ≡ true → key_with test ts ≡ Some (k, us)
-unfolding key_with
-key_with_yes test k ts us t e d h = rw (e, key_is t k d) (rw h)
-
-pub key_with_no : (test : Key → Bool) (k : Key) (ts us : List Token) (t : Token) → ts ≡ (t ∷ us) → key_in t ≡ Some k → test k ≡ false → key_with test ts ≡ None
-unfolding key_with
-key_with_no test k ts us t e d h = rw (e, key_is t k d) (rw h)
-
-pub ruleset kinds = (key_with_nothing, key_with_other, key_with_yes, key_with_no)
-
 -- a sign
 
 pub sign_with_nothing : (test : Op → Bool) (ts : List Token) → ts ≡ [] → sign_with test ts ≡ None
@@ -99,13 +70,3 @@ unfolding sign_with
 sign_with_no test op ts us t e d h = rw (e, sign_is t op d) (rw h)
 
 pub ruleset signs = (sign_with_nothing, sign_with_other, sign_with_yes, sign_with_no)
-
--- `=` or `<=`
-pub arrow_reads : (ts : List Token) → arrow_at ts ≡ either (after Assign ts) (λ us. Some (true, us)) (either (sign_with is_less_equal ts) (λ us. Some (false, us)) None)
-unfolding arrow_at after code either sign_with is_less_equal
-arrow_reads [] = refl
-arrow_reads (Mark Assign ∷ us) = refl
-arrow_reads (Mark _ ∷ us) = refl
-arrow_reads (Operator LessEqual ∷ us) = refl
-arrow_reads (Operator _ ∷ us) = refl
-arrow_reads (_ ∷ us) = refl

@@ -6,20 +6,13 @@ ghost use Rattle.vast_read.specs.declared.fault.Fault.TheVariants.{Memory};
 ghost use Rattle.vast_read.specs.Internal.Forms.{form_tree};
 ghost use Rattle.vast_read.specs.Internal.Reading.{Reading};
 ghost use Rattle.vast_read.specs.Internal.Steps.{join};
+ghost use Rattle.vast_read.specs.View.{view};
 
-mod declarations;
-mod files;
-mod listed;
-mod members;
-mod statements;
 mod trees;
 mod unbuilt;
 
 use crate::fault::Fault;
-pub(crate) use declarations::BuildDeclarations;
-pub(crate) use files::BuildFiles;
-pub(crate) use members::{BuildMembers, MemberForm, MemberFormOf};
-pub(crate) use statements::{BuildStatements, StatementForm, StatementFormOf};
+use crate::tree::NormalExpr;
 use std::alloc::Global;
 pub(crate) use trees::Trees;
 pub(crate) use unbuilt::Unbuilt;
@@ -104,4 +97,8 @@ pub(crate) trait Build<'t> {
     ) -> Result<Self::Expr, Fault>
         ensures ok { IfOk result (λ x. sees.tree x ≡ form_tree sees form.entry) }
         ensures err { IfErr result (λ e. e ≡ Memory) };
+
+    /// An expression whose tree was made.
+    fn of_tree(tree: Box<NormalExpr>) -> Self::Expr
+        ensures { sees.tree result ≡ view tree.value };
 }

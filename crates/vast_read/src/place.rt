@@ -1,17 +1,16 @@
 //! Where a text is no longer one that the grammar derives.
 
-ghost use Rattle.std.specs.Prelude.{◌≡◌, ℕ, List, ◌++◌, IfErr, IfOk, IfSome, MatchOption, MatchResult, IsCharBoundary};
-ghost use Rattle.vast_literal.specs.FileGrammar.{IsFile, DerivesFile};
+ghost use Rattle.std.specs.Prelude.{◌≡◌, ℕ, List, ◌++◌, IfOk, IfSome, MatchOption, IsCharBoundary};
+ghost use Rattle.vast_literal.specs.FileGrammar.{DerivesFile};
 ghost use Rattle.vast_literal.specs.NormalFile as normal;
 ghost use Rattle.vast_literal.specs.Scan.{Gap};
 ghost use Rattle.vast_read.specs.Lexed.{lex};
 ghost use Rattle.vast_read.specs.Places.{BeginsWithoutGap, IsBehindFirst, IsBetweenTokens};
 
-use crate::build::{BuildFiles, Unbuilt};
-use crate::fault::Fault;
 use crate::reader::Reader;
 use crate::scanner::first_and_behind;
 use std::alloc::{AllocError, Global};
+use vast_rows::is_file;
 
 /// The place of the token at which no rule of the grammar goes on, where it derives no file from this text.
 ///
@@ -29,35 +28,11 @@ pub fn underived_at(alloc: Global, text: &str) -> Result<Option<usize>, AllocErr
     ensures between { IfOk result (λ o. IfSome o (IsBetweenTokens text.now)) }
     ensures boundary { IfOk result (λ o. IfSome o (IsCharBoundary text.now)) }
 {
-    match file_or_place::<Unbuilt>(alloc, text)? {
-        Ok(_) => Ok(None),
-        Err(place) => Ok(Some(place)),
-    }
-}
-
-/// The file that the tokens of this text spell, or the place of the token before which the reader stays.
-#[tactic(auto, using(crate::proofs::TextDecides::files))]
-pub(crate) fn file_or_place<'t, B: BuildFiles<'t>>(
-    alloc: Global,
-    text: &'t str,
-) -> Result<Result<B::File, usize>, AllocError>
-    ensures spelled { IfOk result (λ r. MatchResult r
-        (λ t. IsFile (lex Gap text.now) (B.files.file t))
-        (λ _. (t : normal.NormalFile) → IsFile (lex Gap text.now) t → ⊥)) }
-    ensures between { IfOk result (λ r. IfErr r (IsBetweenTokens text.now)) }
-    ensures boundary { IfOk result (λ r. IfErr r (IsCharBoundary text.now)) }
-{
     let mut reader = Reader::new(alloc, text);
-    match reader.file::<B>() {
-        Ok(tree) => {
-            if reader.is_done() {
-                Ok(Ok(tree))
-            } else {
-                Ok(Err(reader.place_in(text)))
-            }
-        }
-        Err(Fault::Underived) => Ok(Err(reader.place_in(text))),
-        Err(Fault::Memory) => Err(AllocError),
+    if is_file(alloc, &mut reader)? {
+        Ok(None)
+    } else {
+        Ok(Some(reader.place_in(text)))
     }
 }
 

@@ -1,7 +1,8 @@
 -- Each rule that is opened leaves fewer to open before a token is due.
-use Rattle.std.proofs.Common.{◌≡◌, ℕ, suc, ◌+◌, ◌<◌, List, [], ◌∷◌, ◌++◌, Bool, true, false, ◌&&◌, Some, refl, sym, ap, ◌∙◌, arith, if◌then◌else◌}
+use Rattle.std.proofs.Common.{◌≡◌, ℕ, suc, ◌+◌, ◌<◌, List, [], ◌∷◌, ◌++◌, Bool, true, false, ◌&&◌, Option, Some, refl, sym, ap, ◌∙◌, arith, if◌then◌else◌}
 use Rattle.std.specs.List.{slice_get}
 use Rattle.std.proofs.lemmas.Bool.{ltb-true}
+use Rattle.vast_rows.specs.declared.action.Action.{Action}
 use Rattle.vast_rows.specs.declared.grammar.Item.{Item}
 use Rattle.vast_rows.specs.declared.grammar.Item.TheVariants.{Token, Rule, Phrase}
 use Rattle.vast_rows.specs.Internal.Reading.{IsTaken}
@@ -38,9 +39,9 @@ leads rows facts r n row s p at ruled =
     below true false h i g e = let x : (if may_be_empty facts row.items then (facts row.rule).empty else true) ≡ true = g.empties in
         let y : (facts row.rule).empty ≡ true = rw h at x in absurd (cc)
 
-pub leads_items : (rows : List Row) (facts : ℕ → Fact) (stack : List Item) (r k n : ℕ) (items s after : List Item) (told_as : ℕ) → is_predictive facts rows ≡ true → stack ≡ Rule r ∷ s → IsTaken facts rows r k n items told_as → after ≡ items ++ s →
+pub leads_items : (rows : List Row) (facts : ℕ → Fact) (stack : List Item) (r k n : ℕ) (items s after : List Item) (action : Option Action) → is_predictive facts rows ≡ true → stack ≡ Rule r ∷ s → IsTaken facts rows r k n items action → after ≡ items ++ s →
     lead facts after < lead facts stack
-leads_items rows facts stack r k n items s after told_as p there t e =
+leads_items rows facts stack r k n items s after action p there t e =
     let o : lead facts ((t.row).items ++ s) < lead facts (Rule r ∷ s) = leads rows facts r n t.row s p t.found t.ruled in
     let g : (t.row).items ++ s ≡ after = ap (λ (v : List Item). v ++ s) t.has_items ∙ sym e in
     rw (there, ← g) o

@@ -3,9 +3,8 @@ pub mod Stacked
 pub mod Sets
 pub mod RowLaws
 pub mod Once
-pub mod Trees
-pub mod SameTrees
-pub mod OneTree
+pub mod Derivations
+pub mod OneTelling
 pub mod Steps
 pub mod Leads
 pub mod Taken
@@ -20,6 +19,8 @@ pub mod MakesMembers
 pub mod DeclarationsToRows
 pub mod StatementsToRows
 pub mod MembersToRows
+pub mod Builds
 pub mod Bridge
 pub mod Bare
 pub mod Trials
+pub mod Actions

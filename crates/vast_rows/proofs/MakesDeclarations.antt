@@ -1,9 +1,9 @@
 -- The rows of declarations make what the typed relations say.
-use Rattle.std.proofs.Common.{[], ◌∷◌, Some, None, IsTrue, refl, append_assoc, append-nil}
-use Rattle.vast_literal.specs.FileGrammar.{is_kind, is_sign, is_member_kind, is_local_kind, no_items, more_items, one, range, absent, present, no_type, own_type, packaged, declares}
-use Rattle.vast_literal.specs.Tokens.{Word, Mark}
-use Rattle.vast_rows.specs.declared.rule.Rule.TheVariants.{Declaration, KindWord, Declarator, SignWord, AfterWord, SignedName, AfterGroups, Groups, BracketGroup, GroupEnd, NetKind, LocalKind}
-use Rattle.vast_rows.specs.Numbers.{Key, WireKey, RegKey, LogicKey, IntegerKey, IntKey, GenvarKey, SignedKey, UnsignedKey, IfKey, DoubleColon}
+use Rattle.std.proofs.Common.{[], ◌∷◌, Some, None, IsTrue, refl, append-nil}
+use Rattle.vast_literal.specs.FileGrammar.{is_kind, is_member_kind, is_local_kind, no_items, more_items, one, range, absent, present, no_type, own_type, packaged, declares}
+use Rattle.vast_literal.specs.Tokens.{Reserved, Word, Mark}
+use Rattle.vast_rows.specs.declared.rule.Rule.TheVariants.{Declaration, Declarator, AfterWord, OwnType, SignedName, GroupedName, AfterGroups, FirstGroups, Groups, BracketGroup, GroupEnd}
+use Rattle.vast_rows.specs.Numbers.{Key, WireKey, RegKey, LogicKey, IfKey, DoubleColon}
 use Rattle.vast_rows.specs.Phrases.{expression}
 use Rattle.vast_rows.proofs.Meant.{Makes, is_key}
 
@@ -13,87 +13,44 @@ declaration0 ds d = let r = d [] None absent in (r.0, r.1)
 pub declaration1 : Makes Declaration 1
 declaration1 ks (is_key k h) ds d = let r = d ks (Some k) (present k h) in (r.0, r.1)
 
-pub kind0 : Makes KindWord 0
-unfolding is_kind
-kind0 = is_key WireKey refl
-
-pub kind1 : Makes KindWord 1
-unfolding is_kind
-kind1 = is_key RegKey refl
-
-pub kind2 : Makes KindWord 2
-unfolding is_kind
-kind2 = is_key LogicKey refl
-
-pub kind3 : Makes KindWord 3
-unfolding is_kind
-kind3 = is_key IntegerKey refl
-
-pub kind4 : Makes KindWord 4
-unfolding is_kind
-kind4 = is_key IntKey refl
-
-pub kind5 : Makes KindWord 5
-unfolding is_kind
-kind5 = is_key GenvarKey refl
-
-pub net0 : Makes NetKind 0
-unfolding is_member_kind
-net0 = is_key WireKey refl
-
-pub net1 : Makes NetKind 1
-unfolding is_member_kind
-net1 = is_key RegKey refl
-
-pub net2 : Makes NetKind 2
-unfolding is_member_kind
-net2 = is_key LogicKey refl
-
-pub local_kind0 : Makes LocalKind 0
-unfolding is_local_kind
-local_kind0 = is_key RegKey refl
-
-pub local_kind1 : Makes LocalKind 1
-unfolding is_local_kind
-local_kind1 = is_key LogicKey refl
-
-pub sign0 : Makes SignWord 0
-unfolding is_sign
-sign0 = is_key SignedKey refl
-
-pub sign1 : Makes SignWord 1
-unfolding is_sign
-sign1 = is_key UnsignedKey refl
-
 pub declarator0 : Makes Declarator 0
-declarator0 ss (is_key s h) gs g n hs b ks k m = (_, declares n m no_type (present s h) g.1 b.1, refl)
+declarator0 ss (is_key s h) us name = name [] (Reserved s ∷ []) None None (Some s) no_type (present s h)
 
 pub declarator1 : Makes Declarator 1
-declarator1 fs f gs g n hs b ks k m = rw (← append_assoc fs gs (Word n ∷ hs)) (_, declares n m no_type absent (more_items f.1 g.1) b.1, refl)
+declarator1 fs f n hs b ks k m = (_, declares n m no_type absent f.1 b.1, refl)
 
 pub declarator2 : Makes Declarator 2
 declarator2 w us after = after w
 
 pub after_word0 : Makes AfterWord 0
-after_word0 t us names w = names (Word w ∷ (Mark DoubleColon ∷ (Word t ∷ []))) (Some w) (Some t) (packaged w t)
+after_word0 us own w = own w
 
 pub after_word1 : Makes AfterWord 1
-after_word1 ss (is_key s h) gs g n hs b w ks k m = (_, declares n m (own_type w) (present s h) g.1 b.1, refl)
+after_word1 ss (is_key s h) us name w = name (Word w ∷ []) (Reserved s ∷ []) None (Some w) (Some s) (own_type w) (present s h)
 
 pub after_word2 : Makes AfterWord 2
 after_word2 gs g us after w = after w gs g.0 g.1
 
+pub own_type0 : Makes OwnType 0
+own_type0 t us names p = names (Word p ∷ (Mark DoubleColon ∷ (Word t ∷ []))) (Some p) (Some t) (packaged p t)
+
 pub signed_name0 : Makes SignedName 0
-signed_name0 gs g n hs b ts p t y ks k m = (_, declares n m y absent g.1 b.1, refl)
+signed_name0 us name ts p t y = name ts [] p t None y absent
 
 pub signed_name1 : Makes SignedName 1
-signed_name1 ss (is_key s h) gs g n hs b ts p t y ks k m = (_, declares n m y (present s h) g.1 b.1, refl)
+signed_name1 ss (is_key s h) us name ts p t y = name ts (Reserved s ∷ []) p t (Some s) y (present s h)
+
+pub grouped_name0 : Makes GroupedName 0
+grouped_name0 gs g n hs b ts ss p t s y i ks k m = (_, declares n m y i g.1 b.1, refl)
 
 pub after_groups0 : Makes AfterGroups 0
 after_groups0 w gs g many ks k m = rw (append-nil gs) (_, declares w m no_type absent no_items many, refl)
 
 pub after_groups1 : Makes AfterGroups 1
 after_groups1 n hs b w gs g many ks k m = (_, declares n m (own_type w) absent many b.1, refl)
+
+pub first_groups0 : Makes FirstGroups 0
+first_groups0 fs f gs g = (_, more_items f.1 g.1)
 
 pub groups0 : Makes Groups 0
 groups0 = (_, no_items)

@@ -1,13 +1,13 @@
 -- The rows of members, modules and files make what the typed relations say.
-use Rattle.std.proofs.Common.{[], ◌∷◌, codes, Some, refl, append_assoc, append-nil}
-use Rattle.vast_literal.specs.FileGrammar.{is_parameter_word, is_clocked, is_edge, is_direction, no_items, more_items, empty, full, present, edge, plain, input, declared, given, connected, unconnected, no_parameters, with_parameters, with_one, without, no_label, labelled, block_body, casez_body, declaration, continuous, parameter, macro, macro_with, instance, combinational, clocked, conditional, function, loop, closed, and_member, header_parameter, port, no_header_parameters, header_parameters, no_ports, ports, module_item, include_item}
+use Rattle.std.proofs.Common.{[], ◌∷◌, Some, refl, append_assoc, append-nil}
+use Rattle.vast_literal.specs.FileGrammar.{is_parameter_word, is_clocked, is_edge, no_items, more_items, empty, full, present, edge, plain, input, declared, given, connected, unconnected, no_parameters, with_parameters, with_one, without, no_label, labelled, block_body, casez_body, declaration, continuous, parameter, macro, macro_with, instance, combinational, clocked, conditional, function, loop, closed, and_member, header_parameter, port, no_header_parameters, header_parameters, no_ports, ports, module_item, include_item}
 use Rattle.vast_literal.specs.Grammar.{none, some, last, next}
 use Rattle.vast_literal.specs.NormalFile.{LoopPart}
 use Rattle.vast_literal.specs.Tokens.{Mark}
-use Rattle.vast_rows.specs.declared.rule.Rule.TheVariants.{File, FileItem, Parameters, MoreParameters, Parameter, Ports, MorePorts, Port, Direction, ModuleMembers, LoopMembers, Member, AnyMacro, MacroArguments, Expressions, MoreExpressions, LastSemicolon, GivenList, Given, MoreGiven, Connections, Connection, Connected, MoreConnections, Events, OneEvent, MoreEvents, Inputs, Input, MoreInputs, Locals, Local, FunctionBody, LoneBegins, LoneEnds, LoopLabel}
-use Rattle.vast_rows.specs.Numbers.{CloseParen, InputKey, OutputKey, InOutKey, ParameterKey, LocalparamKey, AlwaysFFKey, AlwaysKey, PosedgeKey, NegedgeKey, EndModuleKey, EndKey}
+use Rattle.vast_rows.specs.declared.rule.Rule.TheVariants.{File, FileItem, Parameters, Parameter, Ports, Port, ModuleMembers, LoopMembers, Member, AnyMacro, MacroArguments, Expressions, MoreExpressions, LastSemicolon, GivenList, Given, Connections, Connection, Connected, Events, OneEvent, Inputs, Input, Locals, Local, FunctionBody, LoopLabel}
+use Rattle.vast_rows.specs.Numbers.{CloseParen, ParameterKey, LocalparamKey, AlwaysFFKey, AlwaysKey, PosedgeKey, NegedgeKey, EndModuleKey, EndKey}
 use Rattle.vast_rows.specs.Phrases.{expression, target, loop_head, path}
-use Rattle.vast_rows.proofs.Meant.{Makes, is_key, is_macro, is_nothing, no_tails, more_tails}
+use Rattle.vast_rows.proofs.Meant.{Makes, is_key, is_macro, is_nothing}
 use Rattle.vast_rows.proofs.MakesDeclarations.{net_is_kind, local_is_kind}
 
 pub file0 : Makes File 0
@@ -28,12 +28,6 @@ parameters0 = (_, no_header_parameters)
 pub parameters1 : Makes Parameters 1
 parameters1 ts p us more = let r = more ts p.0 p.1 in rw (← append_assoc ts us (Mark CloseParen ∷ [])) (_, header_parameters r.1)
 
-pub more_parameters0 : Makes MoreParameters 0
-more_parameters0 = no_tails
-
-pub more_parameters1 : Makes MoreParameters 1
-more_parameters1 ts p us more = more_tails ts p.0 p.1 more
-
 pub parameter0 : Makes Parameter 0
 parameter0 ds d xs m (expression p) = (_, header_parameter d.1 p)
 
@@ -43,26 +37,8 @@ ports0 = (_, no_ports)
 pub ports1 : Makes Ports 1
 ports1 ts p us more = let r = more ts p.0 p.1 in rw (← append_assoc ts us (Mark CloseParen ∷ [])) (_, ports r.1)
 
-pub more_ports0 : Makes MorePorts 0
-more_ports0 = no_tails
-
-pub more_ports1 : Makes MorePorts 1
-more_ports1 ts p us more = more_tails ts p.0 p.1 more
-
 pub port0 : Makes Port 0
 port0 ks (is_key k h) ds d = (_, port k h d.1)
-
-pub direction0 : Makes Direction 0
-unfolding is_direction
-direction0 = is_key InputKey refl
-
-pub direction1 : Makes Direction 1
-unfolding is_direction
-direction1 = is_key OutputKey refl
-
-pub direction2 : Makes Direction 2
-unfolding is_direction
-direction2 = is_key InOutKey refl
 
 pub module_members0 : Makes ModuleMembers 0
 module_members0 = (_, closed EndModuleKey)
@@ -97,7 +73,7 @@ pub member5 : Makes Member 5
 member5 m ps p i cs c = (_, instance m i p.1 c.1)
 
 pub member6 : Makes Member 6
-member6 bs b = (_, combinational b.1)
+member6 ns is_nothing bs b = (_, combinational b.1)
 
 pub member7 : Makes Member 7
 unfolding is_clocked
@@ -118,9 +94,6 @@ member11 ts n (loop_head {x = x} {e = e} i p q) ls l ms m = (LoopPart i x e l.0 
 
 pub macro0 : Makes AnyMacro 0
 macro0 m = is_macro m
-
-pub macro1 : Makes AnyMacro 1
-macro1 = is_macro (codes "include")
 
 pub arguments0 : Makes MacroArguments 0
 arguments0 m ss s h = (_, macro m h)
@@ -155,12 +128,6 @@ given_list1 ts c us more = let r = more ts c.0 c.1 in rw (← append_assoc ts us
 pub given0 : Makes Given 0
 given0 n xs m (expression p) = (_, given n p)
 
-pub more_given0 : Makes MoreGiven 0
-more_given0 = no_tails
-
-pub more_given1 : Makes MoreGiven 1
-more_given1 ts p us more = more_tails ts p.0 p.1 more
-
 pub connections0 : Makes Connections 0
 connections0 = (_, empty)
 
@@ -175,12 +142,6 @@ connected0 n = (_, unconnected n)
 
 pub connected1 : Makes Connected 1
 connected1 xs m (expression p) n = (_, connected (given n p))
-
-pub more_connections0 : Makes MoreConnections 0
-more_connections0 = no_tails
-
-pub more_connections1 : Makes MoreConnections 1
-more_connections1 ts p us more = more_tails ts p.0 p.1 more
 
 pub events0 : Makes Events 0
 events0 = (_, empty)
@@ -199,12 +160,6 @@ event1 xs m (expression p) = (_, edge NegedgeKey refl p)
 pub event2 : Makes OneEvent 2
 event2 w = (_, plain w)
 
-pub more_events0 : Makes MoreEvents 0
-more_events0 = no_tails
-
-pub more_events1 : Makes MoreEvents 1
-more_events1 ts p us more = more_tails ts p.0 p.1 more
-
 pub inputs0 : Makes Inputs 0
 inputs0 = (_, empty)
 
@@ -213,12 +168,6 @@ inputs1 ts c us more = let r = more ts c.0 c.1 in (_, full r.1)
 
 pub input0 : Makes Input 0
 input0 ds d = (_, input d.1)
-
-pub more_inputs0 : Makes MoreInputs 0
-more_inputs0 = no_tails
-
-pub more_inputs1 : Makes MoreInputs 1
-more_inputs1 ts p us more = more_tails ts p.0 p.1 more
 
 pub locals0 : Makes Locals 0
 locals0 = (_, no_items)
@@ -233,13 +182,7 @@ pub function_body0 : Makes FunctionBody 0
 function_body0 bs b = (_, block_body b.1)
 
 pub function_body1 : Makes FunctionBody 1
-function_body1 ns is_nothing ts s es is_nothing = rw (append-nil ts) (_, casez_body s.1)
-
-pub lone_begins0 : Makes LoneBegins 0
-lone_begins0 = is_nothing
-
-pub lone_ends0 : Makes LoneEnds 0
-lone_ends0 = is_nothing
+function_body1 us u ts after es is_nothing = let s = after us u.0 u.1 in rw (append-nil ts) (_, casez_body s.1)
 
 pub label0 : Makes LoopLabel 0
 label0 = (_, no_label)

@@ -1,7 +1,7 @@
 -- The rows of statements make what the typed relations say.
-use Rattle.std.proofs.Common.{true, false, append-nil}
-use Rattle.vast_literal.specs.FileGrammar.{arrow, unique, not_unique, case_word, casez_word, casex_word, simple, assigned, choice, cases, cased, assigns, done, then, only, otherwise, or, no_labels, label, default, body, bare}
-use Rattle.vast_rows.specs.declared.rule.Rule.TheVariants.{Statements, Statement, Assignment, Arrow, Choice, Else, Branch, Unique, CaseKind, CaseArms, BareArms, ArmBody, BareBegins, Bare, BareEnds, Lone, LoneCase}
+use Rattle.std.proofs.Common.{append-nil}
+use Rattle.vast_literal.specs.FileGrammar.{unique, not_unique, case_word, casez_word, casex_word, simple, assigned, choice, cases, cased, assigns, done, then, only, otherwise, or, no_labels, label, default, body, bare}
+use Rattle.vast_rows.specs.declared.rule.Rule.TheVariants.{Statements, Statement, Assignment, Choice, Else, Branch, Unique, CaseKind, CaseArms, BareArms, ArmBody, LoneCase}
 use Rattle.vast_rows.specs.Numbers.{CaseKey, CasezKey, CasexKey}
 use Rattle.vast_rows.specs.Phrases.{expression, target}
 use Rattle.vast_rows.proofs.Meant.{Makes, is_arrow, is_nothing}
@@ -26,14 +26,6 @@ statement3 us u ts after = after us u.0 u.1
 
 pub assignment0 : Makes Assignment 0
 assignment0 ls m (target p) arrows (is_arrow b) rs n (expression q) = (_, assigns b p q)
-
-pub arrow0 : Makes Arrow 0
-unfolding arrow
-arrow0 = is_arrow true
-
-pub arrow1 : Makes Arrow 1
-unfolding arrow
-arrow1 = is_arrow false
 
 pub choice0 : Makes Choice 0
 choice0 cs m (expression {x = c} p) bs b us after = after cs bs c b.0 p b.1
@@ -65,9 +57,6 @@ case1 xs m (expression p) ys a us u h = (_, cases CasezKey casez_word (cased h p
 pub case2 : Makes CaseKind 2
 case2 xs m (expression p) ys a us u h = (_, cases CasexKey casex_word (cased h p a.1))
 
-pub lone0 : Makes Lone 0
-lone0 us u ts after = after us u.0 u.1
-
 pub lone_case0 : Makes LoneCase 0
 lone_case0 xs m (expression p) ys a us u h = (_, cased h p a.1)
 
@@ -93,13 +82,4 @@ pub arm_body0 : Makes ArmBody 0
 arm_body0 bs b = (_, body b.1)
 
 pub arm_body1 : Makes ArmBody 1
-arm_body1 ns is_nothing ts s es is_nothing = rw (append-nil ts) (_, bare s.1)
-
-pub bare_begins0 : Makes BareBegins 0
-bare_begins0 = is_nothing
-
-pub bare0 : Makes Bare 0
-bare0 ts s = s
-
-pub bare_ends0 : Makes BareEnds 0
-bare_ends0 = is_nothing
+arm_body1 ts s es is_nothing = rw (append-nil ts) (_, bare s.1)

@@ -15,7 +15,8 @@ use Rattle.vast_rows.specs.Numbers.{rule_number, OpenParen, LogicOr, IfKey}
 use Rattle.vast_rows.specs.Page.{page}
 use Rattle.vast_rows.specs.Phrases.{Meaning, IsPhrase}
 use Rattle.vast_rows.specs.Rows.{Row}
-use Rattle.vast_rows.specs.Tree.{Forest, Spells, no_items, a_token, a_phrase, a_rule}
+use Rattle.vast_rows.specs.Events.{Event}
+use Rattle.vast_rows.specs.Telling.{Spells, no_items, a_token, a_phrase, a_rule}
 use Rattle.vast_rows.proofs.Sets.{some_one}
 
 -- The token of a kind of which there is one.
@@ -84,11 +85,11 @@ row_makes M [] n row m e = absurd (cc)
 row_makes M (x ∷ rows) zero row m e = subst (λ (v : Row). MakesOf M v.items (M v.rule)) (some_one x row e) m.0
 row_makes M (x ∷ rows) (suc n) row m e = row_makes M rows n row m.1 e
 
-nothing_left : {rows : List Row} {ts : List tokens.Token} {f : Forest} → Spells IsPhrase rows [] ts f → ts ≡ []
+nothing_left : {rows : List Row} {ts : List tokens.Token} {es fs : List Event} → Spells rows [] ts es fs → ts ≡ []
 nothing_left no_items = refl
 
--- What trees make.
-pub folds : {rows : List Row} {s : List Item} {ts : List tokens.Token} {f : Forest} (M : ℕ → List tokens.Token → Type 0) (K : List tokens.Token → Type 0) → AllMake M rows → Spells IsPhrase rows s ts f → MakesOf M s K → K ts
+-- What is spelled makes something.
+pub folds : {rows : List Row} {s : List Item} {ts : List tokens.Token} {es fs : List Event} (M : ℕ → List tokens.Token → Type 0) (K : List tokens.Token → Type 0) → AllMake M rows → Spells rows s ts es fs → MakesOf M s K → K ts
 folds M K m no_items k = k
 folds M K m (a_token {s = s} {ts = ts} t e p) k =
     let n : ForToken (token_kind t) (λ t. MakesOf M s (λ us. K (t ∷ us))) = subst (λ (v : ℕ). ForToken v (λ t. MakesOf M s (λ us. K (t ∷ us)))) (sym e) k in

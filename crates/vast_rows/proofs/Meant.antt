@@ -1,6 +1,6 @@
 -- What each rule of the page means, by the typed relations of the grammar. A rule that is there for factoring alone means: with what
 -- stands before it, the whole.
-use Rattle.std.proofs.Common.{◌≡◌, ℕ, List, [], ◌∷◌, ◌++◌, Bool, true, false, Option, IsTrue, get_or, sym, subst, append-nil}
+use Rattle.std.proofs.Common.{◌≡◌, ℕ, List, [], ◌∷◌, ◌++◌, Bool, true, false, Option, None, IsTrue, get_or, sym, subst, append-nil}
 use Rattle.vast_literal.specs.FileGrammar.{arrow, is_kind, is_sign, is_member_kind, is_local_kind, is_direction, IsMany, IsJoined, last_item, next_item, IsList, IsUnique, IsStatement, IsCases, IsAssign, IsStatements, IsChoice, IsLabels, IsBody, IsGroup, IsMaybe, IsTypeName, IsDeclaration, IsEvent, IsInput, IsDeclared, IsGiven, IsConnection, IsGivenList, IsSemicolon, IsLabel, IsFunctionBody, IsMember, IsMembers, IsParameter, IsPort, IsParameters, IsPorts, IsItem}
 use Rattle.vast_literal.specs.Grammar.{Spells, SpellsList, SpellsJoined}
 use Rattle.vast_literal.specs.NormalExpr.{NormalExpr, NormalExprs}
@@ -8,7 +8,7 @@ use Rattle.vast_literal.specs.NormalFile as normal
 use Rattle.vast_literal.specs.Tokens.{Token, Reserved, Word, MacroWord, Mark}
 use Rattle.vast_rows.specs.declared.rule.Rule.{Rule as RuleName}
 use Rattle.vast_rows.specs.declared.rule.Rule.TheVariants as rule
-use Rattle.vast_rows.specs.Numbers.{Key, OpenParen, CloseParen, OpenBracket, Comma, Dot, CasezKey, EndKey, EndModuleKey, IfKey, ElseKey, BeginKey, OrKey}
+use Rattle.vast_rows.specs.Numbers.{Key, OpenParen, CloseParen, OpenBracket, Comma, Dot, DoubleColon, CasezKey, EndKey, EndModuleKey, IfKey, ElseKey, BeginKey, OrKey}
 use Rattle.vast_rows.specs.Page.{page}
 use Rattle.vast_rows.proofs.Means.{MakesOf, row_of, rule_of}
 
@@ -55,13 +55,17 @@ Meant rule.KindWord ts = IsKey is_kind ts
 Meant rule.Declarator ts = Declared ts
 Meant rule.SignWord ts = IsKey is_sign ts
 Meant rule.AfterWord ts = (w : List ℕ) → Declared (Word w ∷ ts)
+Meant rule.OwnType us = (p : List ℕ) → Declared (Word p ∷ (Mark DoubleColon ∷ us))
 Meant rule.SignedName us = (ts : List Token) (p t : Option (List ℕ)) → IsTypeName ts p t → Declared (ts ++ us)
+Meant rule.GroupedName us = (ts ss : List Token) (p t : Option (List ℕ)) (s : Option Key) → IsTypeName ts p t → IsMaybe is_sign ss s → Declared (ts ++ (ss ++ us))
 Meant rule.AfterGroups us = (w : List ℕ) (gs : List Token) (g : List normal.Group) → IsMany IsGroup gs g → Declared (Word w ∷ (gs ++ us))
+Meant rule.FirstGroups ts = (g : List normal.Group) × IsMany IsGroup ts g
 Meant rule.Groups ts = (g : List normal.Group) × IsMany IsGroup ts g
 Meant rule.BracketGroup ts = (g : normal.Group) × IsGroup ts g
 Meant rule.GroupEnd us = (xs : List Token) (x : NormalExpr) → Spells 0 xs x → (g : normal.Group) × IsGroup (Mark OpenBracket ∷ (xs ++ us)) g
 Meant rule.Member ts = (m : normal.NormalMember) × IsMember ts m
 Meant rule.NetKind ts = IsKey is_member_kind ts
+Meant rule.NoWait ts = IsNothing ts
 Meant rule.AnyMacro ts = IsMacro ts
 Meant rule.MacroArguments us = (m : List ℕ) (ss : List Token) (s : Bool) → IsSemicolon ss s → (x : normal.NormalMember) × IsMember (MacroWord m ∷ (us ++ ss)) x
 Meant rule.Expressions ts = (xs : NormalExprs) × SpellsList ts xs
@@ -84,10 +88,8 @@ Meant rule.Locals ts = (d : List normal.NormalDeclaration) × IsMany (IsDeclared
 Meant rule.Local ts = (d : normal.NormalDeclaration) × IsDeclared is_local_kind ts d
 Meant rule.LocalKind ts = IsKey is_local_kind ts
 Meant rule.FunctionBody ts = (b : normal.NormalStatements) × IsFunctionBody ts b
-Meant rule.LoneBegins ts = IsNothing ts
-Meant rule.Lone ts = (s : normal.NormalStatement) × IsCases CasezKey true ts s
 Meant rule.LoneCase us = (ts : List Token) (u : Bool) → IsUnique ts u → (s : normal.NormalStatement) × IsCases CasezKey true (ts ++ us) s
-Meant rule.LoneEnds ts = IsNothing ts
+Meant rule.NoEnd ts = IsNothing ts
 Meant rule.LoopLabel ts = (l : Option (List ℕ)) × IsLabel ts l
 Meant rule.Statements ts = (s : normal.NormalStatements) × IsStatements ts s
 Meant rule.Statement ts = (s : normal.NormalStatement) × IsStatement ts s
@@ -101,9 +103,6 @@ Meant rule.CaseKind us = (ts : List Token) (u : Bool) → IsUnique ts u → (s :
 Meant rule.CaseArms ts = (a : normal.Labels) × IsLabels false ts a
 Meant rule.BareArms ts = (a : normal.Labels) × IsLabels true ts a
 Meant rule.ArmBody ts = (b : normal.NormalStatements) × IsBody true ts b
-Meant rule.BareBegins ts = IsNothing ts
-Meant rule.Bare ts = (s : normal.NormalStatement) × IsAssign ts s
-Meant rule.BareEnds ts = IsNothing ts
 
 -- By a rule's number.
 abbrev pub MeantBy : ℕ → List Token → Type 0
@@ -111,12 +110,12 @@ MeantBy n ts = Meant (rule_of n) ts
 
 -- That a row makes its rule: the row of that rule at that place.
 abbrev pub Makes : RuleName → ℕ → Type 0
-Makes name which = let row = get_or page (row_of name which) (record { rule = 0; items = []; looks = 0; told_as = 0 }) in MakesOf MeantBy row.items (MeantBy row.rule)
+Makes name which = let row = get_or page (row_of name which) (record { rule = 0; items = []; action = None; looks = 0 }) in MakesOf MeantBy row.items (MeantBy row.rule)
 
 -- Lists.
 
 pub no_tails : {A : Type 0} {P : List Token → A → Type 0} {between : Token} → Tails P between []
 no_tails {P = P} {between = between} ts x p = (x ∷ [], subst (λ (v : List Token). IsJoined P between v (x ∷ [])) (sym (append-nil ts)) (last_item p))
 
-pub more_tails : {A : Type 0} {P : List Token → A → Type 0} {between : Token} {vs : List Token} (us : List Token) (y : A) → P us y → Tails P between vs → Tails P between (between ∷ (us ++ vs))
-more_tails us y q tails ts x p = let r = tails us y q in (x ∷ r.0, next_item p r.1)
+pub more_tails : {A : Type 0} {P : List Token → A → Type 0} {between : Token} (us : List Token) → (y : A) × P us y → (vs : List Token) → Tails P between vs → Tails P between (between ∷ (us ++ vs))
+more_tails us y vs tails ts x p = let r = tails us y.0 y.1 in (x ∷ r.0, next_item p r.1)

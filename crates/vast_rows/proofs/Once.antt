@@ -6,13 +6,15 @@ use Rattle.vast_rows.specs.declared.grammar.Item.{Item}
 use Rattle.vast_rows.specs.declared.grammar.Item.TheVariants.{Rule, Phrase}
 use Rattle.vast_rows.specs.declared.grammar.Phrase as code
 use Rattle.vast_rows.specs.Internal.Derives.{Derives, nothing, token, phrase, choice}
-use Rattle.vast_rows.specs.Kinds.{has, only, head_kind}
-use Rattle.vast_rows.specs.Internal.Sets.{within}
-use Rattle.vast_rows.specs.Phrases.{Phrasing, stops, BeginsWell}
+use Rattle.vast_rows.specs.Kinds.{has}
+use Rattle.vast_rows.specs.Internal.Sources.{head_kind}
+use Rattle.vast_rows.specs.Internal.Sets.{within, only}
+use Rattle.vast_rows.specs.Internal.PhraseKinds.{stops}
 use Rattle.vast_rows.specs.Internal.Predictive.{row_at, starts, begins, follows, may_be_empty, lead, are_good, are_apart, are_together, is_predictive}
 use Rattle.vast_rows.specs.Facts.{Fact}
 use Rattle.vast_rows.specs.Rows.{Row}
-use Rattle.vast_rows.specs.Tree.{Step}
+use Rattle.vast_rows.specs.Events.{Event}
+use Rattle.vast_rows.proofs.PhraseLaws.{begins as phrase_begins}
 use Rattle.vast_rows.proofs.RowLaws.{good_at, first_at, follows_append}
 use Rattle.vast_rows.proofs.Sets.{both, some_one, has_within, has_only, end_within}
 
@@ -54,39 +56,38 @@ follows_rule facts row r s ruled f = subst (λ (v : ℕ). follows facts (only 0)
 pub start_follows : (facts : ℕ → Fact) (start : ℕ) → has (facts start).follow 0 ≡ true → follows facts (only 0) (Rule start ∷ []) ≡ true
 start_follows facts start h = rw (end_within (facts start).follow h) refl
 
-module _ {is : Phrasing} (well : BeginsWell is) where
-  pub heads : {rows : List Row} {s : List Item} {ts : List tokens.Token} {cs : List Step} (facts : ℕ → Fact) → is_predictive facts rows ≡ true → follows facts (only 0) s ≡ true → Derives is rows s ts cs →
-      has (begins facts (only 0) s) (head_kind ts) ≡ true
-  heads facts p f nothing = refl
-  heads facts p f (token {k = k} t e d) = has_only k _ (sym e)
-  heads facts p f (phrase {p = part} {ts = ts} ps m i e d) = rw e (well part ps ts m i)
-  heads {rows} {ts = ts} facts p f (choice {r = r} {s = s} n row e ruled d) =
-      let g = good rows facts n row p e in
-      let f' = follows_rule facts row r s ruled f in
-      subst (λ (v : ℕ). has (facts v).begins (head_kind ts) ≡ true) ruled (has_within row.looks (facts row.rule).begins (head_kind ts) g.listed
-      (looked facts row s (head_kind ts) g f' (heads facts p (follows_row facts row s g f') d)))
+pub heads : {rows : List Row} {s : List Item} {ts : List tokens.Token} {cs : List Event} (facts : ℕ → Fact) → is_predictive facts rows ≡ true → follows facts (only 0) s ≡ true → Derives rows s ts cs →
+    has (begins facts (only 0) s) (head_kind ts) ≡ true
+heads facts p f nothing = refl
+heads facts p f (token {k = k} t e d) = has_only k _ (sym e)
+heads facts p f (phrase {p = part} {ts = ts} ps m i e d) = rw e (phrase_begins part ps ts m i)
+heads {rows} {ts = ts} facts p f (choice {r = r} {s = s} n row e ruled d) =
+    let g = good rows facts n row p e in
+    let f' = follows_rule facts row r s ruled f in
+    subst (λ (v : ℕ). has (facts v).begins (head_kind ts) ≡ true) ruled (has_within row.looks (facts row.rule).begins (head_kind ts) g.listed
+    (looked facts row s (head_kind ts) g f' (heads facts p (follows_row facts row s g f') d)))
 
-  -- The row of a choice is the one that the machine takes.
-  pub taken : {rows : List Row} {ts : List tokens.Token} {cs : List Step} (s : List Item) (facts : ℕ → Fact) (n r : ℕ) (row : Row) → is_predictive facts rows ≡ true → follows facts (only 0) (Rule r ∷ s) ≡ true →
-      slice_get rows n ≡ Some row → row.rule ≡ r → Derives is rows (row.items ++ s) ts cs → row_at facts rows r (head_kind ts) ≡ Some n
-  taken {rows} {ts = ts} s facts n r row p f e ruled d =
-      let g = good rows facts n row p e in
-      let f' = follows_rule facts row r s ruled f in
-      let q = both (are_apart rows) (are_together facts rows) (both (are_good facts rows) _ p).1 in
-      subst (λ (v : ℕ). row_at facts rows v (head_kind ts) ≡ Some n) ruled (first_at facts rows n row (head_kind ts) q.0 q.1 e
-      (looked facts row s (head_kind ts) g f' (heads facts p (follows_row facts row s g f') d)))
+-- The row of a choice is the one that the machine takes.
+pub taken : {rows : List Row} {ts : List tokens.Token} {cs : List Event} (s : List Item) (facts : ℕ → Fact) (n r : ℕ) (row : Row) → is_predictive facts rows ≡ true → follows facts (only 0) (Rule r ∷ s) ≡ true →
+    slice_get rows n ≡ Some row → row.rule ≡ r → Derives rows (row.items ++ s) ts cs → row_at facts rows r (head_kind ts) ≡ Some n
+taken {rows} {ts = ts} s facts n r row p f e ruled d =
+    let g = good rows facts n row p e in
+    let f' = follows_rule facts row r s ruled f in
+    let q = both (are_apart rows) (are_together facts rows) (both (are_good facts rows) _ p).1 in
+    subst (λ (v : ℕ). row_at facts rows v (head_kind ts) ≡ Some n) ruled (first_at facts rows n row (head_kind ts) q.0 q.1 e
+    (looked facts row s (head_kind ts) g f' (heads facts p (follows_row facts row s g f') d)))
 
-  -- Behind a phrase is what ends it.
-  pub stopped : {rows : List Row} {ts : List tokens.Token} {cs : List Step} (part : code.Phrase) (s : List Item) (facts : ℕ → Fact) → is_predictive facts rows ≡ true → follows facts (only 0) (Phrase part ∷ s) ≡ true →
-      Derives is rows s ts cs → has (stops part) (head_kind ts) ≡ true
-  stopped {ts = ts} part s facts p f d = let b = both (within (begins facts (only 0) s) (stops part)) (follows facts (only 0) s) f in
-      has_within (begins facts (only 0) s) (stops part) (head_kind ts) b.0 (heads facts p b.1 d)
+-- Behind a phrase is what ends it.
+pub stopped : {rows : List Row} {ts : List tokens.Token} {cs : List Event} (part : code.Phrase) (s : List Item) (facts : ℕ → Fact) → is_predictive facts rows ≡ true → follows facts (only 0) (Phrase part ∷ s) ≡ true →
+    Derives rows s ts cs → has (stops part) (head_kind ts) ≡ true
+stopped {ts = ts} part s facts p f d = let b = both (within (begins facts (only 0) s) (stops part)) (follows facts (only 0) s) f in
+    has_within (begins facts (only 0) s) (stops part) (head_kind ts) b.0 (heads facts p b.1 d)
 
-  -- Two rows in the place of one rule, before the same tokens, are one.
-  pub one_row : {rows : List Row} {ts us : List tokens.Token} {cs ds : List Step} (s : List Item) (facts : ℕ → Fact) (n m r : ℕ) (row other : Row) → is_predictive facts rows ≡ true → follows facts (only 0) (Rule r ∷ s) ≡ true → ts ≡ us →
-      slice_get rows n ≡ Some row → row.rule ≡ r → Derives is rows (row.items ++ s) ts cs → slice_get rows m ≡ Some other → other.rule ≡ r → Derives is rows (other.items ++ s) us ds → (n ≡ m) × (row ≡ other)
-  one_row {rows} {ts = ts} {us = us} s facts n m r row other p f same e ruled d e' ruled' d' =
-      let t = taken s facts n r row p f e ruled d in
-      let u = taken s facts m r other p f e' ruled' d' in
-      let nm : n ≡ m = some_one n m (sym t ∙ (ap (λ (v : List tokens.Token). row_at facts rows r (head_kind v)) same ∙ u)) in
-      (nm, some_one row other (sym e ∙ (ap (slice_get rows) nm ∙ e')))
+-- Two rows in the place of one rule, before the same tokens, are one.
+pub one_row : {rows : List Row} {ts us : List tokens.Token} {cs ds : List Event} (s : List Item) (facts : ℕ → Fact) (n m r : ℕ) (row other : Row) → is_predictive facts rows ≡ true → follows facts (only 0) (Rule r ∷ s) ≡ true → ts ≡ us →
+    slice_get rows n ≡ Some row → row.rule ≡ r → Derives rows (row.items ++ s) ts cs → slice_get rows m ≡ Some other → other.rule ≡ r → Derives rows (other.items ++ s) us ds → (n ≡ m) × (row ≡ other)
+one_row {rows} {ts = ts} {us = us} s facts n m r row other p f same e ruled d e' ruled' d' =
+    let t = taken s facts n r row p f e ruled d in
+    let u = taken s facts m r other p f e' ruled' d' in
+    let nm : n ≡ m = some_one n m (sym t ∙ (ap (λ (v : List tokens.Token). row_at facts rows r (head_kind v)) same ∙ u)) in
+    (nm, some_one row other (sym e ∙ (ap (slice_get rows) nm ∙ e')))

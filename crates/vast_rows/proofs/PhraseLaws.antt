@@ -12,10 +12,11 @@ use Rattle.vast_literal.proofs.Moves.{Quiet, quieter, stop_selects}
 use Rattle.vast_literal.proofs.Sound.{level_small}
 use Rattle.vast_rows.specs.declared.grammar.Phrase.{Phrase}
 use Rattle.vast_rows.specs.declared.grammar.Phrase.TheVariants.{Expression, Target}
-use Rattle.vast_rows.specs.Kinds.{has, head_kind}
-use Rattle.vast_rows.specs.Laws.{PhrasesAreTold}
+use Rattle.vast_rows.specs.Kinds.{has}
+use Rattle.vast_rows.specs.Internal.Sources.{head_kind}
 use Rattle.vast_rows.specs.Numbers.{Op, LogicOr, BitOr, BitXor, BitAnd, LessEqual, Less, Plus, Minus, BitNot, LogicNot, OpenParen, CloseParen, OpenBracket, Semicolon, Question, DoubleColon, Assign, Apostrophe, Key, IfKey, LogicKey, SignedKey, UnsignedKey, IntegerKey, IntKey}
-use Rattle.vast_rows.specs.Phrases.{IsPhrase, expression, target, loop_head, path, Meaning, IsExpression, IsLoop, IsPath, firsts, stops}
+use Rattle.vast_rows.specs.Phrases.{IsPhrase, expression, target, loop_head, path, Meaning, IsExpression, IsLoop, IsPath}
+use Rattle.vast_rows.specs.Internal.PhraseKinds.{firsts, stops}
 
 -- How an expression begins: at the upper levels with no sign.
 record Begins (k : ℕ) (ts : List Token) : Type 0 where
@@ -87,7 +88,7 @@ begins_so k ts x (package_cast p w e) = operand 14 _ _ refl refl
 begins_so k ts x (paren_cast h e) = operand 14 _ _ refl refl
 begins_so k ts x (word_cast w h e) = let b = cast_word w h in operand 14 _ _ b.0 b.1
 
-begins : (phrase : Phrase) (ts rest : List Token) (m : Meaning) → IsPhrase phrase ts m → has (firsts phrase) (head_kind (ts ++ rest)) ≡ true
+pub begins : (phrase : Phrase) (ts rest : List Token) (m : Meaning) → IsPhrase phrase ts m → has (firsts phrase) (head_kind (ts ++ rest)) ≡ true
 begins phrase ts rest m (expression e) = (begins_so 0 _ _ e).signed rest
 begins phrase ts rest m (target e) = (begins_so 13 _ _ e).bare (omega arith) rest
 begins phrase ts rest m (loop_head i s c) = refl
@@ -95,7 +96,7 @@ begins phrase ts rest m (path p) = refl
 
 -- What stands behind them goes on with none.
 
-quiet_expression : (rest : List Token) → has (stops Expression) (head_kind rest) ≡ true → Quiet 0 rest
+pub quiet_expression : (rest : List Token) → has (stops Expression) (head_kind rest) ≡ true → Quiet 0 rest
 unfolding lead
 quiet_expression [] h = tt
 quiet_expression (Operator LogicOr ∷ us) h = absurd (cc h)
@@ -108,7 +109,7 @@ quiet_expression (Mark Question ∷ us) h = absurd (cc h)
 quiet_expression (Mark _ ∷ us) h = tt
 quiet_expression (_ ∷ us) h = tt
 
-quiet_target : (rest : List Token) → has (stops Target) (head_kind rest) ≡ true → Quiet 13 rest
+pub quiet_target : (rest : List Token) → has (stops Target) (head_kind rest) ≡ true → Quiet 13 rest
 unfolding lead level
 quiet_target [] h = tt
 quiet_target (Operator LessEqual ∷ us) h = omega arith
@@ -143,7 +144,7 @@ one_target ts us r q x y a b e h k =
 abbrev pub step_of : List ℕ → List Token → List Token
 step_of i r = Word i ∷ (Mark Assign ∷ (Word i ∷ (Operator Plus ∷ (Number (codes "1") ∷ (Mark CloseParen ∷ r)))))
 
-semicolon_quiet : (r : List Token) → Quiet 0 (Mark Semicolon ∷ r)
+pub semicolon_quiet : (r : List Token) → Quiet 0 (Mark Semicolon ∷ r)
 unfolding lead
 semicolon_quiet r = tt
 
@@ -159,7 +160,7 @@ one_loop xs cs us ds r q i j x c y d e f a b a' b' same h =
     let v : r ≡ q = cc rests in
     (rw (same, s.0, w) refl, v)
 
-apart : (phrase : Phrase) (ts us r q : List Token) (m n : Meaning) → IsPhrase phrase ts m → IsPhrase phrase us n → ts ++ r ≡ us ++ q →
+pub apart : (phrase : Phrase) (ts us r q : List Token) (m n : Meaning) → IsPhrase phrase ts m → IsPhrase phrase us n → ts ++ r ≡ us ++ q →
     has (stops phrase) (head_kind r) ≡ true → has (stops phrase) (head_kind q) ≡ true → (m ≡ n) × (r ≡ q)
 apart phrase ts us r q m n (expression {x = x} a) (expression {x = y} b) e h k =
     let s = one_expression ts us r q x y a b e (quiet_expression r h) (quiet_expression q k) in (ap IsExpression s.0, s.1)
@@ -173,6 +174,3 @@ apart phrase ts us r q m n (path p) (path o) e h k =
     let quotes : p ++ (34 ∷ []) ≡ o ++ (34 ∷ []) = cc e in
     let rests : r ≡ q = cc e in
     (ap IsPath (append_cancel_right p o (34 ∷ []) quotes), rests)
-
-pub phrases_told : PhrasesAreTold
-phrases_told = record { begin = begins; apart = apart }

@@ -6,7 +6,7 @@ use Rattle.vast_rows.specs.declared.grammar.Item.{Item}
 use Rattle.vast_rows.specs.declared.grammar.Item.TheVariants.{Token, Rule, Phrase}
 use Rattle.vast_rows.specs.Kinds.{has}
 use Rattle.vast_rows.specs.Internal.Sets.{within, none_shared}
-use Rattle.vast_rows.specs.Phrases.{stops}
+use Rattle.vast_rows.specs.Internal.PhraseKinds.{stops}
 use Rattle.vast_rows.specs.Internal.Predictive.{row_from, row_at, starts, begins, follows, is_row_good, are_good, apart_from, are_apart, stand_together, are_together}
 use Rattle.vast_rows.specs.Facts.{Fact}
 use Rattle.vast_rows.specs.Rows.{Row}

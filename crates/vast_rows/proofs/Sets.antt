@@ -5,8 +5,8 @@ use Rattle.std.specs.Int.Bits.{bit_and}
 use Rattle.std.proofs.lemmas.Bool.{eqb-true, eq-eqb}
 use Rattle.std.proofs.lemmas.Nat.{and_assoc, and_comm}
 use Rattle.std.proofs.lemmas.Nat.Bits.{bit_at_and, bit_at-lt, bit_at-zero, bit_at-pow_same, shr_and_one}
-use Rattle.vast_rows.specs.Kinds.{has, only}
-use Rattle.vast_rows.specs.Internal.Sets.{within, none_shared}
+use Rattle.vast_rows.specs.Kinds.{has}
+use Rattle.vast_rows.specs.Internal.Sets.{within, none_shared, only}
 
 pub both : (a b : Bool) → (a && b) ≡ true → (a ≡ true) × (b ≡ true)
 both true b h = (refl, h)

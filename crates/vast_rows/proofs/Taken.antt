@@ -46,12 +46,12 @@ starts_there facts items rows rule kind at e = rw e (ap (λ (v : List Row). row_
     drop_view (suc n) (x ∷ rows) = drop_view n rows
 
 pub is_taken : (facts : ℕ → Fact) (items : List Item) (rows : List code.Row) (rule kind at : ℕ) (d : code.Row) (its : List Item) → GoesOn facts items rows rule kind at → at < length rows →
-    (get_or rows at d).rule ≡ rule → has (get_or rows at d).looks kind ≡ true → its ≡ span_of items (get_or rows at d).items (get_or rows at d).items_end → IsTaken facts (rows_view items rows) rule kind at its (get_or rows at d).told_as
+    (get_or rows at d).rule ≡ rule → has (get_or rows at d).looks kind ≡ true → its ≡ span_of items (get_or rows at d).items (get_or rows at d).items_end → IsTaken facts (rows_view items rows) rule kind at its (get_or rows at d).action
 is_taken facts items rows rule kind at d its g h r l i = record {
   row = row_view items (get_or rows at d);
   first = sym g ∙ (row_here items rows at rule kind d h ∙ rw (eq-eqb (get_or rows at d).rule rule r, l) refl);
   found = row_viewed items rows at d h;
   ruled = r;
   has_items = sym i;
-  is_told = refl;
+  has_action = refl;
 }

@@ -1,7 +1,6 @@
 -- Kinds of tokens, and sets of them as the bits of a number.
-use Rattle.std.specs.Prelude.{ℕ, ◌+◌, ◌^◌, List, [], ◌∷◌, Bool, cond, codes, nat_eq}
+use Rattle.std.specs.Prelude.{ℕ, ◌+◌, Bool, cond, codes, nat_eq}
 use Rattle.std.specs.Int.{bit_at}
-use Rattle.std.specs.Int.Bits.{bit_or}
 use Rattle.std.specs.Str.{bytes_eq}
 use Rattle.vast_literal.specs.Tokens.{Token}
 use Rattle.vast_literal.specs.Tokens as tokens
@@ -21,10 +20,6 @@ kind_of (tokens.Mark m) = Mark m
 kind_of (tokens.Operator op) = Operator op
 kind_of (tokens.Reserved k) = Reserved k
 
-abbrev pub kind_of_first : List Token → Kind
-kind_of_first [] = End
-kind_of_first (t ∷ ts) = kind_of t
-
 -- The number of a kind.
 abbrev pub number : Kind → ℕ
 number End = 0
@@ -40,21 +35,10 @@ number (Mark m) = 9 + mark_number m
 number (Operator op) = 26 + sign_number op
 number (Reserved k) = 50 + key_number k
 
--- The kind of a token, and of the first of some, as a number.
+-- The kind of a token as a number.
 abbrev pub token_kind : Token → ℕ
 token_kind t = number (kind_of t)
-
-abbrev pub head_kind : List Token → ℕ
-head_kind ts = number (kind_of_first ts)
 
 -- Whether the kind is in the set.
 abbrev pub has : (set kind : ℕ) → Bool
 has set kind = nat_eq (bit_at set kind) 1
-
--- The set of one kind, and of those listed.
-abbrev pub only : ℕ → ℕ
-only kind = 2 ^ kind
-
-abbrev pub set_of : List ℕ → ℕ
-set_of [] = 0
-set_of (k ∷ ks) = bit_or (only k) (set_of ks)

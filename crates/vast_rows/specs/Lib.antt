@@ -2,11 +2,13 @@ pub mod Numbers
 pub mod Kinds
 pub mod Rows
 pub mod Symbols
-pub mod Told
 pub mod Page
 pub mod Phrases
+pub mod Events
 pub mod Facts
 pub mod Tables
-pub mod Tree
+pub mod Telling
+pub mod Trace
+pub mod Built
 pub mod Laws
 pub mod Internal

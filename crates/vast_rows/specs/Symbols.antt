@@ -1,12 +1,13 @@
 -- What stands on a page of rows: tokens, rules and phrases by their names.
-use Rattle.std.specs.Prelude.{List}
+use Rattle.std.specs.Prelude.{List, Some, None}
 use Rattle.vast_rows.specs.Numbers.{Op, Punct, Key}
 use Rattle.vast_rows.specs.Kinds.{number}
 use Rattle.vast_rows.specs.Numbers.{rule_number}
 use Rattle.vast_rows.specs.Rows.{Row}
+use Rattle.vast_rows.specs.declared.action.Action.{Action}
 use Rattle.vast_rows.specs.declared.grammar.Item.{Item}
 use Rattle.vast_rows.specs.declared.grammar.Item.TheVariants.{Token, Rule}
-use Rattle.vast_rows.specs.declared.kind.Kind.TheVariants.{Word, SystemWord, MacroWord, IncludeWord, Number, Based, Quoted, Mark, Operator, Reserved}
+use Rattle.vast_rows.specs.declared.kind.Kind.TheVariants.{Word, MacroWord, IncludeWord, Mark, Operator, Reserved}
 use Rattle.vast_rows.specs.declared.rule.Rule.{Rule as RuleName}
 
 abbrev pub key : Key → Item
@@ -21,9 +22,6 @@ op sign = Token (number (Operator sign))
 abbrev pub word : Item
 word = Token (number Word)
 
-abbrev pub system_word : Item
-system_word = Token (number SystemWord)
-
 -- Any macro but the one that includes a file, and that one.
 abbrev pub macro_word : Item
 macro_word = Token (number MacroWord)
@@ -31,18 +29,14 @@ macro_word = Token (number MacroWord)
 abbrev pub include_word : Item
 include_word = Token (number IncludeWord)
 
-abbrev pub number_word : Item
-number_word = Token (number Number)
-
-abbrev pub based : Item
-based = Token (number Based)
-
-abbrev pub quoted : Item
-quoted = Token (number Quoted)
-
 abbrev pub rule : RuleName → Item
 rule name = Rule (rule_number name)
 
+-- A row, which passes on what its items make, and one that makes something of it.
 infix 4 ◌⟶◌
 abbrev pub ◌⟶◌ : RuleName → List Item → Row
-name ⟶ items = record { rule = rule_number name; items = items; looks = 0; told_as = 0 }
+name ⟶ items = record { rule = rule_number name; items = items; action = None; looks = 0 }
+
+infix 3 ◌⟹◌
+abbrev pub ◌⟹◌ : Row → Action → Row
+row ⟹ action = record { rule = row.rule; items = row.items; action = Some action; looks = 0 }

@@ -5,6 +5,8 @@ ghost use Rattle.vast_rows.specs.Facts.{fact_in, facts_view};
 ghost use Rattle.vast_rows.specs.Internal.Predictive.{is_predictive};
 ghost use Rattle.vast_rows.specs.Rows.{rows_view};
 
+use crate::action::Action;
+
 /// A part of a text that has a reader of its own.
 #[derive(Clone, Copy, Debug, PartialEq, Eq)]
 pub enum Phrase {
@@ -26,12 +28,12 @@ pub(crate) enum Item {
     Phrase(Phrase),
 }
 
-/// One way to spell a rule: its items, the kinds of token at which it is taken, and the row as
-/// which it is told.
+/// One way to spell a rule: its items, the kinds of token at which it is taken, and what it makes of
+/// what the items make.
 #[derive(Clone, Copy)]
 pub(crate) struct Row {
     pub(crate) rule: u8,
-    pub(crate) told_as: u8,
+    pub(crate) action: Option<Action>,
     pub(crate) looks: u128,
     pub(crate) items: usize,
     pub(crate) items_end: usize,

@@ -1,25 +1,41 @@
-//! Laws of tables, of their trees, and of the page and the grammar. The functions compute nothing.
+//! Laws of tables and what they tell, and of the page and the grammar. The functions compute
+//! nothing.
 
-ghost use Rattle.vast_rows.specs.Laws.{HasOneTree, PhrasesAreTold, RowsAreTheGrammar, TellsTrees};
+ghost use Rattle.vast_literal.specs.FileGrammar.{OneFile};
+ghost use Rattle.vast_rows.specs.Laws.{RowsAreTheGrammar, TellsOnce, TraceBuilds, TraceIsOne};
 ghost use Rattle.vast_rows.specs.Tables.{facts_of, rows_of};
 
 use crate::grammar::Table;
-use crate::source::Source;
+use crate::table::files;
 
-/// The phrases of the grammar keep the laws that the machine wants of them.
-pub fn phrases_are_told()
-    ensures { PhrasesAreTold }
-{}
-
-/// The page of rows spells as a file exactly the tokens that the grammar of files does.
+/// The page of rows spells as a file exactly the tokens that the grammar of files does, and tells of
+/// them the file's trace.
 pub fn rows_are_the_grammar()
     ensures { RowsAreTheGrammar }
-{}
+{
+    let _files = files();
+}
 
-/// Tokens have at most one tree, and two trees are the same where their steps and their tokens are.
-pub fn trees_are_told<S: Source>(table: &Table)
-    ensures one_tree { HasOneTree S.is_phrase (facts_of table.now) (rows_of table.now) }
-    ensures told_by_steps { TellsTrees S.is_phrase (rows_of table.now) }
+/// A table tells one thing of tokens at most.
+pub fn telling_is_one(table: &Table)
+    ensures { TellsOnce (facts_of table.now) (rows_of table.now) }
 {
     let _table = *table;
+}
+
+/// The trace of a file builds it.
+pub fn trace_builds()
+    ensures { TraceBuilds }
+{}
+
+/// Files of one trace are one.
+pub fn trace_is_one()
+    ensures { TraceIsOne }
+{}
+
+/// Tokens spell one file at most.
+pub fn file_is_one()
+    ensures { OneFile }
+{
+    let _files = files();
 }

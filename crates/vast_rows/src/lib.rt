@@ -2,9 +2,11 @@
 //! such a table spells.
 //!
 //! The rows stand on a page (`specs/Page.antt`), and [`files`] has them as the machine wants them.
-//! That the page spells exactly what the grammar of `vast_literal` does is a law ([`laws`]).
+//! That the page spells exactly what the grammar of `vast_literal` does is a law ([`laws`]), and what
+//! is told of a file is its trace (`specs/Trace.antt`), which builds it again (`specs/Built.antt`).
 #![tactic(auto)]
 
+mod action;
 mod grammar;
 mod kind;
 pub mod laws;
@@ -17,9 +19,10 @@ mod table;
 #[cfg(test)]
 mod trial;
 
+pub use action::{Action, Listed};
 pub use grammar::{Phrase, Table};
 pub use kind::Kind;
-pub use machine::{is_file, is_spelled, read};
+pub use machine::{is_file, read, read_file};
 pub use rule::Rule;
 pub use sink::{Nothing, Sink};
 pub use source::Source;

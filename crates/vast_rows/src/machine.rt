@@ -1,17 +1,21 @@
 //! The machine: a stack of items that are still to be read. It neither recurs nor makes a tree.
 
-ghost use Rattle.std.specs.Prelude.{◌≡◌, ◌<◌, ◌++◌, true, None};
+ghost use Rattle.std.specs.Prelude.{◌≡◌, ◌<◌, ◌++◌, [], true, None};
 ghost use Rattle.std.specs.Prelude.{IfOk, MatchBool, MatchOption, OnOk};
+ghost use Rattle.vast_literal.specs.FileGrammar.{IsFile};
+ghost use Rattle.vast_literal.specs.NormalFile.{NormalFile};
+ghost use Rattle.vast_rows.specs.Events.{made_by, named_by};
+ghost use Rattle.vast_rows.specs.Internal.Sources.{tail, first_name};
 ghost use Rattle.vast_rows.specs.Internal.Reading.{IsTaken, LeadsTo};
 ghost use Rattle.vast_rows.specs.Kinds.{has};
-ghost use Rattle.vast_rows.specs.Laws.{IsRead, IsSpelled, IsUnspelled};
+ghost use Rattle.vast_rows.specs.Laws.{IsRead, IsUnspelled};
 ghost use Rattle.vast_rows.specs.Numbers.{rule_number};
-ghost use Rattle.vast_rows.specs.Page.{page};
 ghost use Rattle.vast_rows.specs.Internal.Predictive.{row_at};
 ghost use Rattle.vast_rows.specs.Rows.{span_of};
 ghost use Rattle.vast_rows.specs.Tables.{facts_of, rows_of};
-ghost use Rattle.vast_rows.specs.declared.rule.Rule.TheVariants.{File};
+ghost use Rattle.vast_rows.specs.Trace.{trace};
 
+use crate::action::Action;
 use crate::grammar::{Item, Phrase, Table};
 use crate::kind::Kind;
 use crate::rule::Rule;
@@ -45,11 +49,11 @@ fn items_between(list: &'static [Item], from: usize, end: usize) -> &'static [It
     }
 }
 
-/// A row that is taken: as which row it is told, and its items.
+/// A row that is taken: what it makes, and its items.
 #[derive(Clone, Copy)]
 pub(crate) struct Choice {
     pub(crate) number: usize,
-    pub(crate) told_as: u8,
+    pub(crate) action: Option<Action>,
     pub(crate) items: &'static [Item],
 }
 
@@ -70,7 +74,7 @@ pub(crate) fn taken(table: &Table, rule: u8, kind: u8) -> Option<Choice>
     ensures { MatchOption result
         (row_at (facts_of table.now) (rows_of table.now) rule kind ≡ None)
         (λ t. IsTaken (facts_of table.now) (rows_of table.now) rule kind
-        t.number t.items.now t.told_as) }
+        t.number t.items.now t.action) }
 {
     let mut at = first_row(table, rule);
     'rows: while at < table.rows.len() {
@@ -81,7 +85,7 @@ pub(crate) fn taken(table: &Table, rule: u8, kind: u8) -> Option<Choice>
         if is_in(row.looks, kind) {
             return Some(Choice {
                 number: at,
-                told_as: row.told_as,
+                action: row.action,
                 items: items_between(table.items, row.items, row.items_end),
             });
         }
@@ -115,6 +119,28 @@ pub(crate) enum Due {
     Wrong,
 }
 
+/// Tells what a row makes, if it makes something.
+fn tell<S: Source, K: Sink<S>>(sink: &mut K, action: Option<Action>) -> Result<(), AllocError>
+    ensures { IfOk result (λ _. K.after sink.old (made_by action []) sink.new) }
+{
+    match action {
+        None => Ok(()),
+        Some(action) => sink.makes(action),
+    }
+}
+
+/// Leaves the next token behind, and tells it if it is a name.
+fn take<S: Source, K: Sink<S>>(source: &mut S, sink: &mut K) -> Result<(), AllocError>
+    ensures left { IfOk result (λ _. S.left source.new ≡ tail (S.left source.old)) }
+    ensures told { IfOk result (λ _. K.after sink.old
+        (named_by (first_name (S.left source.old)) []) sink.new) }
+{
+    match source.take() {
+        None => Ok(()),
+        Some(name) => sink.names(name),
+    }
+}
+
 /// Opens rules until a token or a phrase is due.
 pub(crate) fn open<S: Source, K: Sink<S>>(
     table: &Table,
@@ -122,7 +148,7 @@ pub(crate) fn open<S: Source, K: Sink<S>>(
     stack: &mut Stack<Item>,
     sink: &mut K,
 ) -> Result<Due, AllocError>
-    ensures { IfOk result (LeadsTo S.is_phrase K.after (rows_of table.now) (facts_of table.now)
+    ensures { IfOk result (LeadsTo K.after (rows_of table.now) (facts_of table.now)
         (S.left source.now) stack.old sink.old stack.new sink.new) }
 {
     let kind = source.kind().number();
@@ -134,7 +160,7 @@ pub(crate) fn open<S: Source, K: Sink<S>>(
             Some(Item::Rule(rule)) => match taken(table, rule, kind) {
                 None => return Ok(Due::Wrong),
                 Some(row) => {
-                    sink.chose(row.told_as)?;
+                    tell(sink, row.action)?;
                     push_all(stack, row.items)?;
                 }
             },
@@ -142,7 +168,7 @@ pub(crate) fn open<S: Source, K: Sink<S>>(
     }
 }
 
-/// Whether the rule spells the tokens of the source; a sink hears the steps of their tree.
+/// Whether the rule spells the tokens of the source; a sink hears what is told of them.
 ///
 /// Where it does not spell them, the sink heard of a front of them, and no clause says how far the
 /// source was read.
@@ -158,10 +184,9 @@ pub fn read<S: Source, K: Sink<S>>(
 ) -> Result<bool, AllocError>
     requires { has (facts_of table.now (rule_number start)).follow 0 ≡ true }
     ensures { IfOk result (λ spelled. MatchBool spelled
-        (IsRead S.is_phrase K.after (rows_of table.now) (rule_number start)
-        (S.left source.old) sink.old sink.new)
-        (IsUnspelled S.is_phrase (rows_of table.now) (rule_number start)
-        (S.left source.old))) }
+        (IsRead K.after (rows_of table.now) (rule_number start) (S.left source.old)
+        sink.old sink.new)
+        (IsUnspelled (rows_of table.now) (rule_number start) (S.left source.old))) }
 {
     let mut stack = Stack::new(alloc);
     stack.push(Item::Rule(start.number()))?;
@@ -173,14 +198,31 @@ pub fn read<S: Source, K: Sink<S>>(
                 if source.kind().number() != kind {
                     return Ok(false);
                 }
-                source.skip();
+                take(source, sink)?;
             }
             Due::Phrase(phrase) => match source.phrase(phrase)? {
                 None => return Ok(false),
-                Some(made) => sink.read(made)?,
+                Some(made) => sink.reads(made)?,
             },
         }
     }
+}
+
+/// Whether the tokens of the source are those of a file; a sink hears the file's trace.
+///
+/// # Errors
+/// Out of memory.
+pub fn read_file<S: Source, K: Sink<S>>(
+    alloc: Global,
+    source: &mut S,
+    sink: &mut K,
+) -> Result<bool, AllocError>
+    ensures { IfOk result (λ spelled. MatchBool spelled
+        ((t : NormalFile) × IsFile (S.left source.old) t
+        × K.after sink.old (trace t []) sink.new)
+        ((t : NormalFile) → IsFile (S.left source.old) t → ⊥)) }
+{
+    read(alloc, &files(), Rule::File, source, sink)
 }
 
 /// Whether the tokens of the source are those of a file.
@@ -189,28 +231,8 @@ pub fn read<S: Source, K: Sink<S>>(
 /// Out of memory.
 pub fn is_file<S: Source>(alloc: Global, source: &mut S) -> Result<bool, AllocError>
     ensures { IfOk result (λ spelled. MatchBool spelled
-        (IsSpelled S.is_phrase page (rule_number File) (S.left source.old))
-        (IsUnspelled S.is_phrase page (rule_number File) (S.left source.old))) }
+        ((t : NormalFile) × IsFile (S.left source.old) t)
+        ((t : NormalFile) → IsFile (S.left source.old) t → ⊥)) }
 {
-    is_spelled(alloc, &files(), Rule::File, source)
-}
-
-/// Whether the rule spells the tokens of the source.
-///
-/// # Errors
-/// Out of memory.
-#[tactic(auto, using(crate::proofs::Turns::is_spelled))]
-pub fn is_spelled<S: Source>(
-    alloc: Global,
-    table: &Table,
-    start: Rule,
-    source: &mut S,
-) -> Result<bool, AllocError>
-    requires { has (facts_of table.now (rule_number start)).follow 0 ≡ true }
-    ensures { IfOk result (λ spelled. MatchBool spelled
-        (IsSpelled S.is_phrase (rows_of table.now) (rule_number start) (S.left source.old))
-        (IsUnspelled S.is_phrase (rows_of table.now) (rule_number start)
-        (S.left source.old))) }
-{
-    read(alloc, table, start, source, &mut Nothing)
+    read_file(alloc, source, &mut Nothing)
 }

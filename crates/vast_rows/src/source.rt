@@ -1,38 +1,38 @@
 //! From where the machine takes tokens.
 
-ghost use Rattle.std.specs.Prelude.{◌≡◌, List, IfOk, MatchOption};
+ghost use Rattle.std.specs.Prelude.{◌≡◌, ℕ, List, IfOk, MatchOption, Some, None};
 ghost use Rattle.vast_literal.specs.Tokens.{Token};
-ghost use Rattle.vast_rows.specs.Kinds.{kind_of_first};
-ghost use Rattle.vast_rows.specs.Internal.Sources.{tail};
-ghost use Rattle.vast_rows.specs.Phrases.{Meaning, BeginsWell, IsToldApart};
-ghost use Rattle.vast_rows.specs.Internal.Sources.{HasRead, HasNone};
-ghost use Rattle.vast_rows.specs.declared.grammar.Phrase.{Phrase as Part};
+ghost use Rattle.vast_rows.specs.Phrases.{Meaning};
+ghost use Rattle.vast_rows.specs.Internal.Sources.{tail, HasRead, HasNone, first_name, kind_of_first};
 
 use crate::grammar::Phrase;
 use crate::kind::Kind;
 use std::alloc::AllocError;
 
-/// Tokens that are left to read, and a reader of phrases.
+/// Tokens that are left to read, and a reader of the phrases of the grammar of files.
 ///
-/// `left` is the list of those tokens, `is_phrase` says which of them are a phrase and what it
-/// means, and `sees` what was made of one.
+/// `left` is the list of those tokens, `sees` what was made of a phrase, and `text` that of a name.
 pub trait Source {
     /// What is made of a phrase.
     type Made: Drop;
+    /// A token that is a name.
+    type Name: Drop;
 
     ghost left: { Self → List Token };
 
-    ghost is_phrase: { Part → List Token → Meaning → Type 0 };
-
     ghost sees: { Self.Made → Meaning };
+
+    ghost text: { Self.Name → List ℕ };
 
     /// The kind of the next token.
     fn kind(&self) -> Kind
         ensures { result ≡ kind_of_first (left self.now) };
 
-    /// Leaves the next token behind.
-    fn skip(&mut self)
-        ensures { left self.new ≡ tail (left self.old) };
+    /// Leaves the next token behind, and hands it over where it is a name.
+    fn take(&mut self) -> Option<Self::Name>
+        ensures left { left self.new ≡ tail (left self.old) }
+        ensures name { MatchOption result (first_name (left self.old) ≡ None)
+            (λ name. first_name (left self.old) ≡ Some (text name)) };
 
     /// Reads a phrase. Where none stands before a token that may follow, it may read one or none.
     ///
@@ -40,10 +40,6 @@ pub trait Source {
     /// Out of memory.
     fn phrase(&mut self, phrase: Phrase) -> Result<Option<Self::Made>, AllocError>
         ensures { IfOk result (λ made. MatchOption made
-            (HasNone is_phrase phrase (left self.old))
-            (λ m. HasRead is_phrase phrase (left self.old) (sees m) (left self.new))) };
-
-    ghost begins: { BeginsWell is_phrase };
-
-    ghost told_apart: { IsToldApart is_phrase };
+            (HasNone phrase (left self.old))
+            (λ m. HasRead phrase (left self.old) (sees m) (left self.new))) };
 }

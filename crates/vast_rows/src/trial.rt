@@ -1,9 +1,10 @@
-//! Lists of kinds that are read.
+//! Lists of tokens that are read.
 
 ghost use Rattle.std.specs.Prelude.{◌≡◌, [], map};
-ghost use Rattle.vast_rows.specs.Internal.Trial.{IsOne, one_apart, one_begins, token_of};
-ghost use Rattle.vast_rows.specs.Kinds.{kind_of};
-ghost use Rattle.vast_rows.specs.Phrases.{IsPath, firsts};
+ghost use Rattle.vast_literal.specs.NormalExpr.{Name};
+ghost use Rattle.vast_rows.specs.Internal.Sources.{kind_of_first, tail};
+ghost use Rattle.vast_rows.specs.Internal.Trial.{name_ends, token_of};
+ghost use Rattle.vast_rows.specs.Phrases.{IsExpression};
 
 use crate::grammar::Phrase;
 use crate::kind::Kind;
@@ -12,103 +13,116 @@ use crate::source::Source;
 use std::alloc::{AllocError, Global};
 use vast_literal::{Key, Mark, Sign};
 
-/// Tokens by their kinds.
+/// Tokens by their kinds: names without bytes, marks, signs and keywords. Each expression is a name;
+/// of others the source says that it has no memory.
 #[derive(Drop)]
-struct Kinds<'a> {
+struct Trial<'a> {
     rest: &'a [Kind],
 }
 
-/// The kind of the token that stands for one.
-fn shown(kind: Kind) -> Kind
-    ensures { result ≡ kind_of (token_of kind) }
+/// The kind of the first token.
+#[tactic(auto, using(crate::proofs::Trials::sources))]
+fn first_of(tokens: &[Kind]) -> Kind
+    ensures { result ≡ kind_of_first (map token_of tokens.now) }
 {
-    match kind {
+    if tokens.is_empty() {
+        return Kind::End;
+    }
+    match tokens[0] {
         Kind::End => Kind::Word,
         Kind::Word => Kind::Word,
-        Kind::Keyword => Kind::Keyword,
-        Kind::SystemWord => Kind::SystemWord,
-        Kind::MacroWord => Kind::MacroWord,
-        Kind::IncludeWord => Kind::IncludeWord,
-        Kind::Number => Kind::Number,
-        Kind::Based => Kind::Based,
-        Kind::Quoted => Kind::Quoted,
+        Kind::Keyword => Kind::Word,
+        Kind::SystemWord => Kind::Word,
+        Kind::MacroWord => Kind::Word,
+        Kind::IncludeWord => Kind::Word,
+        Kind::Number => Kind::Word,
+        Kind::Based => Kind::Word,
+        Kind::Quoted => Kind::Word,
         Kind::Mark(mark) => Kind::Mark(mark),
         Kind::Operator(sign) => Kind::Operator(sign),
         Kind::Reserved(key) => Kind::Reserved(key),
     }
 }
 
-/// The kinds with which a phrase begins.
-fn begins(phrase: Phrase) -> u128
-    ensures { result ≡ firsts phrase }
+/// The others.
+#[tactic(auto, using(crate::proofs::Trials::sources))]
+fn behind<'a>(tokens: &'a [Kind]) -> &'a [Kind]
+    ensures { map token_of result.now ≡ tail (map token_of tokens.now) }
 {
-    match phrase {
-        Phrase::Expression => 0x1b80030800720023fa,
-        Phrase::Target => 0x1b80000000020023fa,
-        Phrase::LoopHead => 0x200,
-        Phrase::Path => 0x100,
+    if tokens.is_empty() {
+        tokens
+    } else {
+        &tokens[1..]
     }
 }
 
-impl<'a> Source for Kinds<'a> {
+/// The kinds before which a name is read as the phrase.
+fn ends(phrase: Phrase) -> u128
+    ensures { result ≡ name_ends phrase }
+{
+    match phrase {
+        Phrase::Expression => 0x40000000000000039400,
+        Phrase::Target => 0x2001000000,
+        Phrase::LoopHead => 0,
+        Phrase::Path => 0,
+    }
+}
+
+impl<'a> Source for Trial<'a> {
     type Made = ();
+
+    type Name = ();
 
     ghost left = { λ s. map token_of s.rest.now };
 
-    ghost is_phrase = { IsOne };
+    ghost sees = { λ made. IsExpression (Name []) };
 
-    ghost sees = { λ made. IsPath [] };
+    ghost text = { λ name. [] };
 
-    #[tactic(auto, using(crate::proofs::Trials::sources))]
     fn kind(&self) -> Kind {
-        if self.rest.is_empty() {
-            Kind::End
-        } else {
-            shown(self.rest[0])
-        }
+        first_of(self.rest)
     }
 
     #[tactic(auto, using(crate::proofs::Trials::sources))]
-    fn skip(&mut self) {
-        if !self.rest.is_empty() {
-            self.rest = &self.rest[1..];
-        }
+    fn take(&mut self) -> Option<()> {
+        let kind = first_of(self.rest).number();
+        self.rest = behind(self.rest);
+        if kind == 1 { Some(()) } else { None }
     }
 
     #[tactic(auto, using(crate::proofs::Trials::phrases))]
     fn phrase(&mut self, phrase: Phrase) -> Result<Option<()>, AllocError> {
-        if is_in(begins(phrase), self.kind().number()) {
-            self.skip();
-            Ok(Some(()))
-        } else {
-            Ok(None)
+        let others = behind(self.rest);
+        if first_of(self.rest).number() != 1 {
+            return Err(AllocError);
         }
+        if !is_in(ends(phrase), first_of(others).number()) {
+            return Err(AllocError);
+        }
+        self.rest = others;
+        Ok(Some(()))
     }
-
-    ghost begins = { one_begins };
-
-    ghost told_apart = { one_apart };
 }
 
-/// One token of each kind, so many times.
-fn repeated(kinds: &mut Vec<Kind>, count: u32, some: &[Kind]) -> Result<(), AllocError> {
+/// These tokens, so many times.
+fn repeated(tokens: &mut Vec<Kind>, count: u32, some: &[Kind]) -> Result<(), AllocError> {
     for _ in 0..count {
-        for kind in some {
-            kinds.push(*kind)?;
+        for token in some {
+            tokens.push(*token)?;
         }
     }
     Ok(())
 }
 
-/// Whether the kinds are those of a file.
-fn reads(alloc: Global, kinds: &[Kind]) -> Result<bool, AllocError> {
-    let mut source = Kinds { rest: kinds };
+/// Whether the tokens are those of a file.
+fn reads(alloc: Global, tokens: &[Kind]) -> Result<bool, AllocError> {
+    let mut source = Trial { rest: tokens };
     is_file(alloc, &mut source)
 }
 
 /// Whether a module with so many conditionals, one in the other, is a file, where so many end.
 fn nested(alloc: Global, opened: u32, closed: u32) -> Result<bool, AllocError> {
-    let mut kinds = Vec::new(alloc);
+    let mut tokens = Vec::new(alloc);
     let head = [
         Kind::Reserved(Key::Module),
         Kind::Word,
@@ -123,27 +137,26 @@ fn nested(alloc: Global, opened: u32, closed: u32) -> Result<bool, AllocError> {
         Kind::Mark(Mark::CloseParen),
         Kind::Reserved(Key::Begin),
     ];
-    repeated(&mut kinds, 1, &head)?;
-    repeated(&mut kinds, opened, &open)?;
-    repeated(&mut kinds, closed, &[Kind::Reserved(Key::End)])?;
+    repeated(&mut tokens, 1, &head)?;
+    repeated(&mut tokens, opened, &open)?;
+    repeated(&mut tokens, closed, &[Kind::Reserved(Key::End)])?;
     repeated(
-        &mut kinds,
+        &mut tokens,
         1,
         &[Kind::Reserved(Key::End), Kind::Reserved(Key::EndModule)],
     )?;
-    reads(alloc, &kinds)
+    reads(alloc, &tokens)
 }
 
 #[test]
 fn reads_files(rt: HostRuntime) {
-    // nothing; an include; a module alone, and without its end
+    // nothing; a module without its end
     let header = [
         Kind::Reserved(Key::Module),
         Kind::Word,
         Kind::Mark(Mark::Semicolon),
     ];
     assert!(rt; reads(rt.alloc(), &[]) == Ok(true));
-    assert!(rt; reads(rt.alloc(), &[Kind::IncludeWord, Kind::Quoted]) == Ok(true));
     assert!(rt; reads(rt.alloc(), &header) == Ok(false));
     // `logic T [ a ] x ;`, and `logic T x y ;`
     let declared = [

@@ -2,7 +2,6 @@
 use Rattle.std.specs.Prelude.{ℕ, suc, ◌+◌, ◌*◌, List, length, Option, Some, None}
 use Rattle.vast_literal.specs.Tokens.{Token}
 use Rattle.vast_literal.specs.Internal.Parser.{Parser, run}
-use Rattle.vast_literal.specs.Internal.StatementParser.{Reader, read_with}
 
 -- The one where there is something, else the other.
 unfoldable pub either : {A B : Type 0} → Option A → (A → B) → B → B
@@ -21,14 +20,4 @@ settled = record {
   operand_at = λ ts. (run (fuel 1 ts)).operand_at ts;
   selects_at = λ s ts. (run (fuel 0 ts)).selects_at s ts;
   list_at = λ ts. (run (fuel 4 ts)).list_at ts;
-}
-
--- The same for the parser of statements.
-unfoldable pub settled_reader : Reader
-settled_reader = record {
-  low = settled;
-  statement = λ ts. (read_with (fuel 4 ts)).statement ts;
-  statements = λ ts. (read_with (fuel 5 ts)).statements ts;
-  choice = λ ts. (read_with (fuel 4 ts)).choice ts;
-  labels = λ z ts. (read_with (fuel 4 ts)).labels z ts;
 }

@@ -14,6 +14,3 @@ port_of k d = record { direction = k; declaration = d }
 
 abbrev pub module_of : List ℕ → List normal.NormalParameter → List normal.NormalPort → NormalMembers → normal.NormalModule
 module_of w ps qs ms = record { name = w; parameters = ps; ports = qs; members = ms }
-
-abbrev pub file_of : List normal.NormalItem → normal.NormalFile
-file_of is = record { items = is }

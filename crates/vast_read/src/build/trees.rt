@@ -6,11 +6,6 @@ ghost use Rattle.vast_read.specs.Internal.Forms.{form_tree};
 ghost use Rattle.vast_read.specs.Internal.Readings.{trees};
 ghost use Rattle.vast_read.specs.View.{view};
 
-mod declarations;
-mod files;
-mod members;
-mod statements;
-
 use crate::build::{Build, Form};
 use crate::children::Children;
 use crate::fault::Fault;
@@ -45,6 +40,10 @@ impl<'t> Build<'t> for Trees {
     fn push(parts: &mut Children<NormalExpr>, part: Box<NormalExpr>) -> Result<(), Fault> {
         parts.push(Box::into_inner(part))?;
         Ok(())
+    }
+
+    fn of_tree(tree: Box<NormalExpr>) -> Box<NormalExpr> {
+        tree
     }
 
     fn expression(

@@ -5,11 +5,6 @@ ghost use Rattle.vast_read.specs.declared.fault.Fault.TheVariants.{Memory};
 ghost use Rattle.vast_read.specs.Internal.Forms.{form_tree};
 ghost use Rattle.vast_read.specs.Internal.Readings.{tree_of, trees_of};
 
-mod declarations;
-mod files;
-mod members;
-mod statements;
-
 use crate::build::{Build, Form};
 use crate::fault::Fault;
 use crate::machine::Waiting;
@@ -68,6 +63,10 @@ impl<'t> Build<'t> for Unbuilt {
         let before = std::mem::replace(parts, Snapshot::of(&Shadow::Nothing));
         *parts = Snapshot::of(&Shadow::More(before, part));
         Ok(())
+    }
+
+    fn of_tree(tree: Box<NormalExpr>) -> Snapshot<Shadow<'t>> {
+        Snapshot::of(&Shadow::Tree(Snapshot::of(&*tree)))
     }
 
     fn expression(_alloc: Global, form: ShadowForm<'t>) -> Result<Snapshot<Shadow<'t>>, Fault>

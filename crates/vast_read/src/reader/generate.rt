@@ -1,14 +1,12 @@
 //! Generate loops up to their members.
 
-ghost use Rattle.std.specs.Prelude.{◌≡◌, ◌≤◌, length, MatchResult, Some, None, option_map};
+ghost use Rattle.std.specs.Prelude.{◌≡◌, ◌≤◌, length, MatchResult, Some, None};
 ghost use Rattle.vast_literal.specs.Internal.MemberParser.{same_word};
-ghost use Rattle.vast_literal.specs.Internal.SettledMembers.{loop_start, loop_bound, number_one, loop_step, loop_label};
+ghost use Rattle.vast_literal.specs.Internal.SettledMembers.{loop_start, loop_bound, number_one, loop_step};
 ghost use Rattle.vast_read.specs.Internal.Answers.{ReadsAs};
-ghost use Rattle.vast_read.specs.Internal.OpenLoops.{loop_head, opening_of};
 
-use crate::build::{Build, BuildMembers, Trees};
+use crate::build::{Build, Trees};
 use crate::fault::Fault;
-use crate::looped::LoopHead;
 use crate::reader::Reader;
 use vast_literal::{Key, Mark};
 
@@ -64,10 +62,7 @@ impl<'t> Reader<'t> {
 
     /// Reads the condition of a loop: the end that its variable stays below.
     #[tactic(auto, using(crate::proofs::MemberRules::loop_bounds))]
-    pub(crate) fn loop_bound<B: BuildMembers<'t>>(
-        &mut self,
-        variable: &str,
-    ) -> Result<B::Expr, Fault>
+    pub(crate) fn loop_bound<B: Build<'t>>(&mut self, variable: &str) -> Result<B::Expr, Fault>
         ensures reads { ReadsAs B.sees.tree result self.new (loop_bound variable.now self.old) }
         ensures fewer { length self.new ≤ length self.old }
     {
@@ -95,38 +90,5 @@ impl<'t> Reader<'t> {
         self.expect_plus()?;
         self.number_one()?;
         self.expect(Mark::CloseParen)
-    }
-
-    /// Reads the label of a loop, where there is one.
-    #[tactic(auto, using(crate::proofs::MemberRules::loop_labels))]
-    pub(crate) fn loop_label(&mut self) -> Result<Option<&'t str>, Fault>
-        ensures reads { ReadsAs (option_map (λ w. w.now)) result self.new (loop_label self.old) }
-        ensures fewer { length self.new ≤ length self.old }
-    {
-        if self.eat(Mark::Colon) {
-            let label = self.word()?;
-            Ok(Some(label))
-        } else {
-            Ok(None)
-        }
-    }
-
-    /// Reads a generate loop up to its members, behind its keyword.
-    #[tactic(auto, using(crate::proofs::OpenLoops::heads))]
-    pub(crate) fn loop_head<B: BuildMembers<'t>>(&mut self) -> Result<LoopHead<'t, B::Expr>, Fault>
-        ensures reads { ReadsAs (opening_of B.sees.tree) result self.new (loop_head self.old) }
-        ensures fewer { length self.new ≤ length self.old }
-    {
-        let (variable, start) = self.loop_start::<B>()?;
-        let end = self.loop_bound::<B>(variable)?;
-        self.loop_step(variable)?;
-        self.expect_key(Key::Begin)?;
-        let label = self.loop_label()?;
-        Ok(LoopHead {
-            variable,
-            start,
-            end,
-            label,
-        })
     }
 }

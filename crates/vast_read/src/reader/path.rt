@@ -1,9 +1,7 @@
 //! The path of an include, between the quotes of a string.
 
-ghost use Rattle.std.specs.Prelude.{◌≡◌, ◌≢◌, ℕ, List, ◌∷◌, MatchOption, MatchResult, Some, None};
+ghost use Rattle.std.specs.Prelude.{◌≡◌, ◌≢◌, ℕ, List, ◌∷◌, MatchOption, Some, None};
 ghost use Rattle.vast_literal.specs.Internal.FileParser.{path_end, path_of};
-
-use crate::fault::Fault;
 
 /// The path between the quotes of a string.
 #[tactic(auto, using(crate::proofs::FileRules::paths))]
@@ -13,17 +11,6 @@ pub(crate) fn path_of(text: &str) -> Option<&str>
     match behind_quote(text) {
         None => None,
         Some(rest) => before_quote(rest),
-    }
-}
-
-/// The same, where it is an error that there is none.
-pub(crate) fn include_path_of(text: &str) -> Result<&str, Fault>
-    ensures { MatchResult result
-        (λ p. path_of text.now ≡ Some p.now) (λ _. path_of text.now ≡ None) }
-{
-    match path_of(text) {
-        None => Err(Fault::Underived),
-        Some(path) => Ok(path),
     }
 }
 

@@ -2,7 +2,8 @@
 
 ghost use Rattle.std.specs.Prelude.{◌≡◌, ◌<◌, ◌≤◌, ◌+◌, ⊤, MatchOption, map, option_map};
 ghost use Rattle.vast_read.specs.Internal.StatementRelease.{of_block, statement_rounds, arm_rounds, label_rounds, statement_left, statement_alone, statement_beside, block_alone, block_beside, choice_alone};
-ghost use Rattle.vast_read.specs.StatementView.{block_view};
+ghost use Rattle.vast_read.specs.StatementView.{block_view, statement_view};
+ghost use Rattle.vast_rows.specs.Built.{unique_case};
 ghost use Rattle.vast_read.specs.Internal.StatementView.{label_view};
 ghost use Rattle.vast_read.specs.View.{view};
 
@@ -72,6 +73,18 @@ impl Drop for NormalStatement {
 }
 
 impl NormalStatement {
+    /// The same, and unique if it is a case.
+    pub(crate) fn into_unique(self) -> NormalStatement
+        ensures { statement_view result ≡ unique_case (statement_view self) }
+    {
+        match self {
+            NormalStatement::Case(_, word, selector, arms) => {
+                NormalStatement::Case(true, word, selector, arms)
+            }
+            other => other,
+        }
+    }
+
     /// What is left of it without its outermost level: a statement to go on with, and a block that waits; none, where it
     /// has no blocks.
     fn shed(self) -> Option<(NormalStatement, Option<Children<NormalStatement>>)>

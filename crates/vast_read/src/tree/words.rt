@@ -1,6 +1,6 @@
 //! Words of signs and keywords.
 
-ghost use Rattle.std.specs.Prelude.{◌≡◌, IfOk, option_map};
+ghost use Rattle.std.specs.Prelude.{◌≡◌, IfOk};
 ghost use Rattle.vast_read.specs.Texts.{infix_of, key_of, prefix_of};
 
 use std::alloc::{AllocError, Global};
@@ -22,14 +22,4 @@ pub(crate) fn key_word(alloc: Global, key: Key) -> Result<Word, AllocError>
     ensures { IfOk result (λ w. key_of w ≡ key) }
 {
     Word::new(alloc, key.as_str())
-}
-
-/// The word of a keyword, where there is one.
-pub(crate) fn maybe_key_word(alloc: Global, key: Option<Key>) -> Result<Option<Word>, AllocError>
-    ensures { IfOk result (λ w. option_map key_of w ≡ key) }
-{
-    match key {
-        None => Ok(None),
-        Some(key) => Ok(Some(key_word(alloc, key)?)),
-    }
 }

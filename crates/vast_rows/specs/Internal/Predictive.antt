@@ -4,9 +4,9 @@ use Rattle.vast_rows.specs.declared.grammar.Item.{Item}
 use Rattle.vast_rows.specs.declared.grammar.Item.TheVariants.{Token, Rule, Phrase}
 use Rattle.vast_rows.specs.Facts.{Fact}
 use Rattle.vast_rows.specs.Rows.{Row}
-use Rattle.vast_rows.specs.Internal.Sets.{within, none_shared}
-use Rattle.vast_rows.specs.Kinds.{has, only}
-use Rattle.vast_rows.specs.Phrases.{firsts, stops}
+use Rattle.vast_rows.specs.Internal.Sets.{within, none_shared, only}
+use Rattle.vast_rows.specs.Kinds.{has}
+use Rattle.vast_rows.specs.Internal.PhraseKinds.{firsts, stops}
 
 -- The number of the row of the rule that is taken at the kind, among rows that stand side by side, counted from a number on.
 abbrev pub row_from : List Row → (rule kind from : ℕ) → Option ℕ

@@ -25,13 +25,13 @@ returns-in-Some-Phrase g c = due_now (rows_view c.args.table.now.items.now c.arg
 
 pub returns-in-None-taken : goal.returns-in-None-taken
 returns-in-None-taken g c = refuses (rows_view c.args.table.now.items.now c.args.table.now.rows.now) (fact_in (facts_view c.args.table.now.facts.now)) (g.S.Source.left c.args.source.now) c.args.stack.now c.rules.stack c.pop.new.self c.args.sink.now c.rules.sink c.in-Some-Rule.rule c.number-kind.result
-    c.args.table.now.checked g.met.S.Source.begins c.rules.invariant (c.in-Some-Rule.ensures ∙ ap (λ (v : Item). v ∷ c.pop.new.self) c.in-Some-Rule.field-0-is) (c.number-kind.ensures.number ∙ ap number c.kind.ensures) c.in-None-taken.ensures
+    c.args.table.now.checked c.rules.invariant (c.in-Some-Rule.ensures ∙ ap (λ (v : Item). v ∷ c.pop.new.self) c.in-Some-Rule.field-0-is) (c.number-kind.ensures.number ∙ ap number c.kind.ensures) c.in-None-taken.ensures
 
 pub rules-smaller : goal.rules-smaller
-rules-smaller g c = leads_items (rows_view c.args.table.now.items.now c.args.table.now.rows.now) (fact_in (facts_view c.args.table.now.facts.now)) c.rules.stack c.in-Some-Rule.rule c.number-kind.result c.in-Some.row.number c.in-Some.row.items.now c.pop.new.self c.push_all.new.stack c.in-Some.row.told_as
+rules-smaller g c = leads_items (rows_view c.args.table.now.items.now c.args.table.now.rows.now) (fact_in (facts_view c.args.table.now.facts.now)) c.rules.stack c.in-Some-Rule.rule c.number-kind.result c.in-Some.row.number c.in-Some.row.items.now c.pop.new.self c.push_all.new.stack c.in-Some.row.action
     c.args.table.now.checked (c.in-Some-Rule.ensures ∙ ap (λ (v : Item). v ∷ c.pop.new.self) c.in-Some-Rule.field-0-is) c.in-Some.ensures c.in_ok-push_all-in-Some.ensures
 
 pub rules-preserved : goal.rules-preserved
-rules-preserved g c = opens (rows_view c.args.table.now.items.now c.args.table.now.rows.now) (fact_in (facts_view c.args.table.now.facts.now)) (g.S.Source.left c.args.source.now) c.args.stack.now c.rules.stack c.pop.new.self c.in-Some.row.items.now c.push_all.new.stack c.args.sink.now c.rules.sink c.chose.new.self
-    c.in-Some-Rule.rule c.number-kind.result c.in-Some.row.number c.in-Some.row.told_as
-    c.args.table.now.checked g.met.S.Source.begins g.met.K.Sink.joined c.rules.invariant (c.in-Some-Rule.ensures ∙ ap (λ (v : Item). v ∷ c.pop.new.self) c.in-Some-Rule.field-0-is) (c.number-kind.ensures.number ∙ ap number c.kind.ensures) c.in-Some.ensures c.in_ok-push_all-in-Some.ensures c.in_ok-chose-in-Some.ensures
+rules-preserved g c = opens (rows_view c.args.table.now.items.now c.args.table.now.rows.now) (fact_in (facts_view c.args.table.now.facts.now)) (g.S.Source.left c.args.source.now) c.args.stack.now c.rules.stack c.pop.new.self c.in-Some.row.items.now c.push_all.new.stack c.args.sink.now c.rules.sink c.tell.new.sink
+    c.in-Some-Rule.rule c.number-kind.result c.in-Some.row.number c.in-Some.row.action
+    c.args.table.now.checked g.met.K.Sink.joined c.rules.invariant (c.in-Some-Rule.ensures ∙ ap (λ (v : Item). v ∷ c.pop.new.self) c.in-Some-Rule.field-0-is) (c.number-kind.ensures.number ∙ ap number c.kind.ensures) c.in-Some.ensures c.in_ok-push_all-in-Some.ensures c.in_ok-tell-in-Some.ensures

@@ -5,7 +5,7 @@ use Rattle.vast_rows.proofs.Turns.{Onward}
 use Rattle.vast_rows.proofs.machine.open.Given as goal
 
 abbrev pub invariant-rules : goal.invariant-rules
-invariant-rules g l = Onward g.S.Source.is_phrase g.K.Sink.after (rows_view l.table.items.now l.table.rows.now) (fact_in (facts_view l.table.facts.now)) (g.S.Source.left l.source) l.fn.stack l.fn.sink l.stack l.sink
+invariant-rules g l = Onward g.K.Sink.after (rows_view l.table.items.now l.table.rows.now) (fact_in (facts_view l.table.facts.now)) (g.S.Source.left l.source) l.fn.stack l.fn.sink l.stack l.sink
 
 abbrev pub decreases-rules : goal.decreases-rules
 decreases-rules g l = lead (fact_in (facts_view l.table.facts.now)) l.stack

@@ -6,7 +6,7 @@ use Rattle.vast_rows.specs.Rows.{rows_view}
 use Rattle.vast_rows.proofs.machine.read.Given as goal
 
 abbrev pub invariant-tokens : goal.invariant-tokens
-invariant-tokens g l = Underway g.S.Source.is_phrase g.K.Sink.after (rows_view l.table.items.now l.table.rows.now) (fact_in (facts_view l.table.facts.now)) (rule_number l.fn.start) (g.S.Source.left l.fn.source) (g.S.Source.left l.source) l.stack l.fn.sink l.sink
+invariant-tokens g l = Underway g.K.Sink.after (rows_view l.table.items.now l.table.rows.now) (fact_in (facts_view l.table.facts.now)) (rule_number l.fn.start) (g.S.Source.left l.fn.source) (g.S.Source.left l.source) l.stack l.fn.sink l.sink
 
 abbrev pub decreases-tokens : goal.decreases-tokens
 decreases-tokens g l = length (g.S.Source.left l.source)

@@ -1,0 +1,193 @@
+//! Declarations.
+
+ghost use Rattle.std.specs.Prelude.{◌≡◌, ◌∷◌, IfOk, option_map, reverse};
+ghost use Rattle.vast_rows.specs.Built.{make, name_before, name_behind};
+ghost use Rattle.vast_rows.specs.declared.action.Action.TheVariants as action;
+ghost use Rattle.vast_read.specs.DeclarationView.{groups_view, package_of, sign_of, type_name_of};
+ghost use Rattle.vast_read.specs.Internal.Made.{Grown, names_type, seen, value_view};
+ghost use Rattle.vast_read.specs.Texts.{key_of};
+
+use crate::children::Children;
+use crate::fault::Fault;
+use crate::made::make::put;
+use crate::made::part::{first, maybe_expression};
+use crate::made::value::{Value, Values};
+use crate::tree::words::key_word;
+use crate::tree::{DeclaredType, Group, NormalDeclaration, NormalExpr};
+use std::alloc::Global;
+use vast_literal::Key;
+use vast_names::Word;
+
+/// A group of one expression or of two.
+#[tactic(auto, unfolding(vast_rows::specs::Built::make, vast_rows::specs::Built::of_one, vast_rows::specs::Built::of_two, vast_rows::specs::Built::of_three, vast_rows::specs::Built::of_four))]
+pub(crate) fn group_of(values: &mut Values<'_>) -> Result<(), Fault>
+    ensures { IfOk result (λ _. Grown (make action.GroupOf (seen values.old)) values.new) }
+{
+    let Some(first) = first::<Box<NormalExpr>>(values) else {
+        return Ok(());
+    };
+    let Some(second) = maybe_expression(values) else {
+        return Ok(());
+    };
+    values.push(Value::Group(Group { first, second }))?;
+    Ok(())
+}
+
+/// A declaration of its groups, its name and the groups after that; groups alone where no name
+/// follows.
+#[tactic(auto, unfolding(vast_rows::specs::Built::name_behind, vast_rows::specs::Built::make, vast_rows::specs::Built::of_one, vast_rows::specs::Built::of_two, vast_rows::specs::Built::of_three, vast_rows::specs::Built::of_four))]
+pub(crate) fn declares(alloc: Global, values: &mut Values<'_>) -> Result<(), Fault>
+    ensures { IfOk result (λ _. Grown (make action.Declares (seen values.old)) values.new) }
+{
+    let Some(groups) = first::<Children<Group>>(values) else {
+        return Ok(());
+    };
+    match values.pop() {
+        None => Ok(()),
+        Some(value) => name_behind(alloc, groups, value, values),
+    }
+}
+
+/// A declaration of these groups, of a name that follows them and of the groups after that; the
+/// groups alone before the mark that none follows.
+#[tactic(auto, unfolding(vast_rows::specs::Built::name_behind, vast_rows::specs::Built::of_one))]
+fn name_behind<'t>(
+    alloc: Global,
+    groups: Children<Group>,
+    value: Value<'t>,
+    values: &mut Values<'t>,
+) -> Result<(), Fault>
+    ensures { IfOk result (λ _. Grown (name_behind (groups_view (reverse groups))
+        (value_view value.entry ∷ seen values.old)) values.new) }
+{
+    match value {
+        Value::Nothing => put(Value::Groups(groups), values),
+        Value::Name(name) => {
+            let Some(after) = first::<Children<Group>>(values) else {
+                return Ok(());
+            };
+            let made = NormalDeclaration::plain(alloc, groups.reversed(), name, after.reversed())?;
+            put(Value::Declaration(made), values)
+        }
+        _ => Ok(()),
+    }
+}
+
+/// A type and a sign, which may be none.
+fn typed_parts(typed: Option<Box<DeclaredType>>) -> DeclaredType
+    ensures package { result.«package» ≡ package_of typed }
+    ensures name { result.type_name ≡ type_name_of typed }
+    ensures sign { option_map key_of result.sign ≡ sign_of typed }
+{
+    match typed {
+        None => DeclaredType {
+            package: None,
+            type_name: None,
+            sign: None,
+        },
+        Some(typed) => Box::into_inner(typed),
+    }
+}
+
+/// A name before what follows: a declaration's own before groups alone, else its type's, or its
+/// package's where it has one.
+#[tactic(auto, unfolding(vast_rows::specs::Built::name_before, vast_rows::specs::Built::make, vast_rows::specs::Built::of_one, vast_rows::specs::Built::of_two, vast_rows::specs::Built::of_three, vast_rows::specs::Built::of_four))]
+pub(crate) fn name_before(alloc: Global, values: &mut Values<'_>) -> Result<(), Fault>
+    ensures { IfOk result (λ _. Grown (make action.NameBefore (seen values.old)) values.new) }
+{
+    let Some(name) = first::<&str>(values) else {
+        return Ok(());
+    };
+    match values.pop() {
+        None => Ok(()),
+        Some(value) => named(alloc, name, value, values),
+    }
+}
+
+/// The same for a name and the value after it.
+#[tactic(auto, unfolding(vast_rows::specs::Built::name_before))]
+fn named<'t>(
+    alloc: Global,
+    name: &'t str,
+    value: Value<'t>,
+    values: &mut Values<'t>,
+) -> Result<(), Fault>
+    ensures { IfOk result (λ _. Grown (name_before name.now
+        (value_view value.entry ∷ seen values.old)) values.new) }
+{
+    match value {
+        Value::Groups(after) => {
+            let none = Children::new(alloc);
+            let made = NormalDeclaration::plain(alloc, none, name, after.reversed())?;
+            put(Value::Declaration(made), values)
+        }
+        Value::Declaration(declared) => {
+            let mut declared = declared;
+            declared.typed = name_type(alloc, name, declared.typed)?;
+            put(Value::Declaration(declared), values)
+        }
+        _ => Ok(()),
+    }
+}
+
+/// A name before a type: that of its package, where this is still to come, else its own.
+fn name_type(
+    alloc: Global,
+    name: &str,
+    typed: Option<Box<DeclaredType>>,
+) -> Result<Option<Box<DeclaredType>>, Fault>
+    ensures names { IfOk result (λ t. (package_of t, type_name_of t)
+        ≡ names_type (package_of typed) (type_name_of typed) name.now) }
+    ensures sign { IfOk result (λ t. sign_of t ≡ sign_of typed) }
+{
+    let name = Word::new(alloc, name)?;
+    let mut typed = typed_parts(typed);
+    match typed.package {
+        None => typed.type_name = Some(name),
+        Some(_) => typed.package = Some(name),
+    }
+    Ok(Some(Box::new(alloc, typed)?))
+}
+
+/// The declaration that follows, of a package whose name is still to come.
+#[tactic(auto, unfolding(vast_rows::specs::Built::make, vast_rows::specs::Built::of_one, vast_rows::specs::Built::of_two, vast_rows::specs::Built::of_three, vast_rows::specs::Built::of_four))]
+pub(crate) fn packaged(alloc: Global, values: &mut Values<'_>) -> Result<(), Fault>
+    ensures { IfOk result (λ _. Grown (make action.Packaged (seen values.old)) values.new) }
+{
+    let Some(mut declared) = first::<NormalDeclaration>(values) else {
+        return Ok(());
+    };
+    let mut typed = typed_parts(declared.typed);
+    typed.package = Some(Word::new(alloc, "")?);
+    declared.typed = Some(Box::new(alloc, typed)?);
+    values.push(Value::Declaration(declared))?;
+    Ok(())
+}
+
+/// The declaration that follows, of that sign.
+#[tactic(auto, unfolding(vast_rows::specs::Built::make, vast_rows::specs::Built::of_one, vast_rows::specs::Built::of_two, vast_rows::specs::Built::of_three, vast_rows::specs::Built::of_four))]
+pub(crate) fn sign_of(alloc: Global, key: Key, values: &mut Values<'_>) -> Result<(), Fault>
+    ensures { IfOk result (λ _. Grown (make (action.SignOf key) (seen values.old)) values.new) }
+{
+    let Some(mut declared) = first::<NormalDeclaration>(values) else {
+        return Ok(());
+    };
+    let mut typed = typed_parts(declared.typed);
+    typed.sign = Some(key_word(alloc, key)?);
+    declared.typed = Some(Box::new(alloc, typed)?);
+    values.push(Value::Declaration(declared))?;
+    Ok(())
+}
+
+/// The declaration that follows, of that kind.
+#[tactic(auto, unfolding(vast_rows::specs::Built::make, vast_rows::specs::Built::of_one, vast_rows::specs::Built::of_two, vast_rows::specs::Built::of_three, vast_rows::specs::Built::of_four))]
+pub(crate) fn kind_of(alloc: Global, key: Key, values: &mut Values<'_>) -> Result<(), Fault>
+    ensures { IfOk result (λ _. Grown (make (action.KindOf key) (seen values.old)) values.new) }
+{
+    let Some(mut declared) = first::<NormalDeclaration>(values) else {
+        return Ok(());
+    };
+    declared.kind = Some(key_word(alloc, key)?);
+    values.push(Value::Declaration(declared))?;
+    Ok(())
+}

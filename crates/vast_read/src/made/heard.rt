@@ -1,0 +1,120 @@
+//! What is heard of a file, and what is built of that.
+
+ghost use Rattle.std.specs.Prelude.{◌≡◌, [], ◌∷◌, ◌++◌, IfOk, Some, option_map};
+ghost use Rattle.std.proofs.Common.{sym, ap, ◌∙◌, append-nil, append_assoc};
+ghost use Rattle.vast_literal.specs.NormalFile as normal;
+ghost use Rattle.vast_read.specs.FileView.{file_view};
+ghost use Rattle.vast_read.specs.Internal.Made.{Grown, events_heard, seen, told_event};
+ghost use Rattle.vast_rows.specs.Built.{SeenFile, happens};
+ghost use Rattle.vast_rows.specs.Trace.{trace};
+
+use crate::children::Children;
+use crate::fault::Fault;
+use crate::made::make::{make, put};
+use crate::made::part::first;
+use crate::made::value::{Path, Range, Value, Values};
+use crate::phrase::{Made, TreeSource};
+use crate::stack::Stack;
+use crate::tree::{NormalExpr, NormalFile, NormalItem};
+use std::alloc::{AllocError, Global};
+use vast_rows::{Action, Sink};
+
+/// What was heard.
+#[derive(Drop)]
+pub(crate) enum Told<'t> {
+    /// Something is made of what is told after it.
+    Makes(Action),
+    /// A phrase.
+    Reads(Made<'t, Box<NormalExpr>>),
+    /// A name.
+    Names(&'t str),
+}
+
+/// All that was heard. In contracts it is the list of it, the last first.
+#[derive(Drop)]
+pub(crate) struct Heard<'t> {
+    pub(crate) events: Stack<Told<'t>>,
+}
+
+impl<'t> Sink<TreeSource<'t>> for Heard<'t> {
+    ghost after = { λ before events now.
+        events_heard now.events ≡ events_heard before.events ++ events };
+
+    #[tactic(auto, using(crate::proofs::Making::hears))]
+    fn makes(&mut self, action: Action) -> Result<(), AllocError> {
+        self.events.push(Told::Makes(action))
+    }
+
+    #[tactic(auto, using(crate::proofs::Making::hears))]
+    fn reads(&mut self, made: Made<'t, Box<NormalExpr>>) -> Result<(), AllocError> {
+        self.events.push(Told::Reads(made))
+    }
+
+    #[tactic(auto, using(crate::proofs::Making::hears))]
+    fn names(&mut self, name: &'t str) -> Result<(), AllocError> {
+        self.events.push(Told::Names(name))
+    }
+
+    ghost nothing = { λ s. sym (append-nil (events_heard s.events)) };
+
+    ghost joined = { λ s t u first second a b.
+        b ∙ (ap (λ v. v ++ second) a ∙ append_assoc (events_heard s.events) first second) };
+}
+
+impl<'t> Heard<'t> {
+    /// Nothing.
+    pub(crate) fn new(alloc: Global) -> Heard<'t>
+        ensures { result.events ≡ [] }
+    {
+        Heard {
+            events: Stack::new(alloc),
+        }
+    }
+
+    /// The file of which this was heard.
+    pub(crate) fn file(self, alloc: Global) -> Result<Option<NormalFile>, Fault>
+        ensures { IfOk result (λ o. (t : normal.NormalFile) →
+            events_heard self.entry.events ≡ trace t [] → option_map file_view o ≡ Some t) }
+    {
+        let mut values = built(alloc, self.events)?;
+        match first::<Children<NormalItem>>(&mut values) {
+            Some(items) => Ok(Some(NormalFile {
+                items: items.reversed(),
+            })),
+            None => Ok(None),
+        }
+    }
+}
+
+/// What the events make, from the last to the first.
+fn built<'t>(alloc: Global, events: Stack<Told<'t>>) -> Result<Values<'t>, Fault>
+    ensures { IfOk result (λ values. (t : normal.NormalFile) →
+        events_heard events.entry ≡ trace t [] → seen values ≡ (SeenFile t ∷ [])) }
+{
+    let mut events = events;
+    let mut values: Values<'t> = Stack::new(alloc);
+    'events: while let Some(event) = events.pop() {
+        happens(alloc, event, &mut values)?;
+    }
+    Ok(values)
+}
+
+/// Puts what the event makes in the place of what it makes it of.
+fn happens<'t>(alloc: Global, event: Told<'t>, values: &mut Values<'t>) -> Result<(), Fault>
+    ensures { IfOk result (λ _. Grown (happens (told_event event.entry) (seen values.old)) values.new) }
+{
+    match event {
+        Told::Makes(action) => make(alloc, action, values),
+        Told::Reads(Made::Expression(tree)) => put(Value::Expression(tree), values),
+        Told::Reads(Made::Loop(variable, start, end)) => put(
+            Value::Loop(Range {
+                variable,
+                start,
+                end,
+            }),
+            values,
+        ),
+        Told::Reads(Made::Path(text)) => put(Value::Path(Path { text }), values),
+        Told::Names(name) => put(Value::Name(name), values),
+    }
+}

@@ -1,0 +1,76 @@
+//! What each action makes.
+
+ghost use Rattle.std.specs.Prelude.{◌≡◌, ◌∷◌, IfOk};
+ghost use Rattle.vast_rows.specs.Built.{make};
+ghost use Rattle.vast_read.specs.Internal.Made.{Grown, seen};
+
+use crate::children::Children;
+use crate::fault::Fault;
+use crate::made::declarations::{declares, group_of, kind_of, name_before, packaged, sign_of};
+use crate::made::lists::{none_of, one_more};
+use crate::made::members::{
+    always_member, assign_member, change_of, conditional_member, connects, declaration_member,
+    edge_of, function_member, header_parameter, include_item, instance_member, loop_member,
+    macro_member, module_item, parameter_member, port_of,
+};
+use crate::made::statements::{
+    arm, assigns, assigns_by_word, case_of, chooses, conditional, default_arm, unique_case,
+};
+use crate::made::value::{Value, Values};
+use std::alloc::Global;
+use vast_rows::Action;
+
+/// Puts what the action makes of the first of these values in their place.
+///
+/// Where they are no such parts, some of them leave, and nothing is made.
+#[tactic(auto, unfolding(vast_rows::specs::Built::make))]
+pub(crate) fn make(alloc: Global, action: Action, values: &mut Values<'_>) -> Result<(), Fault>
+    ensures { IfOk result (λ _. Grown (make action (seen values.old)) values.new) }
+{
+    match action {
+        Action::Nothing => put(Value::Nothing, values),
+        Action::Yes => put(Value::Answer(true), values),
+        Action::No => put(Value::Answer(false), values),
+        Action::NoMore(what) => put(none_of(alloc, what), values),
+        Action::NoArms => put(Value::Labels(Children::new(alloc)), values),
+        Action::OneMore(what) => one_more(what, values),
+        Action::ModuleItem => module_item(alloc, values),
+        Action::IncludeItem => include_item(alloc, values),
+        Action::HeaderParameter => header_parameter(alloc, values),
+        Action::PortOf(key) => port_of(alloc, key, values),
+        Action::DeclarationMember => declaration_member(alloc, values),
+        Action::AssignMember => assign_member(values),
+        Action::ParameterMember(key) => parameter_member(alloc, key, values),
+        Action::MacroMember => macro_member(alloc, values),
+        Action::InstanceMember => instance_member(alloc, values),
+        Action::AlwaysMember(key) => always_member(alloc, key, values),
+        Action::ConditionalMember => conditional_member(alloc, values),
+        Action::FunctionMember => function_member(alloc, values),
+        Action::LoopMember => loop_member(alloc, values),
+        Action::KindOf(key) => kind_of(alloc, key, values),
+        Action::SignOf(key) => sign_of(alloc, key, values),
+        Action::NameBefore => name_before(alloc, values),
+        Action::Packaged => packaged(alloc, values),
+        Action::Declares => declares(alloc, values),
+        Action::GroupOf => group_of(values),
+        Action::Connects => connects(alloc, values),
+        Action::EdgeOf(key) => edge_of(alloc, key, values),
+        Action::ChangeOf => change_of(alloc, values),
+        Action::Assigns => assigns(values),
+        Action::AssignsByWord => assigns_by_word(values),
+        Action::Chooses => chooses(values),
+        Action::UniqueCase => unique_case(values),
+        Action::CaseOf(key) => case_of(alloc, key, values),
+        Action::Conditional => conditional(alloc, values),
+        Action::Arm => arm(values),
+        Action::DefaultArm => default_arm(values),
+    }
+}
+
+/// One more value in front.
+pub(crate) fn put<'t>(value: Value<'t>, values: &mut Values<'t>) -> Result<(), Fault>
+    ensures { IfOk result (λ _. values.new ≡ (value.entry ∷ values.old)) }
+{
+    values.push(value)?;
+    Ok(())
+}

@@ -1,0 +1,485 @@
+//! Parts by their kinds.
+
+ghost use Rattle.std.specs.Prelude.{◌≡◌, ℕ, List, Bool, Option, Some, None, MatchOption, option_map, reverse};
+ghost use Rattle.vast_literal.specs.NormalExpr as normal_expr;
+ghost use Rattle.vast_literal.specs.NormalFile as normal;
+ghost use Rattle.vast_read.specs.DeclarationView.{group_view, groups_view, declaration_view, declarations_view};
+ghost use Rattle.vast_read.specs.FileView.{parameter_view, parameters_view, port_view, ports_view, item_view, items_view};
+ghost use Rattle.vast_read.specs.Internal.Made.{arms_seen, seen, value_view};
+ghost use Rattle.vast_read.specs.Internal.StatementView.{labels_view};
+ghost use Rattle.vast_read.specs.MemberView.{event_view, events_view, connection_view, connections_view, member_view, members_view};
+ghost use Rattle.vast_read.specs.StatementView.{statement_view, block_view};
+ghost use Rattle.vast_read.specs.View.{view, listed};
+ghost use Rattle.vast_rows.specs.Built.{Seen, first, maybe, as_answer, as_name, as_path, as_expression, as_loop, as_expressions, as_group, as_groups, as_declaration, as_declarations, as_connection, as_connections, as_event, as_events, as_statement, as_statements, as_arms, as_labels, as_member, as_members, as_parameter, as_parameters, as_port, as_ports, as_item, as_file};
+
+use crate::children::Children;
+use crate::made::value::{Alternatives, Path, Range, Value, Values};
+use crate::tree::{
+    CaseArm, Connection, Event, Group, NormalDeclaration, NormalExpr, NormalItem, NormalMember,
+    NormalStatement, Parameter, Port,
+};
+
+/// A part that may stand first among values.
+pub(crate) trait Part<'t>: Sized {
+    ghost Normal: { Type 0 };
+
+    ghost kind: { Seen → Option Normal };
+
+    ghost sees: { Self → Normal };
+
+    /// The value, if it is such a part.
+    fn of(value: Value<'t>) -> Option<Self>
+        ensures { MatchOption result (kind (value_view value.entry) ≡ None)
+            (λ x. kind (value_view value.entry) ≡ Some (sees x)) };
+}
+
+/// The first of these values, if it is such a part. Whatever it is, it leaves.
+pub(crate) fn first<'t, P: Part<'t>>(values: &mut Values<'t>) -> Option<P>
+    ensures { MatchOption result (first P.kind (seen values.old) ≡ None)
+        (λ x. first P.kind (seen values.old) ≡ Some (P.sees x, seen values.new)) }
+{
+    match values.pop() {
+        None => None,
+        Some(value) => P::of(value),
+    }
+}
+
+/// The first of these values, if it is an expression, or the mark of one that is left out.
+pub(crate) fn maybe_expression(values: &mut Values<'_>) -> Option<Option<Box<NormalExpr>>>
+    ensures { MatchOption result (first (maybe as_expression) (seen values.old) ≡ None)
+        (λ x. first (maybe as_expression) (seen values.old)
+        ≡ Some (option_map (λ y. view y.value) x, seen values.new)) }
+{
+    match values.pop() {
+        Some(Value::Nothing) => Some(None),
+        Some(Value::Expression(tree)) => Some(Some(tree)),
+        _ => None,
+    }
+}
+
+/// The same for a list of expressions, which is then in order.
+pub(crate) fn maybe_expressions(values: &mut Values<'_>) -> Option<Option<Children<NormalExpr>>>
+    ensures { MatchOption result (first (maybe as_expressions) (seen values.old) ≡ None)
+        (λ x. first (maybe as_expressions) (seen values.old)
+        ≡ Some (option_map listed x, seen values.new)) }
+{
+    match values.pop() {
+        Some(Value::Nothing) => Some(None),
+        Some(Value::Expressions(parts)) => Some(Some(parts.reversed())),
+        _ => None,
+    }
+}
+
+/// The same for a name.
+pub(crate) fn maybe_name<'t>(values: &mut Values<'t>) -> Option<Option<&'t str>>
+    ensures { MatchOption result (first (maybe as_name) (seen values.old) ≡ None)
+        (λ x. first (maybe as_name) (seen values.old)
+        ≡ Some (option_map (λ w. w.now) x, seen values.new)) }
+{
+    match values.pop() {
+        None => None,
+        Some(value) => name_of(value),
+    }
+}
+
+/// The name that a value is, or none where it is the mark of one that is left out.
+fn name_of<'t>(value: Value<'t>) -> Option<Option<&'t str>>
+    ensures { MatchOption result (maybe as_name (value_view value.entry) ≡ None)
+        (λ x. maybe as_name (value_view value.entry) ≡ Some (option_map (λ w. w.now) x)) }
+{
+    match value {
+        Value::Nothing => Some(None),
+        Value::Name(name) => Some(Some(name)),
+        _ => None,
+    }
+}
+
+impl<'t> Part<'t> for bool {
+    ghost Normal = { Bool };
+
+    ghost kind = { as_answer };
+
+    ghost sees = { λ b. b };
+
+    fn of(value: Value<'t>) -> Option<bool> {
+        match value {
+            Value::Answer(b) => Some(b),
+            _ => None,
+        }
+    }
+}
+
+impl<'t> Part<'t> for &'t str {
+    ghost Normal = { List ℕ };
+
+    ghost kind = { as_name };
+
+    ghost sees = { λ w. w.now };
+
+    fn of(value: Value<'t>) -> Option<&'t str> {
+        match value {
+            Value::Name(name) => Some(name),
+            _ => None,
+        }
+    }
+}
+
+impl<'t> Part<'t> for Path<'t> {
+    ghost Normal = { List ℕ };
+
+    ghost kind = { as_path };
+
+    ghost sees = { λ p. p.text.now };
+
+    fn of(value: Value<'t>) -> Option<Path<'t>> {
+        match value {
+            Value::Path(path) => Some(path),
+            _ => None,
+        }
+    }
+}
+
+impl<'t> Part<'t> for Box<NormalExpr> {
+    ghost Normal = { normal_expr.NormalExpr };
+
+    ghost kind = { as_expression };
+
+    ghost sees = { λ x. view x.value };
+
+    fn of(value: Value<'t>) -> Option<Box<NormalExpr>> {
+        match value {
+            Value::Expression(tree) => Some(tree),
+            _ => None,
+        }
+    }
+}
+
+impl<'t> Part<'t> for Range<'t> {
+    ghost Normal = { List ℕ × normal_expr.NormalExpr × normal_expr.NormalExpr };
+
+    ghost kind = { as_loop };
+
+    ghost sees = { λ r. (r.variable.now, view r.start.value, view r.end.value) };
+
+    fn of(value: Value<'t>) -> Option<Range<'t>> {
+        match value {
+            Value::Loop(range) => Some(range),
+            _ => None,
+        }
+    }
+}
+
+impl<'t> Part<'t> for Children<NormalExpr> {
+    ghost Normal = { normal_expr.NormalExprs };
+
+    ghost kind = { as_expressions };
+
+    ghost sees = { λ xs. listed (reverse xs) };
+
+    fn of(value: Value<'t>) -> Option<Children<NormalExpr>> {
+        match value {
+            Value::Expressions(parts) => Some(parts),
+            _ => None,
+        }
+    }
+}
+
+impl<'t> Part<'t> for Group {
+    ghost Normal = { normal.Group };
+
+    ghost kind = { as_group };
+
+    ghost sees = { group_view };
+
+    fn of(value: Value<'t>) -> Option<Group> {
+        match value {
+            Value::Group(group) => Some(group),
+            _ => None,
+        }
+    }
+}
+
+impl<'t> Part<'t> for Children<Group> {
+    ghost Normal = { List normal.Group };
+
+    ghost kind = { as_groups };
+
+    ghost sees = { λ gs. groups_view (reverse gs) };
+
+    fn of(value: Value<'t>) -> Option<Children<Group>> {
+        match value {
+            Value::Groups(groups) => Some(groups),
+            _ => None,
+        }
+    }
+}
+
+impl<'t> Part<'t> for NormalDeclaration {
+    ghost Normal = { normal.NormalDeclaration };
+
+    ghost kind = { as_declaration };
+
+    ghost sees = { declaration_view };
+
+    fn of(value: Value<'t>) -> Option<NormalDeclaration> {
+        match value {
+            Value::Declaration(declared) => Some(declared),
+            _ => None,
+        }
+    }
+}
+
+impl<'t> Part<'t> for Children<NormalDeclaration> {
+    ghost Normal = { List normal.NormalDeclaration };
+
+    ghost kind = { as_declarations };
+
+    ghost sees = { λ ds. declarations_view (reverse ds) };
+
+    fn of(value: Value<'t>) -> Option<Children<NormalDeclaration>> {
+        match value {
+            Value::Declarations(declared) => Some(declared),
+            _ => None,
+        }
+    }
+}
+
+impl<'t> Part<'t> for Connection {
+    ghost Normal = { normal.NormalConnection };
+
+    ghost kind = { as_connection };
+
+    ghost sees = { connection_view };
+
+    fn of(value: Value<'t>) -> Option<Connection> {
+        match value {
+            Value::Connection(connection) => Some(connection),
+            _ => None,
+        }
+    }
+}
+
+impl<'t> Part<'t> for Children<Connection> {
+    ghost Normal = { List normal.NormalConnection };
+
+    ghost kind = { as_connections };
+
+    ghost sees = { λ cs. connections_view (reverse cs) };
+
+    fn of(value: Value<'t>) -> Option<Children<Connection>> {
+        match value {
+            Value::Connections(connections) => Some(connections),
+            _ => None,
+        }
+    }
+}
+
+impl<'t> Part<'t> for Event {
+    ghost Normal = { normal.Event };
+
+    ghost kind = { as_event };
+
+    ghost sees = { event_view };
+
+    fn of(value: Value<'t>) -> Option<Event> {
+        match value {
+            Value::Event(event) => Some(event),
+            _ => None,
+        }
+    }
+}
+
+impl<'t> Part<'t> for Children<Event> {
+    ghost Normal = { List normal.Event };
+
+    ghost kind = { as_events };
+
+    ghost sees = { λ es. events_view (reverse es) };
+
+    fn of(value: Value<'t>) -> Option<Children<Event>> {
+        match value {
+            Value::Events(events) => Some(events),
+            _ => None,
+        }
+    }
+}
+
+impl<'t> Part<'t> for NormalStatement {
+    ghost Normal = { normal.NormalStatement };
+
+    ghost kind = { as_statement };
+
+    ghost sees = { statement_view };
+
+    fn of(value: Value<'t>) -> Option<NormalStatement> {
+        match value {
+            Value::Statement(statement) => Some(statement),
+            _ => None,
+        }
+    }
+}
+
+impl<'t> Part<'t> for Children<NormalStatement> {
+    ghost Normal = { normal.NormalStatements };
+
+    ghost kind = { as_statements };
+
+    ghost sees = { λ ss. block_view (reverse ss) };
+
+    fn of(value: Value<'t>) -> Option<Children<NormalStatement>> {
+        match value {
+            Value::Statements(block) => Some(block),
+            _ => None,
+        }
+    }
+}
+
+impl<'t> Part<'t> for Alternatives {
+    ghost Normal = { normal.Arms };
+
+    ghost kind = { as_arms };
+
+    ghost sees = { arms_seen };
+
+    fn of(value: Value<'t>) -> Option<Alternatives> {
+        match value {
+            Value::Arms(arms) => Some(arms),
+            _ => None,
+        }
+    }
+}
+
+impl<'t> Part<'t> for Children<CaseArm> {
+    ghost Normal = { normal.Labels };
+
+    ghost kind = { as_labels };
+
+    ghost sees = { λ ls. labels_view (reverse ls) };
+
+    fn of(value: Value<'t>) -> Option<Children<CaseArm>> {
+        match value {
+            Value::Labels(arms) => Some(arms),
+            _ => None,
+        }
+    }
+}
+
+impl<'t> Part<'t> for NormalMember {
+    ghost Normal = { normal.NormalMember };
+
+    ghost kind = { as_member };
+
+    ghost sees = { member_view };
+
+    fn of(value: Value<'t>) -> Option<NormalMember> {
+        match value {
+            Value::Member(member) => Some(member),
+            _ => None,
+        }
+    }
+}
+
+impl<'t> Part<'t> for Children<NormalMember> {
+    ghost Normal = { normal.NormalMembers };
+
+    ghost kind = { as_members };
+
+    ghost sees = { λ ms. members_view (reverse ms) };
+
+    fn of(value: Value<'t>) -> Option<Children<NormalMember>> {
+        match value {
+            Value::Members(members) => Some(members),
+            _ => None,
+        }
+    }
+}
+
+impl<'t> Part<'t> for Parameter {
+    ghost Normal = { normal.NormalParameter };
+
+    ghost kind = { as_parameter };
+
+    ghost sees = { parameter_view };
+
+    fn of(value: Value<'t>) -> Option<Parameter> {
+        match value {
+            Value::Parameter(parameter) => Some(parameter),
+            _ => None,
+        }
+    }
+}
+
+impl<'t> Part<'t> for Children<Parameter> {
+    ghost Normal = { List normal.NormalParameter };
+
+    ghost kind = { as_parameters };
+
+    ghost sees = { λ ps. parameters_view (reverse ps) };
+
+    fn of(value: Value<'t>) -> Option<Children<Parameter>> {
+        match value {
+            Value::Parameters(parameters) => Some(parameters),
+            _ => None,
+        }
+    }
+}
+
+impl<'t> Part<'t> for Port {
+    ghost Normal = { normal.NormalPort };
+
+    ghost kind = { as_port };
+
+    ghost sees = { port_view };
+
+    fn of(value: Value<'t>) -> Option<Port> {
+        match value {
+            Value::Port(port) => Some(port),
+            _ => None,
+        }
+    }
+}
+
+impl<'t> Part<'t> for Children<Port> {
+    ghost Normal = { List normal.NormalPort };
+
+    ghost kind = { as_ports };
+
+    ghost sees = { λ ps. ports_view (reverse ps) };
+
+    fn of(value: Value<'t>) -> Option<Children<Port>> {
+        match value {
+            Value::Ports(ports) => Some(ports),
+            _ => None,
+        }
+    }
+}
+
+impl<'t> Part<'t> for NormalItem {
+    ghost Normal = { normal.NormalItem };
+
+    ghost kind = { as_item };
+
+    ghost sees = { item_view };
+
+    fn of(value: Value<'t>) -> Option<NormalItem> {
+        match value {
+            Value::Item(item) => Some(item),
+            _ => None,
+        }
+    }
+}
+
+impl<'t> Part<'t> for Children<NormalItem> {
+    ghost Normal = { normal.NormalFile };
+
+    ghost kind = { as_file };
+
+    ghost sees = { λ is. record { items = items_view (reverse is) } };
+
+    fn of(value: Value<'t>) -> Option<Children<NormalItem>> {
+        match value {
+            Value::Items(items) => Some(items),
+            _ => None,
+        }
+    }
+}

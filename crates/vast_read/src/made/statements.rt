@@ -1,0 +1,211 @@
+//! Statements.
+
+ghost use Rattle.std.specs.Prelude.{◌≡◌, ◌∷◌, IfOk, option_map, map};
+ghost use Rattle.vast_rows.specs.Built.{alternated, make};
+ghost use Rattle.vast_rows.specs.declared.action.Action.TheVariants as action;
+ghost use Rattle.vast_read.specs.Internal.Made.{Grown, arms_seen, seen, value_view};
+ghost use Rattle.vast_read.specs.Internal.StatementView.{arm_view};
+ghost use Rattle.vast_read.specs.StatementParts.{arms_of};
+ghost use Rattle.vast_read.specs.StatementView.{block_view};
+
+use crate::children::Children;
+use crate::fault::Fault;
+use crate::made::make::put;
+use crate::made::part::first;
+use crate::made::value::{Alternatives, Value, Values};
+use crate::tree::words::key_word;
+use crate::tree::{Arm, CaseArm, NormalExpr, NormalStatement};
+use std::alloc::Global;
+use vast_literal::Key;
+
+/// An assignment of its sides, with whether it blocks between them.
+#[tactic(auto, unfolding(vast_literal::specs::FileGrammar::assignment, vast_rows::specs::Built::make, vast_rows::specs::Built::of_one, vast_rows::specs::Built::of_two, vast_rows::specs::Built::of_three, vast_rows::specs::Built::of_four))]
+pub(crate) fn assigns(values: &mut Values<'_>) -> Result<(), Fault>
+    ensures { IfOk result (λ _. Grown (make action.Assigns (seen values.old)) values.new) }
+{
+    let Some(left) = first::<Box<NormalExpr>>(values) else {
+        return Ok(());
+    };
+    let Some(blocks) = first::<bool>(values) else {
+        return Ok(());
+    };
+    let Some(right) = first::<Box<NormalExpr>>(values) else {
+        return Ok(());
+    };
+    let made = if blocks {
+        NormalStatement::Blocking(left, right)
+    } else {
+        NormalStatement::Nonblocking(left, right)
+    };
+    values.push(Value::Statement(made))?;
+    Ok(())
+}
+
+/// An assignment by its word, of its sides.
+#[tactic(auto, unfolding(vast_rows::specs::Built::make, vast_rows::specs::Built::of_one, vast_rows::specs::Built::of_two, vast_rows::specs::Built::of_three, vast_rows::specs::Built::of_four))]
+pub(crate) fn assigns_by_word(values: &mut Values<'_>) -> Result<(), Fault>
+    ensures { IfOk result (λ _. Grown (make action.AssignsByWord (seen values.old)) values.new) }
+{
+    let Some(left) = first::<Box<NormalExpr>>(values) else {
+        return Ok(());
+    };
+    let Some(right) = first::<Box<NormalExpr>>(values) else {
+        return Ok(());
+    };
+    values.push(Value::Statement(NormalStatement::Assign(left, right)))?;
+    Ok(())
+}
+
+impl Alternatives {
+    /// All arms, the first of them first, and the block of the last `else`.
+    #[tactic(auto, using(crate::proofs::Making::arms))]
+    pub(crate) fn in_order(
+        self,
+    ) -> Result<(Children<Arm>, Option<Children<NormalStatement>>), Fault>
+        ensures { IfOk result (λ r. arms_of (map arm_view r.0) (option_map block_view r.1)
+            ≡ arms_seen self) }
+    {
+        let Alternatives {
+            innermost,
+            before,
+            last,
+        } = self;
+        let mut arms = before.reversed();
+        arms.push(innermost)?;
+        Ok((arms, last))
+    }
+}
+
+/// A statement of the arms of a conditional.
+#[tactic(auto, unfolding(vast_rows::specs::Built::make, vast_rows::specs::Built::of_one, vast_rows::specs::Built::of_two, vast_rows::specs::Built::of_three, vast_rows::specs::Built::of_four))]
+pub(crate) fn chooses(values: &mut Values<'_>) -> Result<(), Fault>
+    ensures { IfOk result (λ _. Grown (make action.Chooses (seen values.old)) values.new) }
+{
+    let Some(alternatives) = first::<Alternatives>(values) else {
+        return Ok(());
+    };
+    let (arms, last) = alternatives.in_order()?;
+    values.push(Value::Statement(NormalStatement::Choice(arms, last)))?;
+    Ok(())
+}
+
+/// The case that follows, which is unique.
+#[tactic(auto, unfolding(vast_rows::specs::Built::make, vast_rows::specs::Built::of_one, vast_rows::specs::Built::of_two, vast_rows::specs::Built::of_three, vast_rows::specs::Built::of_four))]
+pub(crate) fn unique_case(values: &mut Values<'_>) -> Result<(), Fault>
+    ensures { IfOk result (λ _. Grown (make action.UniqueCase (seen values.old)) values.new) }
+{
+    let Some(statement) = first::<NormalStatement>(values) else {
+        return Ok(());
+    };
+    values.push(Value::Statement(statement.into_unique()))?;
+    Ok(())
+}
+
+/// A case by that word, of its selector and arms.
+#[tactic(auto, unfolding(vast_rows::specs::Built::make, vast_rows::specs::Built::of_one, vast_rows::specs::Built::of_two, vast_rows::specs::Built::of_three, vast_rows::specs::Built::of_four))]
+pub(crate) fn case_of(alloc: Global, key: Key, values: &mut Values<'_>) -> Result<(), Fault>
+    ensures { IfOk result (λ _. Grown (make (action.CaseOf key) (seen values.old)) values.new) }
+{
+    let Some(selector) = first::<Box<NormalExpr>>(values) else {
+        return Ok(());
+    };
+    let Some(arms) = first::<Children<CaseArm>>(values) else {
+        return Ok(());
+    };
+    let made = NormalStatement::Case(false, key_word(alloc, key)?, selector, arms.reversed());
+    values.push(Value::Statement(made))?;
+    Ok(())
+}
+
+/// The arms of a conditional, of its condition, its block and what follows that.
+#[tactic(auto, unfolding(vast_rows::specs::Built::alternated, vast_rows::specs::Built::make, vast_rows::specs::Built::of_one, vast_rows::specs::Built::of_two, vast_rows::specs::Built::of_three, vast_rows::specs::Built::of_four))]
+pub(crate) fn conditional(alloc: Global, values: &mut Values<'_>) -> Result<(), Fault>
+    ensures { IfOk result (λ _. Grown (make action.Conditional (seen values.old)) values.new) }
+{
+    let Some(condition) = first::<Box<NormalExpr>>(values) else {
+        return Ok(());
+    };
+    let Some(block) = first::<Children<NormalStatement>>(values) else {
+        return Ok(());
+    };
+    let arm = Arm {
+        condition,
+        block: block.reversed(),
+    };
+    match values.pop() {
+        None => Ok(()),
+        Some(value) => alternated(alloc, arm, value, values),
+    }
+}
+
+/// This arm before what follows it: nothing, the block of an `else`, or other arms.
+#[tactic(auto, using(crate::proofs::Making::arms), unfolding(vast_rows::specs::Built::alternated))]
+fn alternated<'t>(
+    alloc: Global,
+    arm: Arm,
+    value: Value<'t>,
+    values: &mut Values<'t>,
+) -> Result<(), Fault>
+    ensures { IfOk result (λ _. Grown (alternated (arm_view arm).0 (arm_view arm).1
+        (value_view value.entry ∷ seen values.old)) values.new) }
+{
+    match value {
+        Value::Nothing => {
+            let made = Alternatives {
+                innermost: arm,
+                before: Children::new(alloc),
+                last: None,
+            };
+            put(Value::Arms(made), values)
+        }
+        Value::Statements(last) => {
+            let made = Alternatives {
+                innermost: arm,
+                before: Children::new(alloc),
+                last: Some(last.reversed()),
+            };
+            put(Value::Arms(made), values)
+        }
+        Value::Arms(others) => {
+            let mut others = others;
+            others.before.push(arm)?;
+            put(Value::Arms(others), values)
+        }
+        _ => Ok(()),
+    }
+}
+
+/// An arm of a case of its label and block, before others.
+#[tactic(auto, using(crate::proofs::Making::lists), unfolding(vast_rows::specs::Built::make, vast_rows::specs::Built::of_one, vast_rows::specs::Built::of_two, vast_rows::specs::Built::of_three, vast_rows::specs::Built::of_four))]
+pub(crate) fn arm(values: &mut Values<'_>) -> Result<(), Fault>
+    ensures { IfOk result (λ _. Grown (make action.Arm (seen values.old)) values.new) }
+{
+    let Some(label) = first::<Box<NormalExpr>>(values) else {
+        return Ok(());
+    };
+    let Some(block) = first::<Children<NormalStatement>>(values) else {
+        return Ok(());
+    };
+    let Some(mut arms) = first::<Children<CaseArm>>(values) else {
+        return Ok(());
+    };
+    arms.push(CaseArm::new(Some(label), block.reversed()))?;
+    values.push(Value::Labels(arms))?;
+    Ok(())
+}
+
+/// An arm of a case without a label, before others.
+#[tactic(auto, using(crate::proofs::Making::lists), unfolding(vast_rows::specs::Built::make, vast_rows::specs::Built::of_one, vast_rows::specs::Built::of_two, vast_rows::specs::Built::of_three, vast_rows::specs::Built::of_four))]
+pub(crate) fn default_arm(values: &mut Values<'_>) -> Result<(), Fault>
+    ensures { IfOk result (λ _. Grown (make action.DefaultArm (seen values.old)) values.new) }
+{
+    let Some(block) = first::<Children<NormalStatement>>(values) else {
+        return Ok(());
+    };
+    let Some(mut arms) = first::<Children<CaseArm>>(values) else {
+        return Ok(());
+    };
+    arms.push(CaseArm::new(None, block.reversed()))?;
+    values.push(Value::Labels(arms))?;
+    Ok(())
+}
