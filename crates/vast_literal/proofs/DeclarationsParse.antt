@@ -7,7 +7,7 @@ use Rattle.vast_literal.specs.FileGrammar.{OneDeclaration, IsMany, no_items, mor
 use Rattle.vast_literal.specs.Internal.Parser.{code}
 use Rattle.vast_literal.specs.Internal.Parser.{Parser, lead, after, key_at, word_at, run}
 use Rattle.vast_literal.specs.Internal.StatementParser.{ReadOf}
-use Rattle.vast_literal.specs.Internal.DeclarationParser.{many_on, many, group_on, group_at, is_bracket, Fueled, groups_at, maybe_on, maybe_at, signed_at, sign_on, named_on, unscoped_on, worded_on, typed_on, kind_on, declaration_at}
+use Rattle.vast_literal.proofs.DeclarationParser.{many_on, many, group_on, group_at, is_bracket, Fueled, groups_at, maybe_on, maybe_at, signed_at, sign_on, named_on, unscoped_on, worded_on, typed_on, kind_on, declaration_at}
 use Rattle.vast_literal.proofs.Gives.{Gives, Soon, by_fuel, now, same, same2, later2, one_result}
 use Rattle.vast_literal.proofs.Moves.{bound, after_self, enclosed_gives}
 use Rattle.vast_literal.proofs.StatementsParse.{expression_parses}

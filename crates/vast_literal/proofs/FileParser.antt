@@ -1,13 +1,22 @@
--- Beside `specs/Internal/FileParser.antt`: what proofs alone say.
-use Rattle.std.specs.Prelude.{ℕ, List, [], ◌∷◌, cond, Option, Some, None}
-use Rattle.vast_literal.specs.Tokens.{Key, ModuleKey, EndModuleKey, ParameterKey, OpenParen, CloseParen, Comma, Semicolon, Hash, Assign, Token, Reserved, MacroWord}
-use Rattle.vast_literal.specs.NormalFile.{NormalParameter, NormalPort, NormalItem, ModulePart, NormalFile}
+-- A parser of modules and files, over that of members.
+use Rattle.std.specs.Prelude.{ℕ, List, [], ◌∷◌, cond, Option, Some, None, Bool, true, false, bytes_eq, codes}
+use Rattle.vast_literal.specs.Tokens.{Key, ModuleKey, EndModuleKey, ParameterKey, OpenParen, CloseParen, Comma, Semicolon, Hash, Assign, Token, Reserved, MacroWord, Quoted}
+use Rattle.vast_literal.specs.NormalFile.{NormalParameter, NormalPort, NormalItem, ModulePart, NormalFile, IncludePart}
 use Rattle.vast_literal.specs.FileGrammar.{is_direction}
 use Rattle.vast_literal.specs.Internal.Parser.{◌>>=◌, after, key_at, word_at, run}
 use Rattle.vast_literal.specs.Internal.StatementParser.{ReadOf, after_key}
-use Rattle.vast_literal.specs.Internal.DeclarationParser.{many, joined_at, declaration_at}
-use Rattle.vast_literal.specs.Internal.MemberParser.{members}
-use Rattle.vast_literal.specs.Internal.FileParser.{include_on, is_more}
+use Rattle.vast_literal.proofs.DeclarationParser.{many, joined_at, declaration_at}
+use Rattle.vast_literal.proofs.MemberParser.{members}
+use Rattle.vast_literal.specs.Internal.FileParser.{path_of}
+
+unfoldable pub include_on : List ℕ → List Token → ReadOf NormalItem
+include_on m [] = None
+include_on m (Quoted w ∷ us) = cond (bytes_eq m (codes "include")) (path_of w >>= λ p. Some (IncludePart p, us)) None
+include_on m (_ ∷ us) = None
+
+unfoldable pub is_more : List Token → Bool
+is_more [] = false
+is_more (_ ∷ us) = true
 
 unfoldable pub parameter_at : ℕ → List Token → ReadOf NormalParameter
 parameter_at n ts = after_key ParameterKey ts >>= λ us. declaration_at run n us >>= λ d. after Assign d.1 >>= λ vs. (run n).expression_at vs >>= λ x. Some (record { declaration = d.0; value = x.0 }, x.1)

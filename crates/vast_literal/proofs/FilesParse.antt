@@ -7,9 +7,10 @@ use Rattle.vast_literal.specs.FileGrammar.{IsJoined, is_direction, IsParameter, 
 use Rattle.vast_literal.specs.Internal.Parser.{code}
 use Rattle.vast_literal.specs.Internal.Parser.{◌>>=◌, lead, after, key_at, word_at, run}
 use Rattle.vast_literal.specs.Internal.StatementParser.{ReadOf}
-use Rattle.vast_literal.specs.Internal.DeclarationParser.{many, declaration_at}
-use Rattle.vast_literal.specs.Internal.MemberParser.{members}
-use Rattle.vast_literal.specs.Internal.FileParser.{path_end, path_of, include_on, is_more}
+use Rattle.vast_literal.proofs.DeclarationParser.{many, declaration_at}
+use Rattle.vast_literal.proofs.MemberParser.{members}
+use Rattle.vast_literal.specs.Internal.FileParser.{path_end, path_of}
+use Rattle.vast_literal.proofs.FileParser.{include_on, is_more}
 use Rattle.vast_literal.proofs.FileParser.{parameter_at, port_on, port_at, header_parameters_at, header_ports_at, parameters_on, ports_on, module_at, item_at, file_at}
 use Rattle.vast_literal.proofs.Gives.{Soon, by_fuel, at_once, same, same2, same3, one_result}
 use Rattle.vast_literal.proofs.Moves.{Quiet, bound, after_self}

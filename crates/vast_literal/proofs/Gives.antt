@@ -1,7 +1,7 @@
 -- What is read from some fuel on: stated once, for whatever takes fuel.
 use Rattle.std.proofs.Common.{◌≡◌, ℕ, zero, suc, ◌+◌, ◌≤◌, Option, Some, refl, arith, ap, subst, sym}
 use Rattle.vast_literal.specs.Internal.Parser.{Parser, step, run}
-use Rattle.vast_literal.specs.Internal.StatementParser.{Reader, reader_step, silent_reader, read_with}
+use Rattle.vast_literal.proofs.StatementParser.{Reader, reader_step, silent_reader, read_with}
 
 -- the reader that each amount of fuel makes, and the step from one to the next
 pub record Growing (P : Type 0) : Type 0 where

@@ -59,3 +59,6 @@ pub mod LexemeNumbers
 pub mod LexemeSigns
 pub mod LexemeStarts
 pub mod Longest
+pub mod DeclarationParser
+pub mod MemberParser
+pub mod StatementParser

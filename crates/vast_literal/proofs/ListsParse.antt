@@ -8,8 +8,8 @@ use Rattle.vast_literal.specs.FileGrammar.{IsMany, IsJoined, last_item, next_ite
 use Rattle.vast_literal.specs.Internal.Parser.{code}
 use Rattle.vast_literal.specs.Internal.Parser.{◌>>=◌, Parser, lead, after, key_at, word_at, run}
 use Rattle.vast_literal.specs.Internal.StatementParser.{ReadOf, after_key_on, after_key}
-use Rattle.vast_literal.specs.Internal.DeclarationParser.{joined_on, joined_at, listed_on, listed_at, declaration_at}
-use Rattle.vast_literal.specs.Internal.MemberParser.{event_on, event_at, connection_on, connection_at, given_at, connections_at, givens_at, input_at, inputs_at, local_on, is_local, local_at, locals_at}
+use Rattle.vast_literal.proofs.DeclarationParser.{joined_on, joined_at, listed_on, listed_at, declaration_at}
+use Rattle.vast_literal.proofs.MemberParser.{event_on, event_at, connection_on, connection_at, given_at, connections_at, givens_at, input_at, inputs_at, local_on, is_local, local_at, locals_at}
 use Rattle.vast_literal.proofs.Gives.{Soon, by_fuel, at_once, same, later, later2}
 use Rattle.vast_literal.proofs.Moves.{Quiet, bound, after_self, enclosed_gives}
 use Rattle.vast_literal.proofs.Complete.{parses}

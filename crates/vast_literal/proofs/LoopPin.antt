@@ -8,9 +8,10 @@ use Rattle.vast_literal.specs.FileGrammar.{is_member_kind, IsFile}
 use Rattle.vast_literal.specs.Internal.Parser.{code}
 use Rattle.vast_literal.specs.Internal.Parser.{◌>>=◌, lead, after, key_at, prefix, word_at, number_at, enclosed_at, cast, list_on, list_step, arguments_on, arguments, applied_at, word_on, number_on, macro_on, paren_on, brace_next, brace_on, primary, select, selects_on, selects_step, selected_at, operand_on, operand_step, climb_on, climb_step, binary_step, expression_on, expression_step, run}
 use Rattle.vast_literal.specs.Internal.StatementParser.{after_key_on, after_key}
-use Rattle.vast_literal.specs.Internal.DeclarationParser.{many_on, many}
-use Rattle.vast_literal.specs.Internal.MemberParser.{bound_of, loop_at, keyed_on, member_on, members_on, members}
-use Rattle.vast_literal.specs.Internal.FileParser.{is_more}
+use Rattle.vast_literal.proofs.DeclarationParser.{many_on, many}
+use Rattle.vast_literal.specs.Internal.MemberParser.{bound_of}
+use Rattle.vast_literal.proofs.MemberParser.{loop_at, keyed_on, member_on, members_on, members}
+use Rattle.vast_literal.proofs.FileParser.{is_more}
 use Rattle.vast_literal.proofs.FileParser.{parameters_on, ports_on, module_at, item_at, file_at}
 use Rattle.vast_literal.specs.WorkedTexts.{HasNoFile}
 use Rattle.vast_literal.proofs.FilesParse.{file_parses}

@@ -7,9 +7,10 @@ use Rattle.vast_literal.specs.Grammar.{Spells, SpellsList}
 use Rattle.vast_literal.specs.FileGrammar.{IsList, IsDeclaration, is_member_kind, is_parameter_word, is_clocked, IsEvent, IsSemicolon, with_one, without}
 use Rattle.vast_literal.specs.Internal.Parser.{code}
 use Rattle.vast_literal.specs.Internal.Parser.{lead, after, key_at, arguments, selected_at, run}
-use Rattle.vast_literal.specs.Internal.StatementParser.{ReadOf, after_key_on, after_key, read_with}
-use Rattle.vast_literal.specs.Internal.DeclarationParser.{listed_at, declaration_at}
-use Rattle.vast_literal.specs.Internal.MemberParser.{event_at, semicolon_on, macro_end, macro_member, plain_member, block_with, keyed_on, member_on, members_on, members}
+use Rattle.vast_literal.specs.Internal.StatementParser.{ReadOf, after_key_on, after_key}
+use Rattle.vast_literal.proofs.StatementParser.{read_with}
+use Rattle.vast_literal.proofs.DeclarationParser.{listed_at, declaration_at}
+use Rattle.vast_literal.proofs.MemberParser.{event_at, semicolon_on, macro_end, macro_member, plain_member, block_with, keyed_on, member_on, members_on, members}
 use Rattle.vast_literal.proofs.Gives.{Soon, by_fuel, now, at_once, same, same2, later2}
 use Rattle.vast_literal.proofs.Moves.{bound, after_self, enclosed_gives}
 use Rattle.vast_literal.proofs.Complete.{all_parsed}

@@ -7,9 +7,11 @@ use Rattle.vast_literal.specs.NormalFile.{NormalStatement, NormalStatements, Don
 use Rattle.vast_literal.specs.Grammar.{Spells}
 use Rattle.vast_literal.specs.FileGrammar.{IsMany, IsList, IsUnique, unique, not_unique, IsDeclaration, is_member_kind, is_local_kind, IsInput, IsDeclared, declared, IsConnection, IsGivenList, no_parameters, with_parameters, IsLabel, no_label, labelled, IsFunctionBody, block_body, casez_body, IsMember, declaration, continuous, parameter, macro, macro_with, instance, combinational, clocked, conditional, function, loop, IsMembers, closed, and_member, OneMember}
 use Rattle.vast_literal.specs.Internal.Parser.{lead, after, key_at, word_at, number_at, run}
-use Rattle.vast_literal.specs.Internal.StatementParser.{after_key_on, after_key, cases_at, read_with}
-use Rattle.vast_literal.specs.Internal.DeclarationParser.{declaration_at}
-use Rattle.vast_literal.specs.Internal.MemberParser.{connections_at, givens_at, instance_at, instance_on, plain_member, bound_of, same_word, step_word, label_on, loop_body, loop_at, inputs_at, local_on, is_local, locals_at, casez_alone, function_body, function_end, function_at, keyed_on, member_on, members}
+use Rattle.vast_literal.specs.Internal.StatementParser.{after_key_on, after_key}
+use Rattle.vast_literal.proofs.StatementParser.{cases_at, read_with}
+use Rattle.vast_literal.proofs.DeclarationParser.{declaration_at}
+use Rattle.vast_literal.specs.Internal.MemberParser.{bound_of, same_word}
+use Rattle.vast_literal.proofs.MemberParser.{connections_at, givens_at, instance_at, instance_on, plain_member, step_word, label_on, loop_body, loop_at, inputs_at, local_on, is_local, locals_at, casez_alone, function_body, function_end, function_at, keyed_on, member_on, members}
 use Rattle.vast_literal.proofs.Gives.{Soon, by_fuel, same, same2, same3, one_result}
 use Rattle.vast_literal.proofs.Moves.{bound, after_self, enclosed_gives}
 use Rattle.vast_literal.proofs.StatementsParse.{key_self, expression_parses, StatementsParse, CasesParse, cases_parse, statements_parse, choice_parse}

@@ -8,7 +8,8 @@ use Rattle.vast_literal.specs.NormalFile.{NormalStatement, AssignStatement, Choi
 use Rattle.vast_literal.specs.Grammar.{is_cast_word, Spells}
 use Rattle.vast_literal.specs.FileGrammar.{OneStatement, arrow, assignment, IsUnique, unique, not_unique, IsCase, case_word, casez_word, casex_word, IsStatement, simple, assigned, choice, cases, IsCases, cased, IsAssign, assigns, IsStatements, done, then, IsChoice, only, otherwise, or, IsLabels, no_labels, label, default, IsBody, body, bare}
 use Rattle.vast_literal.specs.Internal.Parser.{◌>>=◌, Parser, lead, key_at, enclosed_at, selected_at}
-use Rattle.vast_literal.specs.Internal.StatementParser.{Reader, after_key_on, after_key, arrow_at, simple_at, block_at, cases_at, case_of, statement_on, statement_step, statements_on, statements_step, tail_on, choice_on, choice_step, body_on, arm_at, labels_on, labels_step}
+use Rattle.vast_literal.specs.Internal.StatementParser.{after_key_on, after_key}
+use Rattle.vast_literal.proofs.StatementParser.{Reader, arrow_at, simple_at, block_at, cases_at, case_of, statement_on, statement_step, statements_on, statements_step, tail_on, choice_on, choice_step, body_on, arm_at, labels_on, labels_step}
 use Rattle.vast_literal.proofs.Gives.{Gives, ReaderGives, now, same, same2, later, later2, later3, one_result, lifted}
 use Rattle.vast_literal.proofs.Moves.{Quiet, bound, after_self, enclosed_gives, stop_selects}
 use Rattle.vast_literal.proofs.Complete.{CastOnly, parses}

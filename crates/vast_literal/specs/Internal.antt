@@ -1,7 +1,6 @@
 pub mod Literal
 pub mod Parser
 pub mod StatementParser
-pub mod DeclarationParser
 pub mod MemberParser
 pub mod FileParser
 pub mod Settled

@@ -7,13 +7,17 @@ use Rattle.vast_literal.proofs.DerivedOnce.{file_once}
 use Rattle.vast_rows.specs.Trace.{trace}
 use Rattle.vast_rows.proofs.Builds.{trace_is_one}
 use Rattle.vast_read.specs.Compared.{Compares}
-use Rattle.vast_read.specs.Internal.Comparison.{Comparing}
 use Rattle.vast_read.specs.Internal.FileReadings.{IsHeardOf}
 use Rattle.vast_read.specs.Internal.Made.{events_heard, told_event}
 use Rattle.vast_read.specs.declared.made.heard.Heard.{Heard}
 use Rattle.vast_read.specs.declared.made.heard.Told.{Told}
 use Rattle.vast_read.specs.declared.same.Comparison.TheVariants.{Same, Different}
 use Rattle.vast_read.proofs.TextDecides.{text_derives, text_without_file}
+
+-- The events of two lists are the same just where those that are left of them are.
+pub record Comparing (all_left all_right left right : List Told) : Type 0 where
+  pub to : map told_event all_left ≡ map told_event all_right → map told_event left ≡ map told_event right
+  pub from : map told_event left ≡ map told_event right → map told_event all_left ≡ map told_event all_right
 
 -- What was heard is compared event by event.
 

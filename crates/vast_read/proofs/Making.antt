@@ -8,7 +8,7 @@ use Rattle.vast_rows.specs.Built.{Seen, SeenFile, and_then, happens, built}
 use Rattle.vast_rows.specs.Events.{Event}
 use Rattle.vast_rows.specs.Trace.{trace}
 use Rattle.vast_rows.proofs.Builds.{trace_builds}
-use Rattle.vast_read.specs.Internal.Made.{Building, Grown, events_heard, seen, told_event}
+use Rattle.vast_read.specs.Internal.Made.{Grown, events_heard, seen, told_event}
 use Rattle.vast_read.specs.Internal.StatementView.{arm_view}
 use Rattle.vast_read.specs.StatementParts.{ChoicePart, arms_of}
 use Rattle.vast_read.specs.declared.made.heard.Told.{Told}
@@ -36,6 +36,12 @@ pub heard_more : (t : Told) (ts : List Told) → events_heard (t ∷ ts) ≡ eve
 heard_more t ts = reverse-append (told_event t ∷ []) (map told_event ts)
 
 -- What is built of it.
+
+-- What was heard is what is still to come and some events behind it, which built the values, where they built anything.
+pub record Building (all left : List Told) (values : List Value) : Type 0 where
+  pub after : List Event
+  pub split : events_heard all ≡ events_heard left ++ after
+  pub fits : (vs : List Seen) → built after ≡ Some vs → seen values ≡ vs
 
 pub begins_built : (all : List Told) → Building all all []
 unfolding built

@@ -1,7 +1,7 @@
 -- What is made of the parts of a file, as what it stands for.
 use Rattle.std.specs.Prelude.{◌≡◌, ℕ, List, [], ◌∷◌, ◌++◌, Option, Some, None, option_map, map, reverse}
 use Rattle.vast_literal.specs.NormalFile as normal
-use Rattle.vast_rows.specs.Built.{Seen, SeenNothing, SeenAnswer, SeenName, SeenPath, SeenExpression, SeenLoop, SeenExpressions, SeenGroup, SeenGroups, SeenDeclaration, SeenDeclarations, SeenConnection, SeenConnections, SeenEvent, SeenEvents, SeenStatement, SeenStatements, SeenArms, SeenLabels, SeenMember, SeenMembers, SeenParameter, SeenParameters, SeenPort, SeenPorts, SeenItem, SeenFile, built}
+use Rattle.vast_rows.specs.Built.{Seen, SeenNothing, SeenAnswer, SeenName, SeenPath, SeenExpression, SeenLoop, SeenExpressions, SeenGroup, SeenGroups, SeenDeclaration, SeenDeclarations, SeenConnection, SeenConnections, SeenEvent, SeenEvents, SeenStatement, SeenStatements, SeenArms, SeenLabels, SeenMember, SeenMembers, SeenParameter, SeenParameters, SeenPort, SeenPorts, SeenItem, SeenFile}
 use Rattle.vast_rows.specs.Events.{Event, Makes, Reads, Names}
 use Rattle.vast_read.specs.DeclarationView.{group_view, groups_view, declaration_view, declarations_view}
 use Rattle.vast_read.specs.FileView.{parameter_view, parameters_view, port_view, ports_view, item_view, items_view}
@@ -68,12 +68,6 @@ told_event (told.Names w) = Names w.now
 -- In the order of the text: what was heard last stands first.
 abbrev pub events_heard : List Told → List Event
 events_heard ts = reverse (map told_event ts)
-
--- What was heard is what is still to come and some events behind it, which built the values, where they built anything.
-pub record Building (all left : List Told) (values : List Value) : Type 0 where
-  pub after : List Event
-  pub split : events_heard all ≡ events_heard left ++ after
-  pub fits : (vs : List Seen) → built after ≡ Some vs → seen values ≡ vs
 
 -- A name before a type: that of its package, where that is still to come, else its own.
 abbrev pub names_type : (package_name type_name : Option (List ℕ)) → List ℕ → Option (List ℕ) × Option (List ℕ)

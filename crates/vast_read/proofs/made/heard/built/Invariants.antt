@@ -1,5 +1,5 @@
 use Rattle.std.proofs.Common.{length}
-use Rattle.vast_read.specs.Internal.Made.{Building}
+use Rattle.vast_read.proofs.Making.{Building}
 use Rattle.vast_read.proofs.made.heard.built.Given as goal
 
 abbrev pub invariant-events : goal.invariant-events

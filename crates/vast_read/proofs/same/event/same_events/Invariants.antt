@@ -1,5 +1,5 @@
 use Rattle.std.proofs.Common.{length}
-use Rattle.vast_read.specs.Internal.Comparison.{Comparing}
+use Rattle.vast_read.proofs.FilesCompared.{Comparing}
 use Rattle.vast_read.proofs.same.event.same_events.Given as goal
 
 abbrev pub invariant-events : goal.invariant-events

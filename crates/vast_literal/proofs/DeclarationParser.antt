@@ -1,4 +1,4 @@
--- A parser of lists and of declarations, over that of expressions.
+-- A parser of declarations, over that of expressions.
 use Rattle.std.specs.Prelude.{ℕ, zero, suc, List, [], ◌∷◌, Bool, true, false, cond, Option, Some, None}
 use Rattle.vast_literal.specs.Tokens.{Key, Punct, CloseBracket, OpenBracket, DoubleColon, Token, Mark}
 use Rattle.vast_literal.specs.NormalExpr.{NormalExpr}
