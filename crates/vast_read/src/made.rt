@@ -6,6 +6,7 @@ mod lists;
 mod make;
 mod members;
 mod part;
+mod part_list;
 mod statements;
 pub(crate) mod value;
 

@@ -5,7 +5,7 @@ ghost use Rattle.std.specs.Prelude.{IfOk, MatchBool, MatchOption, OnOk};
 ghost use Rattle.vast_literal.specs.FileGrammar.{IsFile};
 ghost use Rattle.vast_literal.specs.NormalFile.{NormalFile};
 ghost use Rattle.vast_rows.specs.Events.{made_by, named_by};
-ghost use Rattle.vast_rows.specs.Internal.Sources.{tail, first_name};
+ghost use Rattle.vast_rows.specs.Internal.Sources.{head_kind, tail, first_name};
 ghost use Rattle.vast_rows.specs.Internal.Reading.{IsTaken, LeadsTo};
 ghost use Rattle.vast_rows.specs.Kinds.{has};
 ghost use Rattle.vast_rows.specs.Laws.{IsRead, IsUnspelled};
@@ -141,17 +141,19 @@ fn take<S: Source, K: Sink<S>>(source: &mut S, sink: &mut K) -> Result<(), Alloc
     }
 }
 
-/// Opens rules until a token or a phrase is due.
+/// Opens rules until a token or a phrase is due, where a token of this kind stands next.
 pub(crate) fn open<S: Source, K: Sink<S>>(
     table: &Table,
     source: &S,
+    kind: u8,
     stack: &mut Stack<Item>,
     sink: &mut K,
 ) -> Result<Due, AllocError>
+    requires { (kind ≡ head_kind (S.left source.now)) × (kind < 128) }
     ensures { IfOk result (LeadsTo K.after (rows_of table.now) (facts_of table.now)
         (S.left source.now) stack.old sink.old stack.new sink.new) }
 {
-    let kind = source.kind().number();
+    let _source = source;
     'rules: loop {
         match stack.pop() {
             None => return Ok(Due::Nothing),
@@ -191,11 +193,12 @@ pub fn read<S: Source, K: Sink<S>>(
     let mut stack = Stack::new(alloc);
     stack.push(Item::Rule(start.number()))?;
     'tokens: loop {
-        match open(table, source, &mut stack, sink)? {
+        let kind = source.kind().number();
+        match open(table, source, kind, &mut stack, sink)? {
             Due::Wrong => return Ok(false),
-            Due::Nothing => return Ok(source.kind().number() == 0),
-            Due::Token(kind) => {
-                if source.kind().number() != kind {
+            Due::Nothing => return Ok(kind == 0),
+            Due::Token(due) => {
+                if kind != due {
                     return Ok(false);
                 }
                 take(source, sink)?;

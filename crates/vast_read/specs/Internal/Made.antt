@@ -5,13 +5,14 @@ use Rattle.vast_rows.specs.Built.{Seen, SeenNothing, SeenAnswer, SeenName, SeenP
 use Rattle.vast_rows.specs.Events.{Event, Makes, Reads, Names}
 use Rattle.vast_read.specs.DeclarationView.{group_view, groups_view, declaration_view, declarations_view}
 use Rattle.vast_read.specs.FileView.{parameter_view, parameters_view, port_view, ports_view, item_view, items_view}
-use Rattle.vast_read.specs.Internal.PhraseReadings.{meaning_of}
+use Rattle.vast_rows.specs.Phrases.{Meaning, IsExpression, IsLoop, IsPath}
 use Rattle.vast_read.specs.Internal.StatementView.{arm_view, labels_view}
 use Rattle.vast_read.specs.MemberView.{event_view, events_view, connection_view, connections_view, member_view, members_view}
 use Rattle.vast_read.specs.StatementParts.{arms_of}
 use Rattle.vast_read.specs.StatementView.{statement_view, block_view}
 use Rattle.vast_read.specs.View.{view, listed}
 use Rattle.vast_read.specs.declared.made.value.Alternatives.{Alternatives}
+use Rattle.vast_read.specs.declared.made.value.Range.{Range}
 use Rattle.vast_read.specs.declared.made.value.Value.{Value}
 use Rattle.vast_read.specs.declared.made.value.Value.TheVariants as value
 use Rattle.vast_read.specs.declared.made.heard.Told.{Told}
@@ -59,10 +60,16 @@ abbrev pub Grown : Option (List Seen) → List Value → Type 0
 Grown None new = Unit {0}
 Grown (Some vs) new = seen new ≡ vs
 
+-- What a header of a loop means.
+abbrev pub range_view : Range → Meaning
+range_view r = IsLoop r.variable.now (view r.start.value) (view r.end.value)
+
 -- What was heard, as an event.
 abbrev pub told_event : Told → Event
 told_event (told.Makes action) = Makes action
-told_event (told.Reads m) = Reads (meaning_of (λ x. view x.value) m)
+told_event (told.Expression x) = Reads (IsExpression (view x.value))
+told_event (told.Loop r) = Reads (range_view r.value)
+told_event (told.Path p) = Reads (IsPath p.now)
 told_event (told.Names w) = Names w.now
 
 -- In the order of the text: what was heard last stands first.

@@ -19,13 +19,17 @@ use crate::tree::{NormalExpr, NormalFile, NormalItem};
 use std::alloc::{AllocError, Global};
 use vast_rows::{Action, Sink};
 
-/// What was heard.
+/// What was heard. Most of it is expressions and names, so what is larger lies in a box.
 #[derive(Drop)]
 pub(crate) enum Told<'t> {
     /// Something is made of what is told after it.
     Makes(Action),
-    /// A phrase.
-    Reads(Made<'t, Box<NormalExpr>>),
+    /// An expression, or what a value is assigned to.
+    Expression(Box<NormalExpr>),
+    /// The header of a loop.
+    Loop(Box<Range<'t>>),
+    /// The path of an include.
+    Path(&'t str),
     /// A name.
     Names(&'t str),
 }
@@ -33,6 +37,7 @@ pub(crate) enum Told<'t> {
 /// All that was heard. In contracts it is the list of it, the last first.
 #[derive(Drop)]
 pub(crate) struct Heard<'t> {
+    alloc: Global,
     pub(crate) events: Stack<Told<'t>>,
 }
 
@@ -47,7 +52,18 @@ impl<'t> Sink<TreeSource<'t>> for Heard<'t> {
 
     #[tactic(auto, using(crate::proofs::Making::hears))]
     fn reads(&mut self, made: Made<'t, Box<NormalExpr>>) -> Result<(), AllocError> {
-        self.events.push(Told::Reads(made))
+        match made {
+            Made::Expression(tree) => self.events.push(Told::Expression(tree)),
+            Made::Loop(variable, start, end) => {
+                let range = Range {
+                    variable,
+                    start,
+                    end,
+                };
+                self.events.push(Told::Loop(Box::new(self.alloc, range)?))
+            }
+            Made::Path(path) => self.events.push(Told::Path(path)),
+        }
     }
 
     #[tactic(auto, using(crate::proofs::Making::hears))]
@@ -67,16 +83,17 @@ impl<'t> Heard<'t> {
         ensures { result.events ≡ [] }
     {
         Heard {
+            alloc,
             events: Stack::new(alloc),
         }
     }
 
     /// The file of which this was heard.
-    pub(crate) fn file(self, alloc: Global) -> Result<Option<NormalFile>, Fault>
+    pub(crate) fn file(self) -> Result<Option<NormalFile>, Fault>
         ensures { IfOk result (λ o. (t : normal.NormalFile) →
             events_heard self.entry.events ≡ trace t [] → option_map file_view o ≡ Some t) }
     {
-        let mut values = built(alloc, self.events)?;
+        let mut values = built(self.alloc, self.events)?;
         match first::<Children<NormalItem>>(&mut values) {
             Some(items) => Ok(Some(NormalFile {
                 items: items.reversed(),
@@ -105,16 +122,9 @@ fn happens<'t>(alloc: Global, event: Told<'t>, values: &mut Values<'t>) -> Resul
 {
     match event {
         Told::Makes(action) => make(alloc, action, values),
-        Told::Reads(Made::Expression(tree)) => put(Value::Expression(tree), values),
-        Told::Reads(Made::Loop(variable, start, end)) => put(
-            Value::Loop(Range {
-                variable,
-                start,
-                end,
-            }),
-            values,
-        ),
-        Told::Reads(Made::Path(text)) => put(Value::Path(Path { text }), values),
+        Told::Expression(tree) => put(Value::Expression(tree), values),
+        Told::Loop(range) => put(Value::Loop(Box::into_inner(range)), values),
+        Told::Path(text) => put(Value::Path(Path { text }), values),
         Told::Names(name) => put(Value::Name(name), values),
     }
 }

@@ -1,16 +1,15 @@
 //! Parts by their kinds.
 
-ghost use Rattle.std.specs.Prelude.{◌≡◌, ℕ, List, Bool, Option, Some, None, MatchOption, option_map, reverse};
+ghost use Rattle.std.specs.Prelude.{◌≡◌, ℕ, List, Bool, Option, Some, None, MatchOption, option_map};
 ghost use Rattle.vast_literal.specs.NormalExpr as normal_expr;
 ghost use Rattle.vast_literal.specs.NormalFile as normal;
-ghost use Rattle.vast_read.specs.DeclarationView.{group_view, groups_view, declaration_view, declarations_view};
-ghost use Rattle.vast_read.specs.FileView.{parameter_view, parameters_view, port_view, ports_view, item_view, items_view};
+ghost use Rattle.vast_read.specs.DeclarationView.{group_view, declaration_view};
+ghost use Rattle.vast_read.specs.FileView.{parameter_view, port_view, item_view};
 ghost use Rattle.vast_read.specs.Internal.Made.{arms_seen, seen, value_view};
-ghost use Rattle.vast_read.specs.Internal.StatementView.{labels_view};
-ghost use Rattle.vast_read.specs.MemberView.{event_view, events_view, connection_view, connections_view, member_view, members_view};
-ghost use Rattle.vast_read.specs.StatementView.{statement_view, block_view};
+ghost use Rattle.vast_read.specs.MemberView.{event_view, connection_view, member_view};
+ghost use Rattle.vast_read.specs.StatementView.{statement_view};
 ghost use Rattle.vast_read.specs.View.{view, listed};
-ghost use Rattle.vast_rows.specs.Built.{Seen, first, maybe, as_answer, as_name, as_path, as_expression, as_loop, as_expressions, as_group, as_groups, as_declaration, as_declarations, as_connection, as_connections, as_event, as_events, as_statement, as_statements, as_arms, as_labels, as_member, as_members, as_parameter, as_parameters, as_port, as_ports, as_item, as_file};
+ghost use Rattle.vast_rows.specs.Built.{Seen, first, maybe, as_answer, as_name, as_path, as_expression, as_loop, as_expressions, as_group, as_declaration, as_connection, as_event, as_statement, as_arms, as_member, as_parameter, as_port, as_item};
 
 use crate::children::Children;
 use crate::made::value::{Alternatives, Path, Range, Value, Values};
@@ -169,21 +168,6 @@ impl<'t> Part<'t> for Range<'t> {
     }
 }
 
-impl<'t> Part<'t> for Children<NormalExpr> {
-    ghost Normal = { normal_expr.NormalExprs };
-
-    ghost kind = { as_expressions };
-
-    ghost sees = { λ xs. listed (reverse xs) };
-
-    fn of(value: Value<'t>) -> Option<Children<NormalExpr>> {
-        match value {
-            Value::Expressions(parts) => Some(parts),
-            _ => None,
-        }
-    }
-}
-
 impl<'t> Part<'t> for Group {
     ghost Normal = { normal.Group };
 
@@ -194,21 +178,6 @@ impl<'t> Part<'t> for Group {
     fn of(value: Value<'t>) -> Option<Group> {
         match value {
             Value::Group(group) => Some(group),
-            _ => None,
-        }
-    }
-}
-
-impl<'t> Part<'t> for Children<Group> {
-    ghost Normal = { List normal.Group };
-
-    ghost kind = { as_groups };
-
-    ghost sees = { λ gs. groups_view (reverse gs) };
-
-    fn of(value: Value<'t>) -> Option<Children<Group>> {
-        match value {
-            Value::Groups(groups) => Some(groups),
             _ => None,
         }
     }
@@ -229,21 +198,6 @@ impl<'t> Part<'t> for NormalDeclaration {
     }
 }
 
-impl<'t> Part<'t> for Children<NormalDeclaration> {
-    ghost Normal = { List normal.NormalDeclaration };
-
-    ghost kind = { as_declarations };
-
-    ghost sees = { λ ds. declarations_view (reverse ds) };
-
-    fn of(value: Value<'t>) -> Option<Children<NormalDeclaration>> {
-        match value {
-            Value::Declarations(declared) => Some(declared),
-            _ => None,
-        }
-    }
-}
-
 impl<'t> Part<'t> for Connection {
     ghost Normal = { normal.NormalConnection };
 
@@ -254,21 +208,6 @@ impl<'t> Part<'t> for Connection {
     fn of(value: Value<'t>) -> Option<Connection> {
         match value {
             Value::Connection(connection) => Some(connection),
-            _ => None,
-        }
-    }
-}
-
-impl<'t> Part<'t> for Children<Connection> {
-    ghost Normal = { List normal.NormalConnection };
-
-    ghost kind = { as_connections };
-
-    ghost sees = { λ cs. connections_view (reverse cs) };
-
-    fn of(value: Value<'t>) -> Option<Children<Connection>> {
-        match value {
-            Value::Connections(connections) => Some(connections),
             _ => None,
         }
     }
@@ -289,21 +228,6 @@ impl<'t> Part<'t> for Event {
     }
 }
 
-impl<'t> Part<'t> for Children<Event> {
-    ghost Normal = { List normal.Event };
-
-    ghost kind = { as_events };
-
-    ghost sees = { λ es. events_view (reverse es) };
-
-    fn of(value: Value<'t>) -> Option<Children<Event>> {
-        match value {
-            Value::Events(events) => Some(events),
-            _ => None,
-        }
-    }
-}
-
 impl<'t> Part<'t> for NormalStatement {
     ghost Normal = { normal.NormalStatement };
 
@@ -314,21 +238,6 @@ impl<'t> Part<'t> for NormalStatement {
     fn of(value: Value<'t>) -> Option<NormalStatement> {
         match value {
             Value::Statement(statement) => Some(statement),
-            _ => None,
-        }
-    }
-}
-
-impl<'t> Part<'t> for Children<NormalStatement> {
-    ghost Normal = { normal.NormalStatements };
-
-    ghost kind = { as_statements };
-
-    ghost sees = { λ ss. block_view (reverse ss) };
-
-    fn of(value: Value<'t>) -> Option<Children<NormalStatement>> {
-        match value {
-            Value::Statements(block) => Some(block),
             _ => None,
         }
     }
@@ -349,21 +258,6 @@ impl<'t> Part<'t> for Alternatives {
     }
 }
 
-impl<'t> Part<'t> for Children<CaseArm> {
-    ghost Normal = { normal.Labels };
-
-    ghost kind = { as_labels };
-
-    ghost sees = { λ ls. labels_view (reverse ls) };
-
-    fn of(value: Value<'t>) -> Option<Children<CaseArm>> {
-        match value {
-            Value::Labels(arms) => Some(arms),
-            _ => None,
-        }
-    }
-}
-
 impl<'t> Part<'t> for NormalMember {
     ghost Normal = { normal.NormalMember };
 
@@ -374,21 +268,6 @@ impl<'t> Part<'t> for NormalMember {
     fn of(value: Value<'t>) -> Option<NormalMember> {
         match value {
             Value::Member(member) => Some(member),
-            _ => None,
-        }
-    }
-}
-
-impl<'t> Part<'t> for Children<NormalMember> {
-    ghost Normal = { normal.NormalMembers };
-
-    ghost kind = { as_members };
-
-    ghost sees = { λ ms. members_view (reverse ms) };
-
-    fn of(value: Value<'t>) -> Option<Children<NormalMember>> {
-        match value {
-            Value::Members(members) => Some(members),
             _ => None,
         }
     }
@@ -409,21 +288,6 @@ impl<'t> Part<'t> for Parameter {
     }
 }
 
-impl<'t> Part<'t> for Children<Parameter> {
-    ghost Normal = { List normal.NormalParameter };
-
-    ghost kind = { as_parameters };
-
-    ghost sees = { λ ps. parameters_view (reverse ps) };
-
-    fn of(value: Value<'t>) -> Option<Children<Parameter>> {
-        match value {
-            Value::Parameters(parameters) => Some(parameters),
-            _ => None,
-        }
-    }
-}
-
 impl<'t> Part<'t> for Port {
     ghost Normal = { normal.NormalPort };
 
@@ -439,21 +303,6 @@ impl<'t> Part<'t> for Port {
     }
 }
 
-impl<'t> Part<'t> for Children<Port> {
-    ghost Normal = { List normal.NormalPort };
-
-    ghost kind = { as_ports };
-
-    ghost sees = { λ ps. ports_view (reverse ps) };
-
-    fn of(value: Value<'t>) -> Option<Children<Port>> {
-        match value {
-            Value::Ports(ports) => Some(ports),
-            _ => None,
-        }
-    }
-}
-
 impl<'t> Part<'t> for NormalItem {
     ghost Normal = { normal.NormalItem };
 
@@ -464,21 +313,6 @@ impl<'t> Part<'t> for NormalItem {
     fn of(value: Value<'t>) -> Option<NormalItem> {
         match value {
             Value::Item(item) => Some(item),
-            _ => None,
-        }
-    }
-}
-
-impl<'t> Part<'t> for Children<NormalItem> {
-    ghost Normal = { normal.NormalFile };
-
-    ghost kind = { as_file };
-
-    ghost sees = { λ is. record { items = items_view (reverse is) } };
-
-    fn of(value: Value<'t>) -> Option<Children<NormalItem>> {
-        match value {
-            Value::Items(items) => Some(items),
             _ => None,
         }
     }

@@ -2,15 +2,12 @@
 
 ghost use Rattle.std.specs.Prelude.{IfOk};
 ghost use Rattle.vast_read.specs.Internal.Comparison.{Tells};
-ghost use Rattle.vast_read.specs.Internal.Made.{events_heard, told_event};
-ghost use Rattle.vast_read.specs.Internal.PhraseReadings.{meaning_of};
-ghost use Rattle.vast_read.specs.View.{view};
+ghost use Rattle.vast_read.specs.Internal.Made.{events_heard, range_view, told_event};
 
 use crate::made::Heard;
 use crate::made::heard::Told;
-use crate::phrase::Made;
+use crate::made::value::Range;
 use crate::same::expression::same_expression;
-use crate::tree::NormalExpr;
 use std::alloc::{AllocError, Global};
 
 /// Whether the events of two texts are the same.
@@ -57,8 +54,16 @@ fn same_event(alloc: Global, one: &Told<'_>, other: &Told<'_>) -> Result<bool, A
             Told::Makes(same) => Ok(action.is(*same)),
             _ => Ok(false),
         },
-        Told::Reads(made) => match other {
-            Told::Reads(same) => same_phrase(alloc, made, same),
+        Told::Expression(tree) => match other {
+            Told::Expression(same) => same_expression(alloc, tree, same),
+            _ => Ok(false),
+        },
+        Told::Loop(range) => match other {
+            Told::Loop(same) => same_range(alloc, range, same),
+            _ => Ok(false),
+        },
+        Told::Path(path) => match other {
+            Told::Path(same) => Ok(path == same),
             _ => Ok(false),
         },
         Told::Names(name) => match other {
@@ -68,32 +73,12 @@ fn same_event(alloc: Global, one: &Told<'_>, other: &Told<'_>) -> Result<bool, A
     }
 }
 
-/// Whether two phrases mean the same.
-fn same_phrase(
-    alloc: Global,
-    one: &Made<'_, Box<NormalExpr>>,
-    other: &Made<'_, Box<NormalExpr>>,
-) -> Result<bool, AllocError>
-    ensures { IfOk result (λ b. Tells b (meaning_of (λ x. view x.value) one.now)
-        (meaning_of (λ x. view x.value) other.now)) }
+/// Whether two headers of loops are the same.
+fn same_range(alloc: Global, one: &Range<'_>, other: &Range<'_>) -> Result<bool, AllocError>
+    ensures { IfOk result (λ b. Tells b (range_view one.now) (range_view other.now)) }
 {
-    match one {
-        Made::Expression(tree) => match other {
-            Made::Expression(same) => same_expression(alloc, tree, same),
-            _ => Ok(false),
-        },
-        Made::Loop(variable, start, end) => match other {
-            Made::Loop(same, other_start, other_end) => {
-                if variable != same || !same_expression(alloc, start, other_start)? {
-                    return Ok(false);
-                }
-                same_expression(alloc, end, other_end)
-            }
-            _ => Ok(false),
-        },
-        Made::Path(path) => match other {
-            Made::Path(same) => Ok(path == same),
-            _ => Ok(false),
-        },
+    if one.variable != other.variable || !same_expression(alloc, &one.start, &other.start)? {
+        return Ok(false);
     }
+    same_expression(alloc, &one.end, &other.end)
 }

@@ -2,7 +2,6 @@ use Rattle.std.proofs.Common.{◌∷◌, ap, ◌∙◌}
 use Rattle.vast_rows.specs.declared.grammar.Item.{Item}
 use Rattle.vast_rows.specs.declared.grammar.Item.TheVariants as item
 use Rattle.vast_rows.specs.Facts.{fact_in, facts_view}
-use Rattle.vast_rows.specs.Kinds.{number}
 use Rattle.vast_rows.specs.Rows.{rows_view}
 use Rattle.vast_rows.proofs.Leads.{leads_items}
 use Rattle.vast_rows.proofs.Turns.{stays, due_now, due_nothing, opens, refuses}
@@ -24,14 +23,14 @@ returns-in-Some-Phrase g c = due_now (rows_view c.args.table.now.items.now c.arg
     c.rules.invariant (c.in-Some-Phrase.ensures ∙ ap (λ (v : Item). v ∷ c.pop.new.self) c.in-Some-Phrase.field-0-is)
 
 pub returns-in-None-taken : goal.returns-in-None-taken
-returns-in-None-taken g c = refuses (rows_view c.args.table.now.items.now c.args.table.now.rows.now) (fact_in (facts_view c.args.table.now.facts.now)) (g.S.Source.left c.args.source.now) c.args.stack.now c.rules.stack c.pop.new.self c.args.sink.now c.rules.sink c.in-Some-Rule.rule c.number-kind.result
-    c.args.table.now.checked c.rules.invariant (c.in-Some-Rule.ensures ∙ ap (λ (v : Item). v ∷ c.pop.new.self) c.in-Some-Rule.field-0-is) (c.number-kind.ensures.number ∙ ap number c.kind.ensures) c.in-None-taken.ensures
+returns-in-None-taken g c = refuses (rows_view c.args.table.now.items.now c.args.table.now.rows.now) (fact_in (facts_view c.args.table.now.facts.now)) (g.S.Source.left c.args.source.now) c.args.stack.now c.rules.stack c.pop.new.self c.args.sink.now c.rules.sink c.in-Some-Rule.rule c.args.kind
+    c.args.table.now.checked c.rules.invariant (c.in-Some-Rule.ensures ∙ ap (λ (v : Item). v ∷ c.pop.new.self) c.in-Some-Rule.field-0-is) c.requires.0 c.in-None-taken.ensures
 
 pub rules-smaller : goal.rules-smaller
-rules-smaller g c = leads_items (rows_view c.args.table.now.items.now c.args.table.now.rows.now) (fact_in (facts_view c.args.table.now.facts.now)) c.rules.stack c.in-Some-Rule.rule c.number-kind.result c.in-Some.row.number c.in-Some.row.items.now c.pop.new.self c.push_all.new.stack c.in-Some.row.action
+rules-smaller g c = leads_items (rows_view c.args.table.now.items.now c.args.table.now.rows.now) (fact_in (facts_view c.args.table.now.facts.now)) c.rules.stack c.in-Some-Rule.rule c.args.kind c.in-Some.row.number c.in-Some.row.items.now c.pop.new.self c.push_all.new.stack c.in-Some.row.action
     c.args.table.now.checked (c.in-Some-Rule.ensures ∙ ap (λ (v : Item). v ∷ c.pop.new.self) c.in-Some-Rule.field-0-is) c.in-Some.ensures c.in_ok-push_all-in-Some.ensures
 
 pub rules-preserved : goal.rules-preserved
 rules-preserved g c = opens (rows_view c.args.table.now.items.now c.args.table.now.rows.now) (fact_in (facts_view c.args.table.now.facts.now)) (g.S.Source.left c.args.source.now) c.args.stack.now c.rules.stack c.pop.new.self c.in-Some.row.items.now c.push_all.new.stack c.args.sink.now c.rules.sink c.tell.new.sink
-    c.in-Some-Rule.rule c.number-kind.result c.in-Some.row.number c.in-Some.row.action
-    c.args.table.now.checked g.met.K.Sink.joined c.rules.invariant (c.in-Some-Rule.ensures ∙ ap (λ (v : Item). v ∷ c.pop.new.self) c.in-Some-Rule.field-0-is) (c.number-kind.ensures.number ∙ ap number c.kind.ensures) c.in-Some.ensures c.in_ok-push_all-in-Some.ensures c.in_ok-tell-in-Some.ensures
+    c.in-Some-Rule.rule c.args.kind c.in-Some.row.number c.in-Some.row.action
+    c.args.table.now.checked g.met.K.Sink.joined c.rules.invariant (c.in-Some-Rule.ensures ∙ ap (λ (v : Item). v ∷ c.pop.new.self) c.in-Some-Rule.field-0-is) c.requires.0 c.in-Some.ensures c.in_ok-push_all-in-Some.ensures c.in_ok-tell-in-Some.ensures

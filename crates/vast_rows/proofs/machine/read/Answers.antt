@@ -18,27 +18,27 @@ returns-in-Wrong g c = unspelled (rows_view c.args.table.now.items.now c.args.ta
     (rule_number c.args.start) (g.S.Source.left c.args.source.now) c.args.sink.now c.tokens.invariant)
 
 pub returns-in-Nothing : goal.returns-in-Nothing
-returns-in-Nothing g c = rw (c.number-in-Nothing.ensures.number, c.kind.ensures) (ends (rows_view c.args.table.now.items.now c.args.table.now.rows.now) (fact_in (facts_view c.args.table.now.facts.now)) (rule_number c.args.start) (g.S.Source.left c.args.source.now) (g.S.Source.left c.tokens.source) c.args.sink.now c.open.new.sink
+returns-in-Nothing g c = rw (c.number-kind.ensures.number, c.kind.ensures) (ends (rows_view c.args.table.now.items.now c.args.table.now.rows.now) (fact_in (facts_view c.args.table.now.facts.now)) (rule_number c.args.start) (g.S.Source.left c.args.source.now) (g.S.Source.left c.tokens.source) c.args.sink.now c.open.new.sink
     (led (rows_view c.args.table.now.items.now c.args.table.now.rows.now) (fact_in (facts_view c.args.table.now.facts.now)) (g.S.Source.left c.tokens.source) c.tokens.stack c.tokens.sink c.open.new.stack c.open.new.sink c.in_ok-open.field-0 due.Nothing c.in_ok-open.ensures c.in-Nothing.is
     (rule_number c.args.start) (g.S.Source.left c.args.source.now) c.args.sink.now c.tokens.invariant))
 
-pub returns-then-number-kind : goal.returns-then-number-kind
-returns-then-number-kind g c = refuses_token (rows_view c.args.table.now.items.now c.args.table.now.rows.now) (fact_in (facts_view c.args.table.now.facts.now)) (rule_number c.args.start) (g.S.Source.left c.args.source.now) (g.S.Source.left c.tokens.source) c.open.new.stack c.in-Token.kind c.args.sink.now c.open.new.sink
-    (led (rows_view c.args.table.now.items.now c.args.table.now.rows.now) (fact_in (facts_view c.args.table.now.facts.now)) (g.S.Source.left c.tokens.source) c.tokens.stack c.tokens.sink c.open.new.stack c.open.new.sink c.in_ok-open.field-0 (due.Token c.in-Token.kind) c.in_ok-open.ensures c.in-Token.is
+pub returns-then-kind-due : goal.returns-then-kind-due
+returns-then-kind-due g c = refuses_token (rows_view c.args.table.now.items.now c.args.table.now.rows.now) (fact_in (facts_view c.args.table.now.facts.now)) (rule_number c.args.start) (g.S.Source.left c.args.source.now) (g.S.Source.left c.tokens.source) c.open.new.stack c.in-Token.due c.args.sink.now c.open.new.sink
+    (led (rows_view c.args.table.now.items.now c.args.table.now.rows.now) (fact_in (facts_view c.args.table.now.facts.now)) (g.S.Source.left c.tokens.source) c.tokens.stack c.tokens.sink c.open.new.stack c.open.new.sink c.in_ok-open.field-0 (due.Token c.in-Token.due) c.in_ok-open.ensures c.in-Token.is
     (rule_number c.args.start) (g.S.Source.left c.args.source.now) c.args.sink.now c.tokens.invariant)
-    (λ e. c.if-number-kind.true ((c.number-in-Token.ensures.number ∙ ap number c.kind-in-Token.ensures) ∙ e))
+    (λ e. c.if-kind-due.true ((c.number-kind.ensures.number ∙ ap number c.kind.ensures) ∙ e))
 
 pub tokens-smaller-in-Continue-branch-4 : goal.tokens-smaller-in-Continue-branch-4
-tokens-smaller-in-Continue-branch-4 g c = eats_one (rows_view c.args.table.now.items.now c.args.table.now.rows.now) (fact_in (facts_view c.args.table.now.facts.now)) (rule_number c.args.start) (g.S.Source.left c.args.source.now) (g.S.Source.left c.tokens.source) _ c.open.new.stack c.in-Token.kind c.args.sink.now c.open.new.sink
-    (led (rows_view c.args.table.now.items.now c.args.table.now.rows.now) (fact_in (facts_view c.args.table.now.facts.now)) (g.S.Source.left c.tokens.source) c.tokens.stack c.tokens.sink c.open.new.stack c.open.new.sink c.in_ok-open.field-0 (due.Token c.in-Token.kind) c.in_ok-open.ensures c.in-Token.is
+tokens-smaller-in-Continue-branch-4 g c = eats_one (rows_view c.args.table.now.items.now c.args.table.now.rows.now) (fact_in (facts_view c.args.table.now.facts.now)) (rule_number c.args.start) (g.S.Source.left c.args.source.now) (g.S.Source.left c.tokens.source) _ c.open.new.stack c.in-Token.due c.args.sink.now c.open.new.sink
+    (led (rows_view c.args.table.now.items.now c.args.table.now.rows.now) (fact_in (facts_view c.args.table.now.facts.now)) (g.S.Source.left c.tokens.source) c.tokens.stack c.tokens.sink c.open.new.stack c.open.new.sink c.in_ok-open.field-0 (due.Token c.in-Token.due) c.in_ok-open.ensures c.in-Token.is
     (rule_number c.args.start) (g.S.Source.left c.args.source.now) c.args.sink.now c.tokens.invariant)
-    (sym (c.number-in-Token.ensures.number ∙ ap number c.kind-in-Token.ensures) ∙ c.if-number-kind.false) c.in_ok-take-in-Token.ensures.left
+    (sym (c.number-kind.ensures.number ∙ ap number c.kind.ensures) ∙ c.if-kind-due.false) c.in_ok-take-in-Token.ensures.left
 
 pub tokens-preserved-in-Continue-branch-4 : goal.tokens-preserved-in-Continue-branch-4
-tokens-preserved-in-Continue-branch-4 g c = eats (rows_view c.args.table.now.items.now c.args.table.now.rows.now) (fact_in (facts_view c.args.table.now.facts.now)) (rule_number c.args.start) (g.S.Source.left c.args.source.now) (g.S.Source.left c.tokens.source) _ c.open.new.stack c.in-Token.kind c.args.sink.now c.open.new.sink c.take.new.sink g.met.K.Sink.joined
-    (led (rows_view c.args.table.now.items.now c.args.table.now.rows.now) (fact_in (facts_view c.args.table.now.facts.now)) (g.S.Source.left c.tokens.source) c.tokens.stack c.tokens.sink c.open.new.stack c.open.new.sink c.in_ok-open.field-0 (due.Token c.in-Token.kind) c.in_ok-open.ensures c.in-Token.is
+tokens-preserved-in-Continue-branch-4 g c = eats (rows_view c.args.table.now.items.now c.args.table.now.rows.now) (fact_in (facts_view c.args.table.now.facts.now)) (rule_number c.args.start) (g.S.Source.left c.args.source.now) (g.S.Source.left c.tokens.source) _ c.open.new.stack c.in-Token.due c.args.sink.now c.open.new.sink c.take.new.sink g.met.K.Sink.joined
+    (led (rows_view c.args.table.now.items.now c.args.table.now.rows.now) (fact_in (facts_view c.args.table.now.facts.now)) (g.S.Source.left c.tokens.source) c.tokens.stack c.tokens.sink c.open.new.stack c.open.new.sink c.in_ok-open.field-0 (due.Token c.in-Token.due) c.in_ok-open.ensures c.in-Token.is
     (rule_number c.args.start) (g.S.Source.left c.args.source.now) c.args.sink.now c.tokens.invariant)
-    (sym (c.number-in-Token.ensures.number ∙ ap number c.kind-in-Token.ensures) ∙ c.if-number-kind.false) c.in_ok-take-in-Token.ensures.left c.in_ok-take-in-Token.ensures.told
+    (sym (c.number-kind.ensures.number ∙ ap number c.kind.ensures) ∙ c.if-kind-due.false) c.in_ok-take-in-Token.ensures.left c.in_ok-take-in-Token.ensures.told
 
 pub returns-in-None : goal.returns-in-None
 returns-in-None g c =
