@@ -1,6 +1,6 @@
 use Rattle.std.proofs.Common.{◌≡◌, List, ℕ, ◌++◌}
 use Rattle.std.specs.Io.KnownBytes.{Appends}
-use Rattle.vast_demo.proofs.output.write_line.Given as goal
+use Rattle.vast_shell.proofs.output.write_line.Given as goal
 
 -- a front of the line is written, and the rest is left
 abbrev pub invariant-loop : goal.invariant-loop

@@ -1,0 +1,89 @@
+//! What ends a run.
+
+ghost use Rattle.std.specs.Prelude.{◌≡◌, MatchResult};
+ghost use Rattle.vast_shell.specs.Output.{AppendsFront, failure_line};
+ghost use Rattle.vast_shell.specs.declared.failure.Failure.TheVariants.{Memory, Write};
+
+use crate::output::{WriteFault, tell};
+use std::alloc::{AllocError, AllocFailed};
+use std::fmt;
+use std::io;
+use std::io::ErrorKind;
+
+/// What ends a run.
+#[derive(Clone, Copy, Debug)]
+pub enum Failure {
+    /// Memory was refused.
+    Memory,
+    /// A read failed.
+    Read,
+    /// A write failed.
+    Write,
+    /// There are more lines than can be counted.
+    Lines,
+}
+
+impl Failure {
+    /// The line that tells it.
+    pub fn line(self) -> &'static str
+        ensures { result.now ≡ failure_line self }
+    {
+        match self {
+            Failure::Memory => "out of memory\n",
+            Failure::Read => "read fault\n",
+            Failure::Write => "write fault\n",
+            Failure::Lines => "too many lines\n",
+        }
+    }
+
+    /// What a read failed by.
+    pub fn of_read(error: io::Error) -> Failure {
+        if error.kind() == ErrorKind::OutOfMemory {
+            Failure::Memory
+        } else {
+            Failure::Read
+        }
+    }
+}
+
+impl fmt::Display for Failure {
+    fn fmt<W: fmt::Write>(&self, f: &mut fmt::Formatter<W>) -> fmt::Result {
+        f.write_str(self.line().trim_end())
+    }
+}
+
+impl From<AllocError> for Failure {
+    ghost from_gives = { λ _ failure. failure ≡ Memory };
+
+    fn from(_: AllocError) -> Failure {
+        Failure::Memory
+    }
+}
+
+impl<T: Drop> From<AllocFailed<T>> for Failure {
+    ghost from_gives = { λ _ failure. failure ≡ Memory };
+
+    fn from(_: AllocFailed<T>) -> Failure {
+        Failure::Memory
+    }
+}
+
+impl From<WriteFault> for Failure {
+    ghost from_gives = { λ _ failure. failure ≡ Write };
+
+    fn from(_: WriteFault) -> Failure {
+        Failure::Write
+    }
+}
+
+/// What became of a run. What ended it is told, in one line.
+pub fn ended<O: Drop, E: io::Write>(ran: Result<O, Failure>, failed: O, err: &mut E) -> O
+    ensures outcome { MatchResult ran (λ outcome. result ≡ outcome) (λ _. result ≡ failed) }
+    ensures told { MatchResult ran (λ _. E.contents err.new ≡ E.contents err.old)
+        (λ failure. AppendsFront (E.contents err.old) (E.contents err.new) (failure_line failure)) }
+{
+    match ran {
+        Ok(outcome) => outcome,
+        Err(failure) => tell(failure.line(), failed, err),
+    }
+}
