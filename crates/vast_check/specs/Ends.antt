@@ -1,9 +1,9 @@
 -- How a run ends.
-use Rattle.std.specs.Prelude.{ℕ, if◌then◌else◌, nat_lt}
+use Rattle.std.specs.Prelude.{ℕ}
 use Rattle.vast_check.specs.declared.outcome.Outcome.{Outcome}
 use Rattle.vast_check.specs.declared.outcome.Outcome.TheVariants.{Yes, No, Unread, Failed}
 use Rattle.vast_check.specs.declared.program.Trouble.{Trouble}
-use Rattle.vast_check.specs.declared.program.Trouble.TheVariants.{Write, Memory}
+use Rattle.vast_check.specs.declared.program.Trouble.TheVariants.{Stopped}
 
 -- the program's status
 abbrev pub status_of : Outcome → ℕ
@@ -19,12 +19,7 @@ badness No = 1
 badness Unread = 2
 badness Failed = 3
 
--- the worse of two
-abbrev pub worse : Outcome → Outcome → Outcome
-worse one other = if nat_lt (badness one) (badness other) then other else one
-
 -- what becomes of a file or of a run that meets trouble
 abbrev pub outcome_of : Trouble → Outcome
-outcome_of Write = Failed
-outcome_of Memory = Failed
+outcome_of (Stopped failure) = Failed
 outcome_of _ = Unread

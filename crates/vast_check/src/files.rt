@@ -5,6 +5,7 @@ use crate::program::{Trouble, answer_input, read_whole, tell};
 use crate::same::{Source, compare};
 use std::fs::File;
 use std::io::{Error, ErrorKind, IsTerminal, Write};
+use vast_shell::Failure;
 
 /// How standard input is told.
 const STDIN: &str = "<stdin>";
@@ -73,7 +74,7 @@ fn shown_name(file: &str) -> &str {
 /// Why the file can't be opened.
 fn tell_unopened<E: Write>(file: &str, error: Error, err: &mut E) -> Outcome {
     if error.kind() == ErrorKind::OutOfMemory {
-        tell(Trouble::Memory, err)
+        tell(Trouble::Stopped(Failure::Memory), err)
     } else {
         tell(Trouble::Unopened(file, error), err)
     }

@@ -2,18 +2,17 @@
 
 ghost use Rattle.std.specs.Prelude.{◌≡◌, ◌≢◌, ◌⊎◌, IfErr, IfOk, MatchResult, OnErr, OnOk, string_bytes};
 ghost use Rattle.std.specs.Io.KnownBytes.{Appends};
-ghost use Rattle.vast_input.specs.Input.{GivesAll, GivesSome};
+ghost use Rattle.vast_shell.specs.Input.{GivesAll, GivesSome};
 ghost use Rattle.vast_check.specs.Check.{IsDerived, derived_line, TellsDerived, TellsUnderived};
 ghost use Rattle.vast_check.specs.Ends.{outcome_of};
 
 use crate::answer::{Answer, answer_of};
 use crate::expected::Expected;
 use crate::outcome::Outcome;
-use crate::words::WordFault;
 use std::alloc::{AllocError, Global};
 use std::fmt::Write as _;
 use std::io::{Error, ErrorKind, Read, Write};
-use vast_input::{InputFault, read_input};
+use vast_shell::{Failure, InputFault, WordFault, read_input, write_whole};
 
 /// So many characters of a token are told.
 const MOST_SHOWN: usize = 24;
@@ -33,10 +32,8 @@ pub(crate) enum Trouble<'a> {
     Endless(&'a str),
     #[error("{0}: more than 16777216 bytes")]
     TooLong(&'a str),
-    #[error("write fault")]
-    Write,
-    #[error("out of memory")]
-    Memory,
+    #[error("{0}")]
+    Stopped(Failure),
 }
 
 /// Reads `input` to its end, and tells on `out` whether the grammar derives a file from it, or where it doesn't.
@@ -82,7 +79,7 @@ pub(crate) fn read_whole<R: Read, E: Write>(
 {
     let trouble = match read_input(alloc, input) {
         Ok(bytes) => return Ok(bytes),
-        Err(InputFault::Memory) => Trouble::Memory,
+        Err(InputFault::Memory) => Trouble::Stopped(Failure::Memory),
         Err(InputFault::Length) => Trouble::TooLong(name),
         Err(InputFault::Read(kind)) => Trouble::Unread(name, kind),
         Err(InputFault::Reads) => Trouble::Endless(name),
@@ -105,14 +102,14 @@ fn answer_bytes<W: Write, E: Write>(
     ensures silent { result ≢ Outcome.Failed → E.contents err.new ≡ E.contents err.old }
 {
     match answer_of(alloc, bytes) {
-        Ok(Answer::Derived) => write_line(derived_line(alloc, name), Outcome::Yes, out, err),
-        Ok(found) => write_line(underived_line(alloc, name, &found), Outcome::No, out, err),
-        Err(_) => tell(Trouble::Memory, err),
+        Ok(Answer::Derived) => write_made(derived_line(alloc, name), Outcome::Yes, out, err),
+        Ok(found) => write_made(underived_line(alloc, name, &found), Outcome::No, out, err),
+        Err(error) => tell(Trouble::Stopped(error.into()), err),
     }
 }
 
 /// Writes the line, where it was made. Else the run has failed.
-pub(crate) fn write_line<W: Write, E: Write>(
+pub(crate) fn write_made<W: Write, E: Write>(
     line: Result<String, AllocError>,
     outcome: Outcome,
     out: &mut W,
@@ -124,11 +121,11 @@ pub(crate) fn write_line<W: Write, E: Write>(
     ensures silent { result ≢ Outcome.Failed → E.contents err.new ≡ E.contents err.old }
 {
     match line {
-        Ok(line) => match out.write_all(line.as_bytes()) {
+        Ok(line) => match write_whole(line.as_bytes(), out) {
             Ok(()) => outcome,
-            Err(_) => tell(Trouble::Write, err),
+            Err(fault) => tell(Trouble::Stopped(fault.into()), err),
         },
-        Err(_) => tell(Trouble::Memory, err),
+        Err(error) => tell(Trouble::Stopped(error.into()), err),
     }
 }
 
@@ -211,7 +208,7 @@ pub(crate) fn tell<E: Write>(trouble: Trouble<'_>, err: &mut E) -> Outcome
 {
     let _ = writeln!(err, "vast_check: {trouble}");
     match trouble {
-        Trouble::Write | Trouble::Memory => Outcome::Failed,
+        Trouble::Stopped(_) => Outcome::Failed,
         _ => Outcome::Unread,
     }
 }

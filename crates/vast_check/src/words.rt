@@ -1,7 +1,7 @@
 //! The words behind the program's name.
 
-use std::alloc::{AllocFailed, Global};
-use thiserror::Error;
+use std::alloc::Global;
+use vast_shell::{WordFault, Words};
 
 /// What the words ask for.
 #[derive(Drop)]
@@ -16,36 +16,6 @@ pub(crate) enum Request<'a> {
     Same { old: &'a str, new: &'a str },
 }
 
-/// Why the words ask for nothing.
-#[derive(Debug, Drop, Error)]
-pub(crate) enum WordFault<'a> {
-    #[error("unknown word {0}")]
-    Unknown(&'a str),
-    #[error("{0} takes no file")]
-    WithFile(&'static str),
-    #[error("--same takes two files")]
-    NotTwo,
-    #[error("out of memory")]
-    Memory,
-}
-
-impl From<AllocFailed<&str>> for WordFault<'_> {
-    fn from(_failed: AllocFailed<&str>) -> Self {
-        WordFault::Memory
-    }
-}
-
-/// The words so far.
-#[derive(Drop)]
-struct Seen<'a> {
-    help: bool,
-    version: bool,
-    same: bool,
-    /// Whether `--` was there, behind which each word is a file.
-    only_files: bool,
-    files: Vec<&'a str>,
-}
-
 /// What the words ask for, in any order: `--help` whatever else there is, else one thing.
 ///
 /// # Errors
@@ -58,45 +28,51 @@ pub(crate) fn requested<'a>(
         help: false,
         version: false,
         same: false,
-        only_files: false,
-        files: Vec::new(alloc),
+        words: Words::new(alloc),
     };
     for word in words {
-        seen.take(word)?;
+        if let Some(option) = seen.words.take(word)? {
+            seen.choose(option)?;
+        }
     }
     seen.request()
 }
 
+/// What the words ask for so far.
+#[derive(Drop)]
+struct Seen<'a> {
+    help: bool,
+    version: bool,
+    same: bool,
+    words: Words<'a>,
+}
+
 impl<'a> Seen<'a> {
-    fn take(&mut self, word: &'a str) -> Result<(), WordFault<'a>> {
-        if self.only_files || word == "-" || !word.starts_with('-') {
-            self.files.push(word)?;
-            return Ok(());
-        }
-        match word {
-            "--" => self.only_files = true,
+    fn choose(&mut self, option: &'a str) -> Result<(), WordFault<'a>> {
+        match option {
             "--help" | "-h" => self.help = true,
             "--version" | "-V" => self.version = true,
             "--same" => self.same = true,
-            _ => return Err(WordFault::Unknown(word)),
+            _ => return Err(WordFault::Unknown(option)),
         }
         Ok(())
     }
 
     fn request(self) -> Result<Request<'a>, WordFault<'a>> {
+        let files = self.words.files;
         if self.help {
             Ok(Request::Help)
-        } else if self.version && self.files.is_empty() && !self.same {
+        } else if self.version && files.is_empty() && !self.same {
             Ok(Request::Version)
         } else if self.version {
-            Err(WordFault::WithFile("--version"))
+            Err(WordFault::Takes("--version", "no file"))
         } else if self.same {
-            match self.files.as_slice() {
+            match files.as_slice() {
                 [old, new] => Ok(Request::Same { old, new }),
-                _ => Err(WordFault::NotTwo),
+                _ => Err(WordFault::Takes("--same", "two files")),
             }
         } else {
-            Ok(Request::Files(self.files))
+            Ok(Request::Files(files))
         }
     }
 }

@@ -5,18 +5,18 @@ ghost use Rattle.std.specs.Io.KnownBytes.{IsAtEnd};
 ghost use Rattle.vast_list.specs.Output.{is_made};
 ghost use Rattle.vast_replay.specs.Input.{GivesTaken, PrintsInput, PrintsTexts, WritesMade, WritesTaken};
 
-use crate::failure::{Failure, fail};
 use crate::input::{Taken, split_lists, take_input};
 use crate::outcome::Outcome;
 use crate::words::{Form, Linting};
 use std::alloc::{AllocError, Global};
 use std::fmt::Write as _;
 use std::io;
-use std::io::{ErrorKind, Read, Write};
+use std::io::{Read, Write};
 use vast_list::{
     ListLines, ListOutput, Plainness, Tries, Verdict, json_with_map, list_json, list_origins,
     list_output, list_plainness, tried,
 };
+use vast_shell::{Failure, ended, tell, write_whole};
 use vast_talk::{LineWarning, json_with_warnings, list_warnings};
 
 /// How lists are answered.
@@ -75,8 +75,7 @@ pub fn run<R: Read, W: Write, E: Write>(
 {
     match read(alloc, manner, input) {
         Ok(taken) => answer_taken(alloc, manner, taken, out, err),
-        Err(error) if error.kind() == ErrorKind::OutOfMemory => fail(Failure::Memory, err),
-        Err(_) => fail(Failure::Read, err),
+        Err(error) => tell(Failure::of_read(error).line(), Outcome::Failed, err),
     }
 }
 
@@ -106,10 +105,11 @@ pub(crate) fn answer_taken<W: Write, E: Write>(
     ensures printed { result ≡ Outcome.Made → manner.entry.form ≡ Form.Text
         → WritesTaken taken (W.contents out.old) (W.contents out.new) }
 {
-    match taken {
+    let answered = match taken {
         Taken::Bytes(bytes) => answer_lists(alloc, manner, &bytes, out, err),
         Taken::List(made) => answer_made(alloc, manner, false, made, out, err),
-    }
+    };
+    ended(answered, Outcome::Failed, err)
 }
 
 /// Answers the lists of an input.
@@ -119,20 +119,15 @@ fn answer_lists<W: Write, E: Write>(
     input: &[u8],
     out: &mut W,
     err: &mut E,
-) -> Outcome
-    ensures { result ≡ Outcome.Made → E.contents err.new ≡ E.contents err.old }
+) -> Result<Outcome, Failure>
+    ensures { IfOk result (λ o. o ≡ Outcome.Made → E.contents err.new ≡ E.contents err.old) }
 {
-    let Ok(lists) = tried!(manner.tries, split_lists(alloc, input)) else {
-        return fail(Failure::Memory, err);
-    };
+    let lists = tried!(manner.tries, split_lists(alloc, input))?;
     let mut outcome = Outcome::Made;
     for list in &lists {
-        outcome = outcome.and(answer_list(alloc, manner, list, out, err));
-        if outcome == Outcome::Failed {
-            break;
-        }
+        outcome = outcome.and(answer_list(alloc, manner, list, out, err)?);
     }
-    outcome
+    Ok(outcome)
 }
 
 fn answer_list<W: Write, E: Write>(
@@ -141,8 +136,8 @@ fn answer_list<W: Write, E: Write>(
     list: &ListLines<'_>,
     out: &mut W,
     err: &mut E,
-) -> Outcome
-    ensures { result ≡ Outcome.Made → E.contents err.new ≡ E.contents err.old }
+) -> Result<Outcome, Failure>
+    ensures { IfOk result (λ o. o ≡ Outcome.Made → E.contents err.new ≡ E.contents err.old) }
 {
     match manner.form {
         Form::Text | Form::Faults => answer_text(alloc, manner, list, out, err),
@@ -158,20 +153,13 @@ fn answer_text<W: Write, E: Write>(
     list: &ListLines<'_>,
     out: &mut W,
     err: &mut E,
-) -> Outcome
-    ensures { result ≡ Outcome.Made → E.contents err.new ≡ E.contents err.old }
+) -> Result<Outcome, Failure>
+    ensures { IfOk result (λ o. o ≡ Outcome.Made → E.contents err.new ≡ E.contents err.old) }
 {
-    let Ok(made) = list_output(alloc, manner.tries, list) else {
-        return fail(Failure::Memory, err);
-    };
-    let Ok(made) = mapped(alloc, manner, list, made) else {
-        return fail(Failure::Memory, err);
-    };
-    let outcome = answer_made(alloc, manner, list.title.is_some(), made, out, err);
-    if outcome == Outcome::Failed {
-        return outcome;
-    }
-    outcome.and(tell_warnings(alloc, manner, list, err))
+    let made = list_output(alloc, manner.tries, list)?;
+    let made = mapped(alloc, manner, list, made)?;
+    let outcome = answer_made(alloc, manner, list.title.is_some(), made, out, err)?;
+    Ok(outcome.and(tell_warnings(alloc, manner, list, err)?))
 }
 
 /// Writes what one list gives to `out`, in one piece, and its faults to `err`.
@@ -182,29 +170,26 @@ fn answer_made<W: Write, E: Write>(
     made: ListOutput,
     out: &mut W,
     err: &mut E,
-) -> Outcome
-    ensures silent { result ≡ Outcome.Made → E.contents err.new ≡ E.contents err.old }
-    ensures printed { result ≡ Outcome.Made → manner.entry.form ≡ Form.Text
-        → WritesMade made (W.contents out.old) (W.contents out.new) }
+) -> Result<Outcome, Failure>
+    ensures silent { IfOk result (λ o. o ≡ Outcome.Made
+        → E.contents err.new ≡ E.contents err.old) }
+    ensures printed { IfOk result (λ o. o ≡ Outcome.Made → manner.entry.form ≡ Form.Text
+        → WritesMade made (W.contents out.old) (W.contents out.new)) }
 {
-    let Ok(told) = tried!(manner.tries, told(alloc, manner.source, &made)) else {
-        return fail(Failure::Memory, err);
-    };
+    let told = tried!(manner.tries, told(alloc, manner.source, &made))?;
     let ListOutput {
         output,
         verdict,
         ..
     } = made;
     if let (Form::Text, Some(output)) = (manner.form, &output) {
-        if out.write_all(output).is_err() {
-            return fail(Failure::Write, err);
-        }
+        write_whole(output, out)?;
     }
     let outcome = outcome_of(verdict, has_title);
     if outcome != Outcome::Made {
-        let _ = err.write_all(told.as_bytes());
+        tell(&told, (), err);
     }
-    outcome
+    Ok(outcome)
 }
 
 /// Answers to `out` whether the list's file is plain, where nothing of the list is at fault.
@@ -214,21 +199,16 @@ fn answer_plain<W: Write, E: Write>(
     list: &ListLines<'_>,
     out: &mut W,
     err: &mut E,
-) -> Outcome
-    ensures { result ≡ Outcome.Made → E.contents err.new ≡ E.contents err.old }
+) -> Result<Outcome, Failure>
+    ensures { IfOk result (λ o. o ≡ Outcome.Made → E.contents err.new ≡ E.contents err.old) }
 {
-    let outcome = answer_text(alloc, manner, list, out, err);
+    let outcome = answer_text(alloc, manner, list, out, err)?;
     if !matches!(outcome, Outcome::Made | Outcome::Warned) {
-        return outcome;
+        return Ok(outcome);
     }
-    let Ok((line, is_plain)) = tried!(manner.tries, plain_line(alloc, manner.source, list)) else {
-        return fail(Failure::Memory, err);
-    };
-    match out.write_all(line.as_bytes()) {
-        Ok(()) if is_plain => outcome,
-        Ok(()) => Outcome::Refused,
-        Err(_) => fail(Failure::Write, err),
-    }
+    let (line, is_plain) = tried!(manner.tries, plain_line(alloc, manner.source, list))?;
+    write_whole(line.as_bytes(), out)?;
+    Ok(if is_plain { outcome } else { Outcome::Refused })
 }
 
 /// The line that says whether the list's file is plain, and whether it is.
@@ -252,23 +232,19 @@ fn tell_warnings<E: Write>(
     manner: Manner<'_>,
     list: &ListLines<'_>,
     err: &mut E,
-) -> Outcome
-    ensures { result ≡ Outcome.Made → E.contents err.new ≡ E.contents err.old }
+) -> Result<Outcome, Failure>
+    ensures { IfOk result (λ o. o ≡ Outcome.Made → E.contents err.new ≡ E.contents err.old) }
 {
     if manner.lint == Linting::Off {
-        return Outcome::Made;
+        return Ok(Outcome::Made);
     }
-    let Ok(warnings) = tried!(manner.tries, list_warnings(alloc, list)) else {
-        return fail(Failure::Memory, err);
-    };
-    let Ok(told) = tried!(manner.tries, warned(alloc, manner.source, &warnings)) else {
-        return fail(Failure::Memory, err);
-    };
+    let warnings = tried!(manner.tries, list_warnings(alloc, list))?;
+    let told = tried!(manner.tries, warned(alloc, manner.source, &warnings))?;
     let outcome = warned_outcome(manner.lint, warnings.is_empty());
     if outcome != Outcome::Made {
-        let _ = err.write_all(told.as_bytes());
+        tell(&told, (), err);
     }
-    outcome
+    Ok(outcome)
 }
 
 /// What becomes of lists where forms are told, or none.
@@ -313,19 +289,13 @@ fn answer_json<W: Write, E: Write>(
     list: &ListLines<'_>,
     out: &mut W,
     err: &mut E,
-) -> Outcome
-    ensures { result ≡ Outcome.Made → E.contents err.new ≡ E.contents err.old }
+) -> Result<Outcome, Failure>
+    ensures { IfOk result (λ o. o ≡ Outcome.Made → E.contents err.new ≡ E.contents err.old) }
 {
-    let Ok((line, verdict)) = tried!(manner.tries, json(alloc, manner, list)) else {
-        return fail(Failure::Memory, err);
-    };
-    let Ok((line, linted)) = tried!(manner.tries, json_linted(alloc, manner, list, &line)) else {
-        return fail(Failure::Memory, err);
-    };
-    match out.write_all(line.as_bytes()) {
-        Ok(()) => outcome_of(verdict, list.title.is_some()).and(linted),
-        Err(_) => fail(Failure::Write, err),
-    }
+    let (line, verdict) = tried!(manner.tries, json(alloc, manner, list))?;
+    let (line, linted) = tried!(manner.tries, json_linted(alloc, manner, list, &line))?;
+    write_whole(line.as_bytes(), out)?;
+    Ok(outcome_of(verdict, list.title.is_some()).and(linted))
 }
 
 /// The list's line of JSON, with its map where that is asked for.

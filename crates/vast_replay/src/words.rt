@@ -1,7 +1,9 @@
 //! The words behind the program's name.
 
-use std::alloc::{AllocError, AllocFailed, Global};
-use thiserror::Error;
+use crate::program::Manner;
+use std::alloc::Global;
+use vast_list::Tries;
+use vast_shell::{WordFault, Words};
 
 /// What the words ask for.
 #[derive(Drop)]
@@ -21,14 +23,8 @@ pub(crate) enum Request<'a> {
     },
     /// Lists of files; of standard input where there are none.
     Lists {
-        /// What is printed of each list.
-        form: Form,
-        /// Whether what was refused memory is made once more.
-        again: bool,
-        /// Whether each line of a text is printed behind the line of the list that it comes from.
-        map: bool,
-        /// Which forms are told beside the faults.
-        lint: Linting,
+        /// How they are answered.
+        manner: Manner<'static>,
         /// The files' names, where `-` is standard input.
         files: Vec<&'a str>,
     },
@@ -56,25 +52,6 @@ pub enum Linting {
     Told,
     /// Each is, and the status is that of a refused list where one was.
     Strict,
-}
-
-/// Why the words ask for nothing.
-#[derive(Debug, Drop, Error)]
-pub(crate) enum WordFault<'a> {
-    #[error("unknown word {0}")]
-    Unknown(&'a str),
-    #[error("{0} and {1} exclude each other")]
-    Together(&'static str, &'static str),
-    #[error("{0} takes no file")]
-    WithFile(&'static str),
-    #[error("out of memory")]
-    Memory,
-}
-
-impl From<AllocFailed<&str>> for WordFault<'_> {
-    fn from(_failed: AllocFailed<&str>) -> Self {
-        WordFault::Memory
-    }
 }
 
 /// What is asked for but for files, `--again`, `--map` and `--lint`.
@@ -111,9 +88,7 @@ struct Seen<'a> {
     again: bool,
     map: bool,
     lint: Linting,
-    /// Whether `--` was there, behind which each word is a file.
-    only_files: bool,
-    files: Vec<&'a str>,
+    words: Words<'a>,
 }
 
 /// What the words ask for, in any order: `--help` whatever else there is, else one thing.
@@ -129,23 +104,19 @@ pub(crate) fn requested<'a>(
         again: false,
         map: false,
         lint: Linting::Off,
-        only_files: false,
-        files: Vec::new(alloc),
+        words: Words::new(alloc),
     };
     for word in words {
-        seen.take(word)?;
+        if let Some(option) = seen.words.take(word)? {
+            seen.take(option)?;
+        }
     }
     seen.request()
 }
 
 impl<'a> Seen<'a> {
-    fn take(&mut self, word: &'a str) -> Result<(), WordFault<'a>> {
-        if self.only_files || word == "-" || !word.starts_with('-') {
-            self.files.push(word)?;
-            return Ok(());
-        }
-        match word {
-            "--" => self.only_files = true,
+    fn take(&mut self, option: &'a str) -> Result<(), WordFault<'a>> {
+        match option {
             "--again" => self.again = true,
             "--map" => self.map = true,
             "--lint" if self.lint == Linting::Off => self.lint = Linting::Told,
@@ -158,7 +129,7 @@ impl<'a> Seen<'a> {
             "--check" => self.choose(Mode::Check)?,
             "--json" => self.choose(Mode::Json)?,
             "--plain" => self.choose(Mode::Plain)?,
-            _ => return Err(WordFault::Unknown(word)),
+            _ => return Err(WordFault::Unknown(option)),
         }
         Ok(())
     }
@@ -187,7 +158,9 @@ impl<'a> Seen<'a> {
             Some(mode) if self.lint == Linting::Strict => {
                 Err(WordFault::Together("--strict", mode.word()))
             }
-            Some(mode) if !self.files.is_empty() => Err(WordFault::WithFile(mode.word())),
+            Some(mode) if !self.words.files.is_empty() => {
+                Err(WordFault::Takes(mode.word(), "no file"))
+            },
             Some(Mode::Session) => Ok(Request::Session {
                 lint: self.lint == Linting::Told,
             }),
@@ -202,11 +175,18 @@ impl<'a> Seen<'a> {
 
     fn lists(self, form: Form) -> Request<'a> {
         Request::Lists {
-            form,
-            again: self.again,
-            map: self.map,
-            lint: self.lint,
-            files: self.files,
+            manner: Manner {
+                form,
+                map: self.map,
+                lint: self.lint,
+                tries: if self.again {
+                    Tries::Again
+                } else {
+                    Tries::Once
+                },
+                source: "<stdin>",
+            },
+            files: self.words.files,
         }
     }
 }

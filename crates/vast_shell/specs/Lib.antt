@@ -1,3 +1,5 @@
+pub mod Failures
 pub mod Input
+pub mod Outcomes
 pub mod Output
 pub mod Words

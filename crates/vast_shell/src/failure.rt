@@ -1,14 +1,15 @@
 //! What ends a run.
 
 ghost use Rattle.std.specs.Prelude.{◌≡◌, MatchResult};
-ghost use Rattle.vast_shell.specs.Output.{AppendsFront, failure_line};
+ghost use Rattle.std.specs.IoError.{error_kind};
+ghost use Rattle.vast_shell.specs.Failures.{failure_line, read_failure};
+ghost use Rattle.vast_shell.specs.Output.{AppendsFront};
 ghost use Rattle.vast_shell.specs.declared.failure.Failure.TheVariants.{Memory, Write};
 
 use crate::output::{WriteFault, tell};
 use std::alloc::{AllocError, AllocFailed};
-use std::fmt;
-use std::io;
 use std::io::ErrorKind;
+use std::{fmt, io};
 
 /// What ends a run.
 #[derive(Clone, Copy, Debug)]
@@ -37,11 +38,12 @@ impl Failure {
     }
 
     /// What a read failed by.
-    pub fn of_read(error: io::Error) -> Failure {
-        if error.kind() == ErrorKind::OutOfMemory {
-            Failure::Memory
-        } else {
-            Failure::Read
+    pub fn of_read(error: io::Error) -> Failure
+        ensures { result ≡ read_failure (error_kind error) }
+    {
+        match error.kind() {
+            ErrorKind::OutOfMemory => Failure::Memory,
+            _ => Failure::Read,
         }
     }
 }

@@ -9,18 +9,18 @@ use std::fmt::Display;
 use std::io::{ErrorKind, Write};
 
 /// A write failed.
-#[derive(Drop)]
+#[derive(Debug, Drop)]
 pub struct WriteFault;
 
-/// Writes the whole line, and tries an interrupted write again, as `write_all` does.
+/// Writes all of the bytes, and tries an interrupted write again, as `write_all` does.
 ///
 /// # Errors
-/// A failed write, which leaves a front of the line.
-pub fn write_line<W: Write>(line: &str, out: &mut W) -> Result<(), WriteFault>
-    ensures whole { OnOk result (Appends (W.contents out.old) (W.contents out.new) line.now) }
-    ensures part { OnErr result (AppendsPart (W.contents out.old) (W.contents out.new) line.now) }
+/// A failed write, which leaves a front of them.
+pub fn write_whole<W: Write>(bytes: &[u8], out: &mut W) -> Result<(), WriteFault>
+    ensures whole { OnOk result (Appends (W.contents out.old) (W.contents out.new) bytes.now) }
+    ensures part { OnErr result (AppendsPart (W.contents out.old) (W.contents out.new) bytes.now) }
 {
-    let mut rest = line.as_bytes();
+    let mut rest = bytes;
     for _ in 0..u64::MAX {
         if rest.is_empty() {
             break;
@@ -47,7 +47,7 @@ pub fn tell<O, E: Write>(line: &str, outcome: O, err: &mut E) -> O
     ensures outcome { result ≡ outcome }
     ensures told { AppendsFront (E.contents err.old) (E.contents err.new) line.now }
 {
-    let _ = write_line(line, err);
+    let _ = write_whole(line.as_bytes(), err);
     outcome
 }
 
@@ -71,7 +71,7 @@ pub fn print<F: Display + Drop, W: Write, E: Write>(
     ensures silent { result ≡ 0 → E.contents err.new ≡ E.contents err.old }
 {
     match text {
-        Ok(text) => match write_line(&text, out) {
+        Ok(text) => match write_whole(text.as_bytes(), out) {
             Ok(()) => 0,
             Err(WriteFault) => tell(Failure::Write.line(), 1, err),
         },

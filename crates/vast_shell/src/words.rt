@@ -2,6 +2,7 @@
 
 ghost use Rattle.std.specs.Prelude.{◌≡◌, ◌++◌, ◌∷◌, [], IfOk, OnOk, ◌||◌, codes, false, if◌then◌else◌, map, string_bytes};
 ghost use Rattle.std.specs.Str.{bytes_eq};
+ghost use Rattle.vast_shell.specs.Failures.{is_memory};
 ghost use Rattle.vast_shell.specs.Words.{is_file, names_file, option_of};
 
 use std::alloc::{AllocError, AllocFailed, Global};
@@ -22,9 +23,11 @@ pub enum NoWords {
 
 impl NoWords {
     /// Whether memory was refused.
-    pub fn is_memory(&self) -> bool {
+    pub fn is_memory(&self) -> bool
+        ensures { result ≡ is_memory self.now }
+    {
         match self {
-            NoWords::Unread(error) => error.kind() == io::ErrorKind::OutOfMemory,
+            NoWords::Unread(error) => matches!(error.kind(), io::ErrorKind::OutOfMemory),
             NoWords::Memory(_) => true,
         }
     }
