@@ -1,17 +1,18 @@
 //! What the program does with its words and its streams.
 
-ghost use Rattle.std.specs.Prelude.{◌≡◌, ◌≤◌, true, false, IsNone, IsSome, IfSome, MatchResult, string_bytes};
+ghost use Rattle.std.specs.Prelude.{◌≡◌, ◌≤◌, true, false, IsNone, IsSome, IfSome};
 ghost use Rattle.std.specs.Io.KnownBytes.{Appends};
-ghost use Rattle.vast_demo.specs.Check.{AppendsFront, CheckEnds};
+ghost use Rattle.vast_demo.specs.Check.{CheckEnds, answer_line};
 ghost use Rattle.vast_demo.specs.Words.{text_of, design_text, is_check};
 
 use crate::check::check;
-use crate::output::{WriteFault, write_line};
 use std::alloc::Global;
-use std::fmt::Display;
 use std::io::{Read, Write};
 use vast_designs::{cases, passthrough, registers};
-use vast_input::InputFault;
+use vast_shell::{Failure, InputFault, WriteFault, print, tell, write_whole};
+
+/// The line that tells of other words.
+const UNKNOWN: &str = "unknown design\n";
 
 /// Prints the design that the one word names to `out`, or checks `input`, and answers the status.
 ///
@@ -51,7 +52,7 @@ pub fn run<R: Read, W: Write, E: Write>(
                 print_named(alloc, word, out, err)
             }
         }
-        _ => unknown(err),
+        _ => tell(UNKNOWN, 2, err),
     }
 }
 
@@ -64,39 +65,13 @@ fn print_named<W: Write, E: Write>(alloc: Global, name: &str, out: &mut W, err: 
     ensures silent { result ≡ 0 → E.contents err.new ≡ E.contents err.old }
 {
     if name == "passthrough" {
-        print_design(passthrough(alloc), out, err)
+        print(passthrough(alloc), out, err)
     } else if name == "cases" {
-        print_design(cases(alloc), out, err)
+        print(cases(alloc), out, err)
     } else if name == "registers" {
-        print_design(registers(alloc), out, err)
+        print(registers(alloc), out, err)
     } else {
-        unknown(err)
-    }
-}
-
-fn unknown<E: Write>(err: &mut E) -> u8
-    ensures { result ≡ 2 }
-{
-    let _ = err.write_all(b"unknown design\n");
-    2
-}
-
-fn print_design<F: Display + Drop, W: Write, E: Write>(
-    text: Result<String, F>,
-    out: &mut W,
-    err: &mut E,
-) -> u8
-    ensures status { result ≤ 1 }
-    ensures written { result ≡ 0 → MatchResult text
-        (λ t. Appends (W.contents out.old) (W.contents out.new) (string_bytes t)) (λ _. ⊥) }
-    ensures silent { result ≡ 0 → E.contents err.new ≡ E.contents err.old }
-{
-    match text {
-        Ok(text) => match out.write_all(text.as_bytes()) {
-            Ok(()) => 0,
-            Err(_) => fail("write fault", err),
-        },
-        Err(fault) => fail(fault, err),
+        tell(UNKNOWN, 2, err)
     }
 }
 
@@ -112,36 +87,24 @@ fn print_answer<R: Read, W: Write, E: Write>(
     ensures silent { result ≡ 0 → E.contents err.new ≡ E.contents err.old }
 {
     match check(alloc, input) {
-        Ok(true) => match write_line(b"derived\n", out) {
-            Ok(()) => 0,
-            Err(WriteFault) => tell(b"write fault\n", err),
+        Ok(is_derived) => match write_whole(answer_line(is_derived).as_bytes(), out) {
+            Ok(()) => u8::from(!is_derived),
+            Err(WriteFault) => tell(Failure::Write.line(), 1, err),
         },
-        Ok(false) => match write_line(b"not derived\n", out) {
-            Ok(()) => 1,
-            Err(WriteFault) => tell(b"write fault\n", err),
-        },
-        Err(InputFault::Read(_) | InputFault::Length | InputFault::Reads) => tell(
-            b"read fault\n",
-            err,
-        ),
-        Err(InputFault::Memory) => tell(b"out of memory\n", err),
+        Err(InputFault::Memory) => tell(Failure::Memory.line(), 1, err),
+        Err(_) => tell(Failure::Read.line(), 1, err),
     }
 }
 
-/// Writes the line of a fault, or a front of it, and answers the status.
-fn tell<E: Write>(line: &[u8], err: &mut E) -> u8
-    ensures status { result ≡ 1 }
-    ensures told { AppendsFront (E.contents err.old) (E.contents err.new) line.now }
+/// The line that answers.
+fn answer_line(is_derived: bool) -> &'static str
+    ensures { result.now ≡ answer_line is_derived }
 {
-    let _ = write_line(line, err);
-    1
-}
-
-fn fail<F: Display + Drop, E: Write>(fault: F, err: &mut E) -> u8
-    ensures { result ≡ 1 }
-{
-    let _ = writeln!(err, "{fault}");
-    1
+    if is_derived {
+        "derived\n"
+    } else {
+        "not derived\n"
+    }
 }
 
 #[cfg(test)]
