@@ -11,21 +11,21 @@ use std::process::ExitCode;
 use vast_shell::{Failure, tell, with_words};
 
 fn main(rt: HostRuntime) -> ExitCode {
-    let mut err = rt.stderr();
-    let mut answer = |words: &[&str]| {
-        run(
-            rt.alloc(),
-            words,
-            &mut rt.stdin(),
-            &mut rt.stdout(),
-            &mut rt.stderr(),
-        )
-    };
-    let status = match with_words(&rt, false, &mut answer) {
+    let status = match with_words(&rt, false, |words| answer(&rt, words)) {
         Ok(status) => status,
-        Err(fault) if fault.is_memory() => tell(Failure::Memory.line(), 1, &mut err),
+        Err(fault) if fault.is_memory() => tell(Failure::Memory.line(), 1, &mut rt.stderr()),
         // A word that isn't UTF-8 names no design.
-        Err(_) => answer(&[]),
+        Err(_) => answer(&rt, &[]),
     };
     ExitCode::from(status)
+}
+
+fn answer(rt: &HostRuntime, words: &[&str]) -> u8 {
+    run(
+        rt.alloc(),
+        words,
+        &mut rt.stdin(),
+        &mut rt.stdout(),
+        &mut rt.stderr(),
+    )
 }
