@@ -49,8 +49,10 @@ fn answer_each<R: BufRead, W: Write>(
         (λ bytes. HasRepliedAll bytes talk.old talk.new (W.contents out.old) (W.contents out.new))) }
 {
     for _ in 0..u64::MAX {
-        let Some(line) = read_line(alloc, input).map_err(Failure::of_read)? else {
-            return Ok(Outcome::Made);
+        let line = match read_line(alloc, input) {
+            Ok(Some(line)) => line,
+            Ok(None) => return Ok(Outcome::Made),
+            Err(error) => return Err(Failure::of_read(error)),
         };
         write_through(out, &talk.reply(&line)?)?;
     }
