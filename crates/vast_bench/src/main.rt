@@ -15,16 +15,17 @@ mod sum;
 use fault::BenchFault;
 use program::run;
 use std::alloc::AllocError;
+use std::io::ErrorKind;
 use std::process::ExitCode;
 use vast_shell::{fail, with_words};
 
 fn main(rt: HostRuntime) -> ExitCode {
     let mut err = rt.stderr();
-    let answered = with_words(&rt, false, |words| run(rt.alloc(), words, &mut rt.stdout()));
+    let answered = with_words(&rt, |words| run(rt.alloc(), words, &mut rt.stdout()));
     let fault = match answered {
         Ok(Ok(())) => return ExitCode::SUCCESS,
         Ok(Err(fault)) => fault,
-        Err(fault) if fault.is_memory() => BenchFault::Memory(AllocError),
+        Err(error) if error.kind() == ErrorKind::OutOfMemory => BenchFault::Memory(AllocError),
         // A word that isn't UTF-8 names no design.
         Err(_) => BenchFault::Unknown,
     };

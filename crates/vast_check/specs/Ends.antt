@@ -3,7 +3,7 @@ use Rattle.std.specs.Prelude.{ℕ}
 use Rattle.vast_check.specs.declared.outcome.Outcome.{Outcome}
 use Rattle.vast_check.specs.declared.outcome.Outcome.TheVariants.{Yes, No, Unread, Failed}
 use Rattle.vast_check.specs.declared.program.Trouble.{Trouble}
-use Rattle.vast_check.specs.declared.program.Trouble.TheVariants.{Stopped}
+use Rattle.vast_check.specs.declared.program.Trouble.TheVariants.{Write, Memory}
 
 -- the program's status
 abbrev pub status_of : Outcome → ℕ
@@ -21,5 +21,6 @@ badness Failed = 3
 
 -- what becomes of a file or of a run that meets trouble
 abbrev pub outcome_of : Trouble → Outcome
-outcome_of (Stopped failure) = Failed
+outcome_of Write = Failed
+outcome_of Memory = Failed
 outcome_of _ = Unread

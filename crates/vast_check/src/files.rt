@@ -5,7 +5,6 @@ use crate::program::{Trouble, answer_input, read_whole, tell};
 use crate::same::{Source, compare};
 use std::fs::File;
 use std::io::{Error, ErrorKind, IsTerminal, Write};
-use vast_shell::Failure;
 
 /// How standard input is told.
 const STDIN: &str = "<stdin>";
@@ -74,7 +73,7 @@ fn shown_name(file: &str) -> &str {
 /// Why the file can't be opened.
 fn tell_unopened<E: Write>(file: &str, error: Error, err: &mut E) -> Outcome {
     if error.kind() == ErrorKind::OutOfMemory {
-        tell(Trouble::Stopped(Failure::Memory), err)
+        tell(Trouble::Memory, err)
     } else {
         tell(Trouble::Unopened(file, error), err)
     }

@@ -18,17 +18,17 @@ use files::{answer_files, compare_files};
 use help::{HELP, VERSION};
 use outcome::Outcome;
 use program::{Trouble, tell};
+use std::io::ErrorKind;
 use std::process::ExitCode;
-use vast_shell::{Failure, with_words, write_whole};
+use vast_shell::{with_words, write_whole};
 use words::{Request, requested};
 
 fn main(rt: HostRuntime) -> ExitCode {
-    let outcome = match with_words(&rt, false, |words| answer_words(&rt, words)) {
+    let outcome = match with_words(&rt, |words| answer_words(&rt, words)) {
         Ok(outcome) => outcome,
-        Err(fault) if fault.is_memory() => tell(
-            Trouble::Stopped(Failure::Memory),
-            &mut rt.stderr(),
-        ),
+        Err(error) if error.kind() == ErrorKind::OutOfMemory => {
+            tell(Trouble::Memory, &mut rt.stderr())
+        }
         Err(_) => tell(Trouble::Words, &mut rt.stderr()),
     };
     ExitCode::from(outcome.status())
@@ -47,6 +47,6 @@ fn answer_words(rt: &HostRuntime, words: &[&str]) -> Outcome {
 fn print(rt: &HostRuntime, text: &str) -> Outcome {
     match write_whole(text.as_bytes(), &mut rt.stdout()) {
         Ok(()) => Outcome::Yes,
-        Err(fault) => tell(Trouble::Stopped(fault.into()), &mut rt.stderr()),
+        Err(_) => tell(Trouble::Write, &mut rt.stderr()),
     }
 }

@@ -12,7 +12,7 @@ use crate::outcome::Outcome;
 use std::alloc::{AllocError, Global};
 use std::fmt::Write as _;
 use std::io::{Error, ErrorKind, Read, Write};
-use vast_shell::{Failure, InputFault, WordFault, read_input, write_whole};
+use vast_shell::{InputFault, WordFault, read_input, write_whole};
 
 /// So many characters of a token are told.
 const MOST_SHOWN: usize = 24;
@@ -32,8 +32,10 @@ pub(crate) enum Trouble<'a> {
     Endless(&'a str),
     #[error("{0}: more than 16777216 bytes")]
     TooLong(&'a str),
-    #[error("{0}")]
-    Stopped(Failure),
+    #[error("write fault")]
+    Write,
+    #[error("out of memory")]
+    Memory,
 }
 
 /// Reads `input` to its end, and tells on `out` whether the grammar derives a file from it, or where it doesn't.
@@ -79,7 +81,7 @@ pub(crate) fn read_whole<R: Read, E: Write>(
 {
     let trouble = match read_input(alloc, input) {
         Ok(bytes) => return Ok(bytes),
-        Err(InputFault::Memory) => Trouble::Stopped(Failure::Memory),
+        Err(InputFault::Memory) => Trouble::Memory,
         Err(InputFault::Length) => Trouble::TooLong(name),
         Err(InputFault::Read(kind)) => Trouble::Unread(name, kind),
         Err(InputFault::Reads) => Trouble::Endless(name),
@@ -104,7 +106,7 @@ fn answer_bytes<W: Write, E: Write>(
     match answer_of(alloc, bytes) {
         Ok(Answer::Derived) => write_made(derived_line(alloc, name), Outcome::Yes, out, err),
         Ok(found) => write_made(underived_line(alloc, name, &found), Outcome::No, out, err),
-        Err(error) => tell(Trouble::Stopped(error.into()), err),
+        Err(_) => tell(Trouble::Memory, err),
     }
 }
 
@@ -123,9 +125,9 @@ pub(crate) fn write_made<W: Write, E: Write>(
     match line {
         Ok(line) => match write_whole(line.as_bytes(), out) {
             Ok(()) => outcome,
-            Err(fault) => tell(Trouble::Stopped(fault.into()), err),
+            Err(_) => tell(Trouble::Write, err),
         },
-        Err(error) => tell(Trouble::Stopped(error.into()), err),
+        Err(_) => tell(Trouble::Memory, err),
     }
 }
 
@@ -208,7 +210,7 @@ pub(crate) fn tell<E: Write>(trouble: Trouble<'_>, err: &mut E) -> Outcome
 {
     let _ = writeln!(err, "vast_check: {trouble}");
     match trouble {
-        Trouble::Stopped(_) => Outcome::Failed,
+        Trouble::Write | Trouble::Memory => Outcome::Failed,
         _ => Outcome::Unread,
     }
 }

@@ -59,7 +59,7 @@ pub(crate) fn compare<W: Write, E: Write>(
             let told = tell_underived(alloc, old, out, err);
             told.and(tell_underived(alloc, new, out, err))
         }
-        Err(error) => tell(Trouble::Stopped(error.into()), err),
+        Err(_) => tell(Trouble::Memory, err),
     }
 }
 
@@ -130,6 +130,6 @@ fn tell_underived<W: Write, E: Write>(
             out,
             err,
         ),
-        Err(error) => tell(Trouble::Stopped(error.into()), err),
+        Err(_) => tell(Trouble::Memory, err),
     }
 }

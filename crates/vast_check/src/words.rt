@@ -1,7 +1,7 @@
 //! The words behind the program's name.
 
 use std::alloc::Global;
-use vast_shell::{WordFault, Words};
+use vast_shell::WordFault;
 
 /// What the words ask for.
 #[derive(Drop)]
@@ -16,6 +16,17 @@ pub(crate) enum Request<'a> {
     Same { old: &'a str, new: &'a str },
 }
 
+/// The words so far.
+#[derive(Drop)]
+struct Seen<'a> {
+    help: bool,
+    version: bool,
+    same: bool,
+    /// Whether `--` was there, behind which each word is a file.
+    only_files: bool,
+    files: Vec<&'a str>,
+}
+
 /// What the words ask for, in any order: `--help` whatever else there is, else one thing.
 ///
 /// # Errors
@@ -28,51 +39,45 @@ pub(crate) fn requested<'a>(
         help: false,
         version: false,
         same: false,
-        words: Words::new(alloc),
+        only_files: false,
+        files: Vec::new(alloc),
     };
     for word in words {
-        if let Some(option) = seen.words.take(word)? {
-            seen.choose(option)?;
-        }
+        seen.take(word)?;
     }
     seen.request()
 }
 
-/// What the words ask for so far.
-#[derive(Drop)]
-struct Seen<'a> {
-    help: bool,
-    version: bool,
-    same: bool,
-    words: Words<'a>,
-}
-
 impl<'a> Seen<'a> {
-    fn choose(&mut self, option: &'a str) -> Result<(), WordFault<'a>> {
-        match option {
+    fn take(&mut self, word: &'a str) -> Result<(), WordFault<'a>> {
+        if self.only_files || word == "-" || !word.starts_with('-') {
+            self.files.push(word)?;
+            return Ok(());
+        }
+        match word {
+            "--" => self.only_files = true,
             "--help" | "-h" => self.help = true,
             "--version" | "-V" => self.version = true,
             "--same" => self.same = true,
-            _ => return Err(WordFault::Unknown(option)),
+            _ => return Err(WordFault::Unknown(word)),
         }
         Ok(())
     }
 
     fn request(self) -> Result<Request<'a>, WordFault<'a>> {
-        let files = self.words.files;
         if self.help {
             Ok(Request::Help)
-        } else if self.version && files.is_empty() && !self.same {
+        } else if self.version && self.files.is_empty() && !self.same {
             Ok(Request::Version)
         } else if self.version {
             Err(WordFault::Takes("--version", "no file"))
         } else if self.same {
-            match files.as_slice() {
+            match self.files.as_slice() {
                 [old, new] => Ok(Request::Same { old, new }),
                 _ => Err(WordFault::Takes("--same", "two files")),
             }
         } else {
-            Ok(Request::Files(files))
+            Ok(Request::Files(self.files))
         }
     }
 }

@@ -7,13 +7,16 @@ mod program;
 mod tests;
 
 use program::run;
+use std::io::ErrorKind;
 use std::process::ExitCode;
 use vast_shell::{Failure, tell, with_words};
 
 fn main(rt: HostRuntime) -> ExitCode {
-    let status = match with_words(&rt, false, |words| answer(&rt, words)) {
+    let status = match with_words(&rt, |words| answer(&rt, words)) {
         Ok(status) => status,
-        Err(fault) if fault.is_memory() => tell(Failure::Memory.line(), 1, &mut rt.stderr()),
+        Err(error) if error.kind() == ErrorKind::OutOfMemory => {
+            tell(Failure::Memory.line(), 1, &mut rt.stderr())
+        }
         // A word that isn't UTF-8 names no design.
         Err(_) => answer(&rt, &[]),
     };

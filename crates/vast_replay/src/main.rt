@@ -13,7 +13,7 @@ use files::answer_files;
 use help::{HELP, VERSION};
 use outcome::Outcome;
 use session::answer_lines;
-use std::io::BufReader;
+use std::io::{BufReader, ErrorKind};
 use std::process::ExitCode;
 use vast_list::{Tries, calls_json, calls_text, tried};
 use vast_shell::{Failure, WordFault, ended, tell, with_words, write_whole};
@@ -21,9 +21,15 @@ use words::{Request, requested};
 
 fn main(rt: HostRuntime) -> ExitCode {
     let mut err = rt.stderr();
-    let outcome = match with_words(&rt, true, |words| answer_words(&rt, words)) {
+    let answered = tried!(
+        Tries::Again,
+        with_words(&rt, |words| answer_words(&rt, words))
+    );
+    let outcome = match answered {
         Ok(answered) => ended(answered, Outcome::Failed, &mut err),
-        Err(fault) if fault.is_memory() => tell(Failure::Memory.line(), Outcome::Failed, &mut err),
+        Err(error) if error.kind() == ErrorKind::OutOfMemory => {
+            tell(Failure::Memory.line(), Outcome::Failed, &mut err)
+        }
         Err(_) => tell(
             "vast_replay: a word is not UTF-8\n",
             Outcome::NotInForm,

@@ -3,7 +3,7 @@
 use crate::program::Manner;
 use std::alloc::Global;
 use vast_list::Tries;
-use vast_shell::{WordFault, Words};
+use vast_shell::WordFault;
 
 /// What the words ask for.
 #[derive(Drop)]
@@ -88,7 +88,9 @@ struct Seen<'a> {
     again: bool,
     map: bool,
     lint: Linting,
-    words: Words<'a>,
+    /// Whether `--` was there, behind which each word is a file.
+    only_files: bool,
+    files: Vec<&'a str>,
 }
 
 /// What the words ask for, in any order: `--help` whatever else there is, else one thing.
@@ -104,19 +106,23 @@ pub(crate) fn requested<'a>(
         again: false,
         map: false,
         lint: Linting::Off,
-        words: Words::new(alloc),
+        only_files: false,
+        files: Vec::new(alloc),
     };
     for word in words {
-        if let Some(option) = seen.words.take(word)? {
-            seen.take(option)?;
-        }
+        seen.take(word)?;
     }
     seen.request()
 }
 
 impl<'a> Seen<'a> {
-    fn take(&mut self, option: &'a str) -> Result<(), WordFault<'a>> {
-        match option {
+    fn take(&mut self, word: &'a str) -> Result<(), WordFault<'a>> {
+        if self.only_files || word == "-" || !word.starts_with('-') {
+            self.files.push(word)?;
+            return Ok(());
+        }
+        match word {
+            "--" => self.only_files = true,
             "--again" => self.again = true,
             "--map" => self.map = true,
             "--lint" if self.lint == Linting::Off => self.lint = Linting::Told,
@@ -129,7 +135,7 @@ impl<'a> Seen<'a> {
             "--check" => self.choose(Mode::Check)?,
             "--json" => self.choose(Mode::Json)?,
             "--plain" => self.choose(Mode::Plain)?,
-            _ => return Err(WordFault::Unknown(option)),
+            _ => return Err(WordFault::Unknown(word)),
         }
         Ok(())
     }
@@ -158,7 +164,7 @@ impl<'a> Seen<'a> {
             Some(mode) if self.lint == Linting::Strict => {
                 Err(WordFault::Together("--strict", mode.word()))
             }
-            Some(mode) if !self.words.files.is_empty() => {
+            Some(mode) if !self.files.is_empty() => {
                 Err(WordFault::Takes(mode.word(), "no file"))
             },
             Some(Mode::Session) => Ok(Request::Session {
@@ -186,7 +192,7 @@ impl<'a> Seen<'a> {
                 },
                 source: "<stdin>",
             },
-            files: self.words.files,
+            files: self.files,
         }
     }
 }

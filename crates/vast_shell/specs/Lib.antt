@@ -2,4 +2,3 @@ pub mod Failures
 pub mod Input
 pub mod Outcomes
 pub mod Output
-pub mod Words

@@ -12,7 +12,7 @@ use std::io::ErrorKind;
 use std::{fmt, io};
 
 /// What ends a run.
-#[derive(Clone, Copy, Debug)]
+#[derive(Clone, Copy)]
 pub enum Failure {
     /// Memory was refused.
     Memory,
@@ -48,24 +48,10 @@ impl Failure {
     }
 }
 
-impl fmt::Display for Failure {
-    fn fmt<W: fmt::Write>(&self, f: &mut fmt::Formatter<W>) -> fmt::Result {
-        f.write_str(self.line().trim_end())
-    }
-}
-
 impl From<AllocError> for Failure {
     ghost from_gives = { λ _ failure. failure ≡ Memory };
 
     fn from(_: AllocError) -> Failure {
-        Failure::Memory
-    }
-}
-
-impl<T: Drop> From<AllocFailed<T>> for Failure {
-    ghost from_gives = { λ _ failure. failure ≡ Memory };
-
-    fn from(_: AllocFailed<T>) -> Failure {
         Failure::Memory
     }
 }

@@ -9,4 +9,4 @@ mod words;
 pub use failure::{Failure, ended};
 pub use input::{InputFault, read_input};
 pub use output::{WriteFault, fail, print, tell, write_whole};
-pub use words::{NoWords, WordFault, Words, with_words};
+pub use words::{WordFault, with_words};
