@@ -111,16 +111,7 @@ fn answer_line(is_derived: bool) -> &'static str
 mod tests {
     use super::run;
     use std::io;
-    use std::io::{Read, Write};
-
-    #[derive(Drop)]
-    struct NoInput;
-
-    impl Read for NoInput {
-        fn read(&mut self, _buf: &mut [u8]) -> io::Result<usize> {
-            Ok(0)
-        }
-    }
+    use std::io::Write;
 
     #[derive(Drop)]
     struct Closed;
@@ -154,7 +145,10 @@ mod tests {
         ] {
             let mut out: Vec<u8> = Vec::new(alloc);
             let mut err: Vec<u8> = Vec::new(alloc);
-            assert_eq!(rt; run(alloc, &[word], &mut NoInput, &mut out, &mut err), 0);
+            assert_eq!(rt;
+                run(alloc, &[word], &mut io::empty(), &mut out, &mut err),
+                0
+            );
             assert!(rt; err.is_empty());
             assert!(rt; out.as_slice() == text.as_bytes());
         }
@@ -165,10 +159,10 @@ mod tests {
         let alloc = rt.alloc();
         let mut out: Vec<u8> = Vec::new(alloc);
         let mut err: Vec<u8> = Vec::new(alloc);
-        assert_eq!(rt; run(alloc, &[], &mut NoInput, &mut out, &mut err), 2);
-        assert_eq!(rt; run(alloc, &["x"], &mut NoInput, &mut out, &mut err), 2);
+        assert_eq!(rt; run(alloc, &[], &mut io::empty(), &mut out, &mut err), 2);
+        assert_eq!(rt; run(alloc, &["x"], &mut io::empty(), &mut out, &mut err), 2);
         let twice = ["passthrough", "passthrough"];
-        assert_eq!(rt; run(alloc, &twice, &mut NoInput, &mut out, &mut err), 2);
+        assert_eq!(rt; run(alloc, &twice, &mut io::empty(), &mut out, &mut err), 2);
         assert!(rt; out.is_empty());
         let said = "unknown design\nunknown design\nunknown design\n";
         assert!(rt; err.as_slice() == said.as_bytes());
@@ -178,13 +172,19 @@ mod tests {
     fn says_that_a_write_failed(rt: HostRuntime) {
         let alloc = rt.alloc();
         let mut err: Vec<u8> = Vec::new(alloc);
-        let status = run(alloc, &["passthrough"], &mut NoInput, &mut Closed, &mut err);
+        let status = run(
+            alloc,
+            &["passthrough"],
+            &mut io::empty(),
+            &mut Closed,
+            &mut err,
+        );
         assert_eq!(rt; status, 1);
         assert!(rt; err.as_slice() == "write fault\n".as_bytes());
         let status = run(
             alloc,
             &["passthrough"],
-            &mut NoInput,
+            &mut io::empty(),
             &mut Closed,
             &mut Closed,
         );

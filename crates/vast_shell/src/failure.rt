@@ -7,9 +7,9 @@ ghost use Rattle.vast_shell.specs.Output.{AppendsFront};
 ghost use Rattle.vast_shell.specs.declared.failure.Failure.TheVariants.{Memory, Write};
 
 use crate::output::{WriteFault, tell};
-use std::alloc::{AllocError, AllocFailed};
+use std::alloc::AllocError;
+use std::io;
 use std::io::ErrorKind;
-use std::{fmt, io};
 
 /// What ends a run.
 #[derive(Clone, Copy)]
