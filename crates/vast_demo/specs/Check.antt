@@ -1,5 +1,5 @@
 -- What `check` reads, finds and writes.
-use Rattle.std.specs.Prelude.{◌≡◌, ◌↔◌, ℕ, ◌<◌, ◌+◌, Bool, true, false, IsTrue, List, ◌++◌, length, codes, Option, IsUtf8}
+use Rattle.std.specs.Prelude.{◌≡◌, ◌↔◌, ℕ, Bool, true, false, IsTrue, List, codes, Option, IsUtf8}
 use Rattle.std.specs.Io.KnownBytes.{Appends}
 use Rattle.vast_shell.specs.Input.{GivesAll, GivesSome}
 use Rattle.vast_shell.specs.Output.{AppendsFront, AppendsPart}

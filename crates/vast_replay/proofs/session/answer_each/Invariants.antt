@@ -1,4 +1,4 @@
-use Rattle.std.proofs.Common.{◌≡◌, IfSome}
+use Rattle.std.proofs.Common.{IfSome}
 use Rattle.vast_talk.specs.Linted.{IsTalking}
 use Rattle.vast_replay.proofs.Sessions.{HasReplied}
 use Rattle.vast_replay.proofs.session.answer_each.Given as goal
