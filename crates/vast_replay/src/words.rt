@@ -67,24 +67,11 @@ enum Mode {
     Plain,
 }
 
-impl Mode {
-    fn word(self) -> &'static str {
-        match self {
-            Mode::Help => "--help",
-            Mode::Version => "--version",
-            Mode::Calls | Mode::CallsJson => "--calls",
-            Mode::Session => "--session",
-            Mode::Check => "--check",
-            Mode::Json => "--json",
-            Mode::Plain => "--plain",
-        }
-    }
-}
-
 /// The words so far.
 #[derive(Drop)]
 struct Seen<'a> {
-    mode: Option<Mode>,
+    /// With its word.
+    mode: Option<(Mode, &'static str)>,
     again: bool,
     map: bool,
     lint: Linting,
@@ -128,54 +115,53 @@ impl<'a> Seen<'a> {
             "--lint" if self.lint == Linting::Off => self.lint = Linting::Told,
             "--lint" => {}
             "--strict" => self.lint = Linting::Strict,
-            "--help" | "-h" => self.choose(Mode::Help)?,
-            "--version" | "-V" => self.choose(Mode::Version)?,
-            "--calls" => self.choose(Mode::Calls)?,
-            "--session" => self.choose(Mode::Session)?,
-            "--check" => self.choose(Mode::Check)?,
-            "--json" => self.choose(Mode::Json)?,
-            "--plain" => self.choose(Mode::Plain)?,
+            "--help" | "-h" => self.choose(Mode::Help, "--help")?,
+            "--version" | "-V" => self.choose(Mode::Version, "--version")?,
+            "--calls" => self.choose(Mode::Calls, "--calls")?,
+            "--session" => self.choose(Mode::Session, "--session")?,
+            "--check" => self.choose(Mode::Check, "--check")?,
+            "--json" => self.choose(Mode::Json, "--json")?,
+            "--plain" => self.choose(Mode::Plain, "--plain")?,
             _ => return Err(WordFault::Unknown(word)),
         }
         Ok(())
     }
 
-    fn choose(&mut self, mode: Mode) -> Result<(), WordFault<'a>> {
+    fn choose(&mut self, mode: Mode, word: &'static str) -> Result<(), WordFault<'a>> {
         self.mode = Some(match (self.mode, mode) {
-            (None, _) => mode,
-            (Some(Mode::Help), _) | (_, Mode::Help) => Mode::Help,
-            (Some(Mode::Calls | Mode::CallsJson), Mode::Json)
-            | (Some(Mode::Json | Mode::CallsJson), Mode::Calls) => Mode::CallsJson,
-            (Some(earlier), _) if earlier == mode => mode,
-            (Some(earlier), _) => return Err(WordFault::Together(earlier.word(), mode.word())),
+            (None, _) => (mode, word),
+            (Some((Mode::Help, _)), _) | (_, Mode::Help) => (Mode::Help, "--help"),
+            (Some((Mode::Calls | Mode::CallsJson, _)), Mode::Json)
+            | (Some((Mode::Json | Mode::CallsJson, _)), Mode::Calls) => (
+                Mode::CallsJson,
+                "--calls",
+            ),
+            (Some((earlier, _)), _) if earlier == mode => (mode, word),
+            (Some((_, earlier)), _) => return Err(WordFault::Together(earlier, word)),
         });
         Ok(())
     }
 
     fn request(self) -> Result<Request<'a>, WordFault<'a>> {
-        match self.mode {
-            None => Ok(self.lists(Form::Text)),
-            Some(Mode::Help) => Ok(Request::Help),
-            Some(Mode::Json) => Ok(self.lists(Form::Json)),
-            Some(mode) if self.again => Err(WordFault::Together("--again", mode.word())),
-            Some(mode) if self.map => Err(WordFault::Together("--map", mode.word())),
-            Some(Mode::Check) => Ok(self.lists(Form::Faults)),
-            Some(Mode::Plain) => Ok(self.lists(Form::Plain)),
-            Some(mode) if self.lint == Linting::Strict => {
-                Err(WordFault::Together("--strict", mode.word()))
-            }
-            Some(mode) if !self.files.is_empty() => {
-                Err(WordFault::Takes(mode.word(), "no file"))
-            },
-            Some(Mode::Session) => Ok(Request::Session {
+        let Some((mode, word)) = self.mode else {
+            return Ok(self.lists(Form::Text));
+        };
+        match mode {
+            Mode::Help => Ok(Request::Help),
+            Mode::Json => Ok(self.lists(Form::Json)),
+            _ if self.again => Err(WordFault::Together("--again", word)),
+            _ if self.map => Err(WordFault::Together("--map", word)),
+            Mode::Check => Ok(self.lists(Form::Faults)),
+            Mode::Plain => Ok(self.lists(Form::Plain)),
+            _ if self.lint == Linting::Strict => Err(WordFault::Together("--strict", word)),
+            _ if !self.files.is_empty() => Err(WordFault::Takes(word, "no file")),
+            Mode::Session => Ok(Request::Session {
                 lint: self.lint == Linting::Told,
             }),
-            Some(mode) if self.lint != Linting::Off => {
-                Err(WordFault::Together("--lint", mode.word()))
-            }
-            Some(Mode::Version) => Ok(Request::Version),
-            Some(Mode::Calls) => Ok(Request::Calls),
-            Some(Mode::CallsJson) => Ok(Request::CallsJson),
+            _ if self.lint != Linting::Off => Err(WordFault::Together("--lint", word)),
+            Mode::Version => Ok(Request::Version),
+            Mode::Calls => Ok(Request::Calls),
+            Mode::CallsJson => Ok(Request::CallsJson),
         }
     }
 
