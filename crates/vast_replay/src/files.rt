@@ -31,13 +31,7 @@ pub(crate) fn answer_files(rt: &HostRuntime, manner: Manner<'_>, files: &[&str])
 }
 
 fn answer_stdin(rt: &HostRuntime, manner: Manner<'_>) -> Outcome {
-    run(
-        rt.alloc(),
-        manner,
-        &mut rt.stdin(),
-        &mut rt.stdout(),
-        &mut rt.stderr(),
-    )
+    run(manner, &mut rt.stdin(), &mut rt.stdout(), &mut rt.stderr())
 }
 
 fn answer_file(rt: &HostRuntime, manner: Manner<'_>, file: &str) -> Outcome {
@@ -51,7 +45,7 @@ fn answer_file(rt: &HostRuntime, manner: Manner<'_>, file: &str) -> Outcome {
                 source: file,
                 ..manner
             };
-            answer_taken(rt.alloc(), manner, taken, &mut rt.stdout(), &mut err)
+            answer_taken(manner, taken, &mut rt.stdout(), &mut err)
         }
         Err(error) => {
             let told = tell_unread(rt, manner, file, error);

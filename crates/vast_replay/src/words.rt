@@ -168,6 +168,7 @@ impl<'a> Seen<'a> {
     fn lists(self, form: Form) -> Request<'a> {
         Request::Lists {
             manner: Manner {
+                alloc: *self.files.allocator(),
                 form,
                 map: self.map,
                 lint: self.lint,
