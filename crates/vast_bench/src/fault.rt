@@ -2,6 +2,7 @@
 
 use std::alloc::AllocError;
 use thiserror::Error;
+use vast_shell::WriteFault;
 use xlsynth_vast::VastFault;
 
 /// Why a design isn't measured.
@@ -24,7 +25,7 @@ pub(crate) enum BenchFault {
     Taken,
     /// A write to standard output failed.
     #[error("write fault")]
-    Write,
+    Write(#[from] WriteFault),
     /// A call was refused, or memory was.
     #[error(transparent)]
     Refused(#[from] VastFault),

@@ -13,39 +13,22 @@ mod program;
 mod sum;
 
 use fault::BenchFault;
-use program::{fail, run};
-use std::alloc::{AllocError, Global};
-use std::env;
+use program::run;
+use std::alloc::AllocError;
 use std::io::ErrorKind;
 use std::process::ExitCode;
-
-/// The words after the program's name.
-fn arguments(rt: &HostRuntime) -> std::io::Result<Vec<String>> {
-    let alloc = rt.alloc();
-    let mut words = Vec::new(alloc);
-    for word in env::args(rt)?.skip(1) {
-        words.push(word)?;
-    }
-    Ok(words)
-}
-
-fn slices(alloc: Global, words: &[String]) -> Result<Vec<&str>, AllocError> {
-    words.iter().map(|word| word.as_str()).collect(alloc)
-}
+use vast_shell::{fail, with_words};
 
 fn main(rt: HostRuntime) -> ExitCode {
-    let alloc = rt.alloc();
     let mut err = rt.stderr();
-    let status = match arguments(&rt) {
-        Ok(words) => match slices(alloc, &words) {
-            Ok(words) => run(alloc, &words, &mut rt.stdout(), &mut err),
-            Err(error) => fail(BenchFault::Memory(error), &mut err),
-        },
-        Err(error) if error.kind() == ErrorKind::OutOfMemory => {
-            fail(BenchFault::Memory(AllocError), &mut err)
-        }
+    let answered = with_words(&rt, |words| run(rt.alloc(), words, &mut rt.stdout()));
+    let fault = match answered {
+        Ok(Ok(())) => return ExitCode::SUCCESS,
+        Ok(Err(fault)) => fault,
+        Err(error) if error.kind() == ErrorKind::OutOfMemory => BenchFault::Memory(AllocError),
         // A word that isn't UTF-8 names no design.
-        Err(_) => fail(BenchFault::Unknown, &mut err),
+        Err(_) => BenchFault::Unknown,
     };
-    ExitCode::from(status)
+    let status = fault.status();
+    ExitCode::from(fail(fault, status, &mut err))
 }

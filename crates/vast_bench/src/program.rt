@@ -7,26 +7,22 @@ use crate::nests::build_nests;
 use crate::sum::build_sum;
 use std::alloc::Global;
 use std::io::Write;
+use vast_shell::write_whole;
 use xlsynth_vast::{FileIds, VastFile, VastFileType};
 
 /// Builds a design for each three words, `DESIGN SIZE TIMES`, prints it so many times, and writes a line with the length
-/// of its text to `out`; where the word `text` stands for the times, the text itself. Answers the status: 0, or that of
-/// the first fault, whose words go to `err`.
-pub(crate) fn run<W: Write, E: Write>(
-    alloc: Global,
-    words: &[&str],
-    out: &mut W,
-    err: &mut E,
-) -> u8 {
+/// of its text to `out`; where the word `text` stands for the times, the text itself.
+///
+/// # Errors
+/// The first fault, which ends the run.
+pub(crate) fn run<W: Write>(alloc: Global, words: &[&str], out: &mut W) -> Result<(), BenchFault> {
     if words.is_empty() {
-        return fail(BenchFault::Words, err);
+        return Err(BenchFault::Words);
     }
     for three in words.chunks(3) {
-        if let Err(fault) = measure(alloc, three, out) {
-            return fail(fault, err);
-        }
+        measure(alloc, three, out)?;
     }
-    0
+    Ok(())
 }
 
 fn measure<W: Write>(alloc: Global, words: &[&str], out: &mut W) -> Result<(), BenchFault> {
@@ -39,12 +35,12 @@ fn measure<W: Write>(alloc: Global, words: &[&str], out: &mut W) -> Result<(), B
     build(design, size, &mut file)?;
     if *times == "text" {
         let text = file.emit()?;
-        return write(text.as_str(), out);
+        return Ok(write_whole(text.as_bytes(), out)?);
     }
     let times = number(times)?;
     let length = print_times(&file, times)?;
     let line = format!(in alloc; "{design} {size}: {length} bytes, {times} times\n")?;
-    write(line.as_str(), out)
+    Ok(write_whole(line.as_bytes(), out)?)
 }
 
 fn number(digits: &str) -> Result<usize, BenchFault> {
@@ -79,17 +75,4 @@ fn print_times(file: &VastFile, times: usize) -> Result<usize, BenchFault> {
         length = text.len();
     }
     Ok(length)
-}
-
-fn write<W: Write>(text: &str, out: &mut W) -> Result<(), BenchFault> {
-    match out.write_all(text.as_bytes()) {
-        Ok(()) => Ok(()),
-        Err(_) => Err(BenchFault::Write),
-    }
-}
-
-/// Says what went wrong, and answers the status of it.
-pub(crate) fn fail<E: Write>(fault: BenchFault, err: &mut E) -> u8 {
-    let _ = writeln!(err, "{fault}");
-    fault.status()
 }

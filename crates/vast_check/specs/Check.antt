@@ -1,7 +1,7 @@
 -- What is read and found, and what is written of it.
 use Rattle.std.specs.Prelude.{ℕ, List, ◌++◌, codes, Option, IsUtf8}
 use Rattle.std.specs.Io.KnownBytes.{Appends}
-use Rattle.vast_input.specs.Input.{GivesAll}
+use Rattle.vast_shell.specs.Input.{GivesAll}
 use Rattle.vast_literal.specs.NormalFile.{NormalFile}
 use Rattle.vast_literal.specs.FileGrammar.{DerivesFile}
 

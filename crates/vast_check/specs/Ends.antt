@@ -1,5 +1,5 @@
 -- How a run ends.
-use Rattle.std.specs.Prelude.{ℕ, if◌then◌else◌, nat_lt}
+use Rattle.std.specs.Prelude.{ℕ}
 use Rattle.vast_check.specs.declared.outcome.Outcome.{Outcome}
 use Rattle.vast_check.specs.declared.outcome.Outcome.TheVariants.{Yes, No, Unread, Failed}
 use Rattle.vast_check.specs.declared.program.Trouble.{Trouble}
@@ -18,10 +18,6 @@ badness Yes = 0
 badness No = 1
 badness Unread = 2
 badness Failed = 3
-
--- the worse of two
-abbrev pub worse : Outcome → Outcome → Outcome
-worse one other = if nat_lt (badness one) (badness other) then other else one
 
 -- what becomes of a file or of a run that meets trouble
 abbrev pub outcome_of : Trouble → Outcome

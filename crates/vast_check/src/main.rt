@@ -18,31 +18,14 @@ use files::{answer_files, compare_files};
 use help::{HELP, VERSION};
 use outcome::Outcome;
 use program::{Trouble, tell};
-use std::alloc::{AllocError, Global};
-use std::env;
-use std::io::{ErrorKind, Write};
+use std::io::ErrorKind;
 use std::process::ExitCode;
+use vast_shell::{with_words, write_whole};
 use words::{Request, requested};
 
-/// The words after the program's name.
-fn arguments(rt: &HostRuntime) -> std::io::Result<Vec<String>> {
-    let mut words = Vec::new(rt.alloc());
-    for word in env::args(rt)?.skip(1) {
-        words.push(word)?;
-    }
-    Ok(words)
-}
-
-fn slices(alloc: Global, words: &[String]) -> Result<Vec<&str>, AllocError> {
-    words.iter().map(|word| word.as_str()).collect(alloc)
-}
-
 fn main(rt: HostRuntime) -> ExitCode {
-    let outcome = match arguments(&rt) {
-        Ok(words) => match slices(rt.alloc(), &words) {
-            Ok(words) => answer_words(&rt, &words),
-            Err(_) => tell(Trouble::Memory, &mut rt.stderr()),
-        },
+    let outcome = match with_words(&rt, |words| answer_words(&rt, words)) {
+        Ok(outcome) => outcome,
         Err(error) if error.kind() == ErrorKind::OutOfMemory => {
             tell(Trouble::Memory, &mut rt.stderr())
         }
@@ -62,7 +45,7 @@ fn answer_words(rt: &HostRuntime, words: &[&str]) -> Outcome {
 }
 
 fn print(rt: &HostRuntime, text: &str) -> Outcome {
-    match rt.stdout().write_all(text.as_bytes()) {
+    match write_whole(text.as_bytes(), &mut rt.stdout()) {
         Ok(()) => Outcome::Yes,
         Err(_) => tell(Trouble::Write, &mut rt.stderr()),
     }

@@ -1,10 +1,11 @@
 //! How a run ends.
 
 ghost use Rattle.std.specs.Prelude.{◌≡◌};
-ghost use Rattle.vast_check.specs.Ends.{status_of, worse};
+ghost use Rattle.vast_check.specs.Ends.{badness, status_of};
+ghost use Rattle.vast_shell.specs.Outcomes.{worse};
 
 /// What became of files.
-#[derive(Clone, Copy, Debug, PartialEq, Eq)]
+#[derive(Clone, Copy, Debug, PartialEq, Eq, PartialOrd, Ord)]
 pub enum Outcome {
     /// What was asked is so: each file is derived, or two are the same.
     Yes,
@@ -19,14 +20,9 @@ pub enum Outcome {
 impl Outcome {
     /// What became of these files and of the next: the worse of the two.
     pub fn and(self, next: Outcome) -> Outcome
-        ensures { result ≡ worse self next }
+        ensures { result ≡ worse badness self next }
     {
-        match (self, next) {
-            (Outcome::Failed, _) | (_, Outcome::Failed) => Outcome::Failed,
-            (Outcome::Unread, _) | (_, Outcome::Unread) => Outcome::Unread,
-            (Outcome::No, _) | (_, Outcome::No) => Outcome::No,
-            (Outcome::Yes, Outcome::Yes) => Outcome::Yes,
-        }
+        self.max(next)
     }
 
     /// The program's status.

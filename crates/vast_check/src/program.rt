@@ -2,18 +2,17 @@
 
 ghost use Rattle.std.specs.Prelude.{◌≡◌, ◌≢◌, ◌⊎◌, IfErr, IfOk, MatchResult, OnErr, OnOk, string_bytes};
 ghost use Rattle.std.specs.Io.KnownBytes.{Appends};
-ghost use Rattle.vast_input.specs.Input.{GivesAll, GivesSome};
+ghost use Rattle.vast_shell.specs.Input.{GivesAll, GivesSome};
 ghost use Rattle.vast_check.specs.Check.{IsDerived, derived_line, TellsDerived, TellsUnderived};
 ghost use Rattle.vast_check.specs.Ends.{outcome_of};
 
 use crate::answer::{Answer, answer_of};
 use crate::expected::Expected;
 use crate::outcome::Outcome;
-use crate::words::WordFault;
 use std::alloc::{AllocError, Global};
 use std::fmt::Write as _;
 use std::io::{Error, ErrorKind, Read, Write};
-use vast_input::{InputFault, read_input};
+use vast_shell::{InputFault, WordFault, read_input, write_whole};
 
 /// So many characters of a token are told.
 const MOST_SHOWN: usize = 24;
@@ -105,14 +104,14 @@ fn answer_bytes<W: Write, E: Write>(
     ensures silent { result ≢ Outcome.Failed → E.contents err.new ≡ E.contents err.old }
 {
     match answer_of(alloc, bytes) {
-        Ok(Answer::Derived) => write_line(derived_line(alloc, name), Outcome::Yes, out, err),
-        Ok(found) => write_line(underived_line(alloc, name, &found), Outcome::No, out, err),
+        Ok(Answer::Derived) => write_made(derived_line(alloc, name), Outcome::Yes, out, err),
+        Ok(found) => write_made(underived_line(alloc, name, &found), Outcome::No, out, err),
         Err(_) => tell(Trouble::Memory, err),
     }
 }
 
 /// Writes the line, where it was made. Else the run has failed.
-pub(crate) fn write_line<W: Write, E: Write>(
+pub(crate) fn write_made<W: Write, E: Write>(
     line: Result<String, AllocError>,
     outcome: Outcome,
     out: &mut W,
@@ -124,7 +123,7 @@ pub(crate) fn write_line<W: Write, E: Write>(
     ensures silent { result ≢ Outcome.Failed → E.contents err.new ≡ E.contents err.old }
 {
     match line {
-        Ok(line) => match out.write_all(line.as_bytes()) {
+        Ok(line) => match write_whole(line.as_bytes(), out) {
             Ok(()) => outcome,
             Err(_) => tell(Trouble::Write, err),
         },

@@ -8,7 +8,7 @@ ghost use Rattle.vast_check.specs.Internal.Check.{Compares};
 use crate::answer::{Answer, answer_of};
 use crate::difference::{Pair, difference, push_line_at, push_number};
 use crate::outcome::Outcome;
-use crate::program::{Trouble, tell, underived_line, write_line};
+use crate::program::{Trouble, tell, underived_line, write_made};
 use std::alloc::{AllocError, Global};
 use std::io::Write;
 use std::str;
@@ -48,8 +48,8 @@ pub(crate) fn compare<W: Write, E: Write>(
     ensures silent { result ≢ Outcome.Failed → E.contents err.new ≡ E.contents err.old }
 {
     match found_of(alloc, old.bytes, new.bytes) {
-        Ok(Found::Same) => write_line(same_line(alloc), Outcome::Yes, out, err),
-        Ok(Found::Different(texts)) => write_line(
+        Ok(Found::Same) => write_made(same_line(alloc), Outcome::Yes, out, err),
+        Ok(Found::Different(texts)) => write_made(
             difference_line(alloc, old.name, new.name, texts),
             Outcome::No,
             out,
@@ -124,7 +124,7 @@ fn tell_underived<W: Write, E: Write>(
 {
     match answer_of(alloc, source.bytes) {
         Ok(Answer::Derived) => Outcome::No,
-        Ok(answer) => write_line(
+        Ok(answer) => write_made(
             underived_line(alloc, source.name, &answer),
             Outcome::No,
             out,

@@ -1,7 +1,7 @@
 //! The words behind the program's name.
 
-use std::alloc::{AllocFailed, Global};
-use thiserror::Error;
+use std::alloc::Global;
+use vast_shell::WordFault;
 
 /// What the words ask for.
 #[derive(Drop)]
@@ -14,25 +14,6 @@ pub(crate) enum Request<'a> {
     Files(Vec<&'a str>),
     /// Whether the two files are the same.
     Same { old: &'a str, new: &'a str },
-}
-
-/// Why the words ask for nothing.
-#[derive(Debug, Drop, Error)]
-pub(crate) enum WordFault<'a> {
-    #[error("unknown word {0}")]
-    Unknown(&'a str),
-    #[error("{0} takes no file")]
-    WithFile(&'static str),
-    #[error("--same takes two files")]
-    NotTwo,
-    #[error("out of memory")]
-    Memory,
-}
-
-impl From<AllocFailed<&str>> for WordFault<'_> {
-    fn from(_failed: AllocFailed<&str>) -> Self {
-        WordFault::Memory
-    }
 }
 
 /// The words so far.
@@ -89,11 +70,11 @@ impl<'a> Seen<'a> {
         } else if self.version && self.files.is_empty() && !self.same {
             Ok(Request::Version)
         } else if self.version {
-            Err(WordFault::WithFile("--version"))
+            Err(WordFault::Takes("--version", "no file"))
         } else if self.same {
             match self.files.as_slice() {
                 [old, new] => Ok(Request::Same { old, new }),
-                _ => Err(WordFault::NotTwo),
+                _ => Err(WordFault::Takes("--same", "two files")),
             }
         } else {
             Ok(Request::Files(self.files))

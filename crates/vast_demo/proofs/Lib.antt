@@ -1,4 +1,3 @@
 pub mod Checking
 pub mod Naming
 pub mod ReadingBack
-pub mod Streams

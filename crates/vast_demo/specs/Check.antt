@@ -1,7 +1,8 @@
 -- What `check` reads, finds and writes.
-use Rattle.std.specs.Prelude.{◌≡◌, ◌↔◌, ℕ, ◌<◌, ◌+◌, Bool, true, false, IsTrue, List, ◌++◌, length, codes, Option, IsUtf8}
+use Rattle.std.specs.Prelude.{◌≡◌, ◌↔◌, ℕ, Bool, true, false, IsTrue, List, codes, Option, IsUtf8}
 use Rattle.std.specs.Io.KnownBytes.{Appends}
-use Rattle.vast_input.specs.Input.{GivesAll, GivesSome}
+use Rattle.vast_shell.specs.Input.{GivesAll, GivesSome}
+use Rattle.vast_shell.specs.Output.{AppendsFront, AppendsPart}
 use Rattle.vast_literal.specs.NormalFile.{NormalFile}
 use Rattle.vast_literal.specs.FileGrammar.{DerivesFile}
 
@@ -21,14 +22,6 @@ IsAnswer before after answer = (bytes : List ℕ) × GivesAll before after bytes
 abbrev pub answer_line : (derived : Bool) → List ℕ
 answer_line true = codes "derived\n"
 answer_line false = codes "not derived\n"
-
--- known bytes grow by a front of the line, maybe by all of it
-abbrev pub AppendsFront : Option (List ℕ) → Option (List ℕ) → List ℕ → Type 0
-AppendsFront old new line = (part : List ℕ) × (rest : List ℕ) × (part ++ rest ≡ line) × Appends old new part
-
--- known bytes grow by a front of the line, and not by all of it
-abbrev pub AppendsPart : Option (List ℕ) → Option (List ℕ) → List ℕ → Type 0
-AppendsPart old new line = (part : List ℕ) × (rest : List ℕ) × (part ++ rest ≡ line) × (0 < length rest) × Appends old new part
 
 -- How a check ends: what it read from an input, what it wrote to an output and told beside it, and its status.
 pub data CheckEnds (before after old new untold told : Option (List ℕ)) : (status : ℕ) → Type 0 where

@@ -1,7 +1,7 @@
 //! Whether the grammar derives what is read.
 
 ghost use Rattle.std.specs.Prelude.{◌↔◌, IsTrue, IfOk, OnErr};
-ghost use Rattle.vast_input.specs.Input.{GivesSome};
+ghost use Rattle.vast_shell.specs.Input.{GivesSome};
 ghost use Rattle.vast_demo.specs.Check.{IsAnswer, IsDerived, IsDerivedText};
 
 mod read_back;
@@ -11,7 +11,7 @@ mod tests;
 use std::alloc::{AllocError, Global};
 use std::io::Read;
 use std::str;
-use vast_input::{InputFault, read_input};
+use vast_shell::{InputFault, read_input};
 
 /// Whether all that the reader gives is the UTF-8 of a text that the grammar derives.
 ///

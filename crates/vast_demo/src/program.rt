@@ -1,17 +1,18 @@
 //! What the program does with its words and its streams.
 
-ghost use Rattle.std.specs.Prelude.{◌≡◌, ◌≤◌, true, false, IsNone, IsSome, IfSome, MatchResult, string_bytes};
+ghost use Rattle.std.specs.Prelude.{◌≡◌, ◌≤◌, true, false, IsNone, IsSome, IfSome};
 ghost use Rattle.std.specs.Io.KnownBytes.{Appends};
-ghost use Rattle.vast_demo.specs.Check.{AppendsFront, CheckEnds};
+ghost use Rattle.vast_demo.specs.Check.{CheckEnds, answer_line};
 ghost use Rattle.vast_demo.specs.Words.{text_of, design_text, is_check};
 
 use crate::check::check;
-use crate::output::{WriteFault, write_line};
 use std::alloc::Global;
-use std::fmt::Display;
 use std::io::{Read, Write};
 use vast_designs::{cases, passthrough, registers};
-use vast_input::InputFault;
+use vast_shell::{Failure, InputFault, WriteFault, print, tell, write_whole};
+
+/// The line that tells of other words.
+const UNKNOWN: &str = "unknown design\n";
 
 /// Prints the design that the one word names to `out`, or checks `input`, and answers the status.
 ///
@@ -51,7 +52,7 @@ pub fn run<R: Read, W: Write, E: Write>(
                 print_named(alloc, word, out, err)
             }
         }
-        _ => unknown(err),
+        _ => tell(UNKNOWN, 2, err),
     }
 }
 
@@ -64,39 +65,13 @@ fn print_named<W: Write, E: Write>(alloc: Global, name: &str, out: &mut W, err: 
     ensures silent { result ≡ 0 → E.contents err.new ≡ E.contents err.old }
 {
     if name == "passthrough" {
-        print_design(passthrough(alloc), out, err)
+        print(passthrough(alloc), out, err)
     } else if name == "cases" {
-        print_design(cases(alloc), out, err)
+        print(cases(alloc), out, err)
     } else if name == "registers" {
-        print_design(registers(alloc), out, err)
+        print(registers(alloc), out, err)
     } else {
-        unknown(err)
-    }
-}
-
-fn unknown<E: Write>(err: &mut E) -> u8
-    ensures { result ≡ 2 }
-{
-    let _ = err.write_all(b"unknown design\n");
-    2
-}
-
-fn print_design<F: Display + Drop, W: Write, E: Write>(
-    text: Result<String, F>,
-    out: &mut W,
-    err: &mut E,
-) -> u8
-    ensures status { result ≤ 1 }
-    ensures written { result ≡ 0 → MatchResult text
-        (λ t. Appends (W.contents out.old) (W.contents out.new) (string_bytes t)) (λ _. ⊥) }
-    ensures silent { result ≡ 0 → E.contents err.new ≡ E.contents err.old }
-{
-    match text {
-        Ok(text) => match out.write_all(text.as_bytes()) {
-            Ok(()) => 0,
-            Err(_) => fail("write fault", err),
-        },
-        Err(fault) => fail(fault, err),
+        tell(UNKNOWN, 2, err)
     }
 }
 
@@ -112,52 +87,31 @@ fn print_answer<R: Read, W: Write, E: Write>(
     ensures silent { result ≡ 0 → E.contents err.new ≡ E.contents err.old }
 {
     match check(alloc, input) {
-        Ok(true) => match write_line(b"derived\n", out) {
-            Ok(()) => 0,
-            Err(WriteFault) => tell(b"write fault\n", err),
+        Ok(is_derived) => match write_whole(answer_line(is_derived).as_bytes(), out) {
+            Ok(()) => u8::from(!is_derived),
+            Err(WriteFault) => tell(Failure::Write.line(), 1, err),
         },
-        Ok(false) => match write_line(b"not derived\n", out) {
-            Ok(()) => 1,
-            Err(WriteFault) => tell(b"write fault\n", err),
-        },
-        Err(InputFault::Read(_) | InputFault::Length | InputFault::Reads) => tell(
-            b"read fault\n",
-            err,
-        ),
-        Err(InputFault::Memory) => tell(b"out of memory\n", err),
+        Err(InputFault::Memory) => tell(Failure::Memory.line(), 1, err),
+        Err(_) => tell(Failure::Read.line(), 1, err),
     }
 }
 
-/// Writes the line of a fault, or a front of it, and answers the status.
-fn tell<E: Write>(line: &[u8], err: &mut E) -> u8
-    ensures status { result ≡ 1 }
-    ensures told { AppendsFront (E.contents err.old) (E.contents err.new) line.now }
+/// The line that answers.
+fn answer_line(is_derived: bool) -> &'static str
+    ensures { result.now ≡ answer_line is_derived }
 {
-    let _ = write_line(line, err);
-    1
-}
-
-fn fail<F: Display + Drop, E: Write>(fault: F, err: &mut E) -> u8
-    ensures { result ≡ 1 }
-{
-    let _ = writeln!(err, "{fault}");
-    1
+    if is_derived {
+        "derived\n"
+    } else {
+        "not derived\n"
+    }
 }
 
 #[cfg(test)]
 mod tests {
     use super::run;
     use std::io;
-    use std::io::{Read, Write};
-
-    #[derive(Drop)]
-    struct NoInput;
-
-    impl Read for NoInput {
-        fn read(&mut self, _buf: &mut [u8]) -> io::Result<usize> {
-            Ok(0)
-        }
-    }
+    use std::io::Write;
 
     #[derive(Drop)]
     struct Closed;
@@ -191,7 +145,10 @@ mod tests {
         ] {
             let mut out: Vec<u8> = Vec::new(alloc);
             let mut err: Vec<u8> = Vec::new(alloc);
-            assert_eq!(rt; run(alloc, &[word], &mut NoInput, &mut out, &mut err), 0);
+            assert_eq!(rt;
+                run(alloc, &[word], &mut io::empty(), &mut out, &mut err),
+                0
+            );
             assert!(rt; err.is_empty());
             assert!(rt; out.as_slice() == text.as_bytes());
         }
@@ -202,10 +159,10 @@ mod tests {
         let alloc = rt.alloc();
         let mut out: Vec<u8> = Vec::new(alloc);
         let mut err: Vec<u8> = Vec::new(alloc);
-        assert_eq!(rt; run(alloc, &[], &mut NoInput, &mut out, &mut err), 2);
-        assert_eq!(rt; run(alloc, &["x"], &mut NoInput, &mut out, &mut err), 2);
+        assert_eq!(rt; run(alloc, &[], &mut io::empty(), &mut out, &mut err), 2);
+        assert_eq!(rt; run(alloc, &["x"], &mut io::empty(), &mut out, &mut err), 2);
         let twice = ["passthrough", "passthrough"];
-        assert_eq!(rt; run(alloc, &twice, &mut NoInput, &mut out, &mut err), 2);
+        assert_eq!(rt; run(alloc, &twice, &mut io::empty(), &mut out, &mut err), 2);
         assert!(rt; out.is_empty());
         let said = "unknown design\nunknown design\nunknown design\n";
         assert!(rt; err.as_slice() == said.as_bytes());
@@ -215,13 +172,19 @@ mod tests {
     fn says_that_a_write_failed(rt: HostRuntime) {
         let alloc = rt.alloc();
         let mut err: Vec<u8> = Vec::new(alloc);
-        let status = run(alloc, &["passthrough"], &mut NoInput, &mut Closed, &mut err);
+        let status = run(
+            alloc,
+            &["passthrough"],
+            &mut io::empty(),
+            &mut Closed,
+            &mut err,
+        );
         assert_eq!(rt; status, 1);
         assert!(rt; err.as_slice() == "write fault\n".as_bytes());
         let status = run(
             alloc,
             &["passthrough"],
-            &mut NoInput,
+            &mut io::empty(),
             &mut Closed,
             &mut Closed,
         );

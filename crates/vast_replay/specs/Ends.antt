@@ -1,5 +1,5 @@
 -- How a run ends.
-use Rattle.std.specs.Prelude.{ℕ, if◌then◌else◌, nat_lt}
+use Rattle.std.specs.Prelude.{ℕ}
 use Rattle.vast_replay.specs.declared.outcome.Outcome.{Outcome}
 use Rattle.vast_replay.specs.declared.outcome.Outcome.TheVariants.{Made, Warned, Told, Refused, NotInForm, Failed}
 
@@ -20,7 +20,3 @@ badness Told = 2
 badness Refused = 3
 badness NotInForm = 4
 badness Failed = 5
-
--- the worse of two
-abbrev pub worse : Outcome → Outcome → Outcome
-worse one other = if nat_lt (badness one) (badness other) then other else one

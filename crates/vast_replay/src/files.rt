@@ -1,47 +1,24 @@
 //! The files that the program is given.
 
-use crate::failure::{Failure, fail, tell};
 use crate::input::{Taken, take_input};
 use crate::outcome::Outcome;
 use crate::program::{Manner, answer_taken, run};
-use crate::words::{Form, Linting};
-use std::io::{ErrorKind, IsTerminal, Write};
+use std::io::{ErrorKind, IsTerminal};
 use std::{fs, io};
-use vast_list::{Tries, tried};
+use vast_list::tried;
+use vast_shell::{Failure, ended, tell};
 
 /// Answers the lists of the files in order, or of standard input where there are none.
 ///
 /// A file that can't be read is told, and the files behind it are answered.
-pub(crate) fn answer_files(
-    rt: &HostRuntime,
-    form: Form,
-    again: bool,
-    map: bool,
-    lint: Linting,
-    files: &[&str],
-) -> Outcome {
-    let tries = if again { Tries::Again } else { Tries::Once };
-    let source = "<stdin>";
-    let manner = Manner {
-        form,
-        map,
-        lint,
-        tries,
-        source,
-    };
+pub(crate) fn answer_files(rt: &HostRuntime, manner: Manner<'_>, files: &[&str]) -> Outcome {
     if files.is_empty() {
         if rt.stdin().is_terminal() {
-            let _ = rt.stderr().write_all(
-                b"vast_replay: reads a list from the terminal, to its end; --help tells more\n",
-            );
+            let line =
+                "vast_replay: reads a list from the terminal, to its end; --help tells more\n";
+            tell(line, (), &mut rt.stderr());
         }
-        return run(
-            rt.alloc(),
-            manner,
-            &mut rt.stdin(),
-            &mut rt.stdout(),
-            &mut rt.stderr(),
-        );
+        return answer_stdin(rt, manner);
     }
     let mut outcome = Outcome::Made;
     for file in files {
@@ -53,33 +30,45 @@ pub(crate) fn answer_files(
     outcome
 }
 
+fn answer_stdin(rt: &HostRuntime, manner: Manner<'_>) -> Outcome {
+    run(manner, &mut rt.stdin(), &mut rt.stdout(), &mut rt.stderr())
+}
+
 fn answer_file(rt: &HostRuntime, manner: Manner<'_>, file: &str) -> Outcome {
-    let alloc = rt.alloc();
-    let mut out = rt.stdout();
-    let mut err = rt.stderr();
     if file == "-" {
-        return run(alloc, manner, &mut rt.stdin(), &mut out, &mut err);
+        return answer_stdin(rt, manner);
     }
+    let mut err = rt.stderr();
     match read_file(rt, manner, file) {
         Ok(taken) => {
             let manner = Manner {
-                form: manner.form,
-                map: manner.map,
-                lint: manner.lint,
-                tries: manner.tries,
                 source: file,
+                ..manner
             };
-            answer_taken(alloc, manner, taken, &mut out, &mut err)
+            answer_taken(manner, taken, &mut rt.stdout(), &mut err)
         }
-        Err(error) if error.kind() == ErrorKind::OutOfMemory => fail(Failure::Memory, &mut err),
         Err(error) => {
-            let told = tried!(
-                manner.tries,
-                format!(in alloc; "vast_replay: {file}: {error}\n")
-            );
-            tell(told, &mut err)
+            let told = tell_unread(rt, manner, file, error);
+            ended(told, Outcome::Failed, &mut err)
         }
     }
+}
+
+/// Tells why a file can't be read.
+fn tell_unread(
+    rt: &HostRuntime,
+    manner: Manner<'_>,
+    file: &str,
+    error: io::Error,
+) -> Result<Outcome, Failure> {
+    if error.kind() == ErrorKind::OutOfMemory {
+        return Err(Failure::Memory);
+    }
+    let told = tried!(
+        manner.tries,
+        format!(in rt.alloc(); "vast_replay: {file}: {error}\n")
+    )?;
+    Ok(tell(&told, Outcome::NotInForm, &mut rt.stderr()))
 }
 
 fn read_file(rt: &HostRuntime, manner: Manner<'_>, file: &str) -> io::Result<Taken> {

@@ -1,10 +1,11 @@
 //! How a run ends.
 
 ghost use Rattle.std.specs.Prelude.{◌≡◌};
-ghost use Rattle.vast_replay.specs.Ends.{status_of, worse};
+ghost use Rattle.vast_replay.specs.Ends.{badness, status_of};
+ghost use Rattle.vast_shell.specs.Outcomes.{worse};
 
 /// What became of lists.
-#[derive(Clone, Copy, PartialEq)]
+#[derive(Clone, Copy, PartialEq, Eq, PartialOrd, Ord)]
 pub enum Outcome {
     /// All of them were made.
     Made,
@@ -23,18 +24,11 @@ pub enum Outcome {
 impl Outcome {
     /// What became of these lists and of the next: the worse of the two.
     pub fn and(self, next: Outcome) -> Outcome
-        ensures worst { result ≡ worse self next }
+        ensures worst { result ≡ worse badness self next }
         ensures made { result ≡ Outcome.Made → next ≡ Outcome.Made }
         ensures both { result ≡ Outcome.Made → self ≡ Outcome.Made }
     {
-        match (self, next) {
-            (Outcome::Failed, _) | (_, Outcome::Failed) => Outcome::Failed,
-            (Outcome::NotInForm, _) | (_, Outcome::NotInForm) => Outcome::NotInForm,
-            (Outcome::Refused, _) | (_, Outcome::Refused) => Outcome::Refused,
-            (Outcome::Told, _) | (_, Outcome::Told) => Outcome::Told,
-            (Outcome::Warned, _) | (_, Outcome::Warned) => Outcome::Warned,
-            (Outcome::Made, Outcome::Made) => Outcome::Made,
-        }
+        self.max(next)
     }
 
     /// The program's status.

@@ -5,23 +5,25 @@ ghost use Rattle.std.specs.Io.KnownBytes.{IsAtEnd};
 ghost use Rattle.vast_list.specs.Output.{is_made};
 ghost use Rattle.vast_replay.specs.Input.{GivesTaken, PrintsInput, PrintsTexts, WritesMade, WritesTaken};
 
-use crate::failure::{Failure, fail};
 use crate::input::{Taken, split_lists, take_input};
 use crate::outcome::Outcome;
 use crate::words::{Form, Linting};
 use std::alloc::{AllocError, Global};
 use std::fmt::Write as _;
 use std::io;
-use std::io::{ErrorKind, Read, Write};
+use std::io::{Read, Write};
 use vast_list::{
     ListLines, ListOutput, Plainness, Tries, Verdict, json_with_map, list_json, list_origins,
     list_output, list_plainness, tried,
 };
+use vast_shell::{Failure, ended, tell, write_whole};
 use vast_talk::{LineWarning, json_with_warnings, list_warnings};
 
 /// How lists are answered.
 #[derive(Clone, Copy)]
 pub struct Manner<'a> {
+    /// Where memory is asked for.
+    pub alloc: Global,
     /// What is printed of each.
     pub form: Form,
     /// Whether each line of a text is printed behind the line of the list that it comes from.
@@ -61,7 +63,6 @@ impl Manner<'_> {
 ///
 /// The contract says what the outcome `Made` promises of the streams; the rest of this is tested, not proved.
 pub fn run<R: Read, W: Write, E: Write>(
-    alloc: Global,
     manner: Manner<'_>,
     input: &mut R,
     out: &mut W,
@@ -73,30 +74,28 @@ pub fn run<R: Read, W: Write, E: Write>(
         → PrintsInput (R.remaining input.old) (R.remaining input.new)
         (W.contents out.old) (W.contents out.new) }
 {
-    match read(alloc, manner, input) {
-        Ok(taken) => answer_taken(alloc, manner, taken, out, err),
-        Err(error) if error.kind() == ErrorKind::OutOfMemory => fail(Failure::Memory, err),
-        Err(_) => fail(Failure::Read, err),
+    match read(manner, input) {
+        Ok(taken) => answer_taken(manner, taken, out, err),
+        Err(error) => tell(Failure::of_read(error).line(), Outcome::Failed, err),
     }
 }
 
 /// Reads an input to its end.
-fn read<R: Read>(alloc: Global, manner: Manner<'_>, input: &mut R) -> io::Result<Taken>
+fn read<R: Read>(manner: Manner<'_>, input: &mut R) -> io::Result<Taken>
     ensures end { OnOk result (IsAtEnd (R.remaining input.new)) }
     ensures taken { PrintsTexts manner.entry
         → IfOk result (GivesTaken (R.remaining input.old) (R.remaining input.new)) }
 {
     if manner.takes_lines_once() {
-        return take_input(alloc, input);
+        return take_input(manner.alloc, input);
     }
-    let mut bytes = Vec::new(alloc);
+    let mut bytes = Vec::new(manner.alloc);
     tried!(manner.tries, input.read_to_end(&mut bytes))?;
     Ok(Taken::Bytes(bytes))
 }
 
 /// Answers what is read of an input, as `run` does.
 pub(crate) fn answer_taken<W: Write, E: Write>(
-    alloc: Global,
     manner: Manner<'_>,
     taken: Taken,
     out: &mut W,
@@ -106,137 +105,110 @@ pub(crate) fn answer_taken<W: Write, E: Write>(
     ensures printed { result ≡ Outcome.Made → manner.entry.form ≡ Form.Text
         → WritesTaken taken (W.contents out.old) (W.contents out.new) }
 {
-    match taken {
-        Taken::Bytes(bytes) => answer_lists(alloc, manner, &bytes, out, err),
-        Taken::List(made) => answer_made(alloc, manner, false, made, out, err),
-    }
+    let answered = match taken {
+        Taken::Bytes(bytes) => answer_lists(manner, &bytes, out, err),
+        Taken::List(made) => answer_made(manner, false, made, out, err),
+    };
+    ended(answered, Outcome::Failed, err)
 }
 
 /// Answers the lists of an input.
 fn answer_lists<W: Write, E: Write>(
-    alloc: Global,
     manner: Manner<'_>,
     input: &[u8],
     out: &mut W,
     err: &mut E,
-) -> Outcome
-    ensures { result ≡ Outcome.Made → E.contents err.new ≡ E.contents err.old }
+) -> Result<Outcome, Failure>
+    ensures { IfOk result (λ o. o ≡ Outcome.Made → E.contents err.new ≡ E.contents err.old) }
 {
-    let Ok(lists) = tried!(manner.tries, split_lists(alloc, input)) else {
-        return fail(Failure::Memory, err);
-    };
+    let lists = tried!(manner.tries, split_lists(manner.alloc, input))?;
     let mut outcome = Outcome::Made;
     for list in &lists {
-        outcome = outcome.and(answer_list(alloc, manner, list, out, err));
-        if outcome == Outcome::Failed {
-            break;
-        }
+        outcome = outcome.and(answer_list(manner, list, out, err)?);
     }
-    outcome
+    Ok(outcome)
 }
 
 fn answer_list<W: Write, E: Write>(
-    alloc: Global,
     manner: Manner<'_>,
     list: &ListLines<'_>,
     out: &mut W,
     err: &mut E,
-) -> Outcome
-    ensures { result ≡ Outcome.Made → E.contents err.new ≡ E.contents err.old }
+) -> Result<Outcome, Failure>
+    ensures { IfOk result (λ o. o ≡ Outcome.Made → E.contents err.new ≡ E.contents err.old) }
 {
     match manner.form {
-        Form::Text | Form::Faults => answer_text(alloc, manner, list, out, err),
-        Form::Json => answer_json(alloc, manner, list, out, err),
-        Form::Plain => answer_plain(alloc, manner, list, out, err),
+        Form::Text | Form::Faults => answer_text(manner, list, out, err),
+        Form::Json => answer_json(manner, list, out, err),
+        Form::Plain => answer_plain(manner, list, out, err),
     }
 }
 
 /// Answers one list to `out`, its output in one piece, and its faults to `err`.
 fn answer_text<W: Write, E: Write>(
-    alloc: Global,
     manner: Manner<'_>,
     list: &ListLines<'_>,
     out: &mut W,
     err: &mut E,
-) -> Outcome
-    ensures { result ≡ Outcome.Made → E.contents err.new ≡ E.contents err.old }
+) -> Result<Outcome, Failure>
+    ensures { IfOk result (λ o. o ≡ Outcome.Made → E.contents err.new ≡ E.contents err.old) }
 {
-    let Ok(made) = list_output(alloc, manner.tries, list) else {
-        return fail(Failure::Memory, err);
-    };
-    let Ok(made) = mapped(alloc, manner, list, made) else {
-        return fail(Failure::Memory, err);
-    };
-    let outcome = answer_made(alloc, manner, list.title.is_some(), made, out, err);
-    if outcome == Outcome::Failed {
-        return outcome;
-    }
-    outcome.and(tell_warnings(alloc, manner, list, err))
+    let made = list_output(manner.alloc, manner.tries, list)?;
+    let made = mapped(manner, list, made)?;
+    let outcome = answer_made(manner, list.title.is_some(), made, out, err)?;
+    Ok(outcome.and(tell_warnings(manner, list, err)?))
 }
 
 /// Writes what one list gives to `out`, in one piece, and its faults to `err`.
 fn answer_made<W: Write, E: Write>(
-    alloc: Global,
     manner: Manner<'_>,
     has_title: bool,
     made: ListOutput,
     out: &mut W,
     err: &mut E,
-) -> Outcome
-    ensures silent { result ≡ Outcome.Made → E.contents err.new ≡ E.contents err.old }
-    ensures printed { result ≡ Outcome.Made → manner.entry.form ≡ Form.Text
-        → WritesMade made (W.contents out.old) (W.contents out.new) }
+) -> Result<Outcome, Failure>
+    ensures silent { IfOk result (λ o. o ≡ Outcome.Made
+        → E.contents err.new ≡ E.contents err.old) }
+    ensures printed { IfOk result (λ o. o ≡ Outcome.Made → manner.entry.form ≡ Form.Text
+        → WritesMade made (W.contents out.old) (W.contents out.new)) }
 {
-    let Ok(told) = tried!(manner.tries, told(alloc, manner.source, &made)) else {
-        return fail(Failure::Memory, err);
-    };
+    let told = tried!(manner.tries, told(manner, &made))?;
     let ListOutput {
         output,
         verdict,
         ..
     } = made;
     if let (Form::Text, Some(output)) = (manner.form, &output) {
-        if out.write_all(output).is_err() {
-            return fail(Failure::Write, err);
-        }
+        write_whole(output, out)?;
     }
     let outcome = outcome_of(verdict, has_title);
     if outcome != Outcome::Made {
-        let _ = err.write_all(told.as_bytes());
+        tell(&told, (), err);
     }
-    outcome
+    Ok(outcome)
 }
 
 /// Answers to `out` whether the list's file is plain, where nothing of the list is at fault.
 fn answer_plain<W: Write, E: Write>(
-    alloc: Global,
     manner: Manner<'_>,
     list: &ListLines<'_>,
     out: &mut W,
     err: &mut E,
-) -> Outcome
-    ensures { result ≡ Outcome.Made → E.contents err.new ≡ E.contents err.old }
+) -> Result<Outcome, Failure>
+    ensures { IfOk result (λ o. o ≡ Outcome.Made → E.contents err.new ≡ E.contents err.old) }
 {
-    let outcome = answer_text(alloc, manner, list, out, err);
+    let outcome = answer_text(manner, list, out, err)?;
     if !matches!(outcome, Outcome::Made | Outcome::Warned) {
-        return outcome;
+        return Ok(outcome);
     }
-    let Ok((line, is_plain)) = tried!(manner.tries, plain_line(alloc, manner.source, list)) else {
-        return fail(Failure::Memory, err);
-    };
-    match out.write_all(line.as_bytes()) {
-        Ok(()) if is_plain => outcome,
-        Ok(()) => Outcome::Refused,
-        Err(_) => fail(Failure::Write, err),
-    }
+    let (line, is_plain) = tried!(manner.tries, plain_line(manner, list))?;
+    write_whole(line.as_bytes(), out)?;
+    Ok(if is_plain { outcome } else { Outcome::Refused })
 }
 
 /// The line that says whether the list's file is plain, and whether it is.
-fn plain_line(
-    alloc: Global,
-    source: &str,
-    list: &ListLines<'_>,
-) -> Result<(String, bool), AllocError> {
+fn plain_line(manner: Manner<'_>, list: &ListLines<'_>) -> Result<(String, bool), AllocError> {
+    let Manner { alloc, source, .. } = manner;
     match list_plainness(alloc, list)? {
         Some(found) => {
             let line = format!(in alloc; "{source}:{found}\n")?;
@@ -248,27 +220,22 @@ fn plain_line(
 
 /// Tells the list's warnings, where they are asked for, in one write.
 fn tell_warnings<E: Write>(
-    alloc: Global,
     manner: Manner<'_>,
     list: &ListLines<'_>,
     err: &mut E,
-) -> Outcome
-    ensures { result ≡ Outcome.Made → E.contents err.new ≡ E.contents err.old }
+) -> Result<Outcome, Failure>
+    ensures { IfOk result (λ o. o ≡ Outcome.Made → E.contents err.new ≡ E.contents err.old) }
 {
     if manner.lint == Linting::Off {
-        return Outcome::Made;
+        return Ok(Outcome::Made);
     }
-    let Ok(warnings) = tried!(manner.tries, list_warnings(alloc, list)) else {
-        return fail(Failure::Memory, err);
-    };
-    let Ok(told) = tried!(manner.tries, warned(alloc, manner.source, &warnings)) else {
-        return fail(Failure::Memory, err);
-    };
+    let warnings = tried!(manner.tries, list_warnings(manner.alloc, list))?;
+    let told = tried!(manner.tries, warned(manner, &warnings))?;
     let outcome = warned_outcome(manner.lint, warnings.is_empty());
     if outcome != Outcome::Made {
-        let _ = err.write_all(told.as_bytes());
+        tell(&told, (), err);
     }
-    outcome
+    Ok(outcome)
 }
 
 /// What becomes of lists where forms are told, or none.
@@ -282,7 +249,8 @@ fn warned_outcome(lint: Linting, is_clean: bool) -> Outcome {
 }
 
 /// The warnings, each in a line behind its source.
-fn warned(alloc: Global, source: &str, warnings: &[LineWarning]) -> Result<String, AllocError> {
+fn warned(manner: Manner<'_>, warnings: &[LineWarning]) -> Result<String, AllocError> {
+    let Manner { alloc, source, .. } = manner;
     let mut told = String::new(alloc);
     for warning in warnings {
         writeln!(told, "{source}:{warning}")?;
@@ -292,13 +260,12 @@ fn warned(alloc: Global, source: &str, warnings: &[LineWarning]) -> Result<Strin
 
 /// What the list gives; with a map each line of the file's text stands behind the line of the list that it comes from.
 fn mapped(
-    alloc: Global,
     manner: Manner<'_>,
     list: &ListLines<'_>,
     mut made: ListOutput,
 ) -> Result<ListOutput, AllocError> {
     if let (true, Some(output)) = (manner.map, &made.output) {
-        let (origins, _) = tried!(manner.tries, list_origins(alloc, list))?;
+        let (origins, _) = tried!(manner.tries, list_origins(manner.alloc, list))?;
         if let Some(origins) = origins {
             made.output = Some(tried!(manner.tries, origins.mapped(output))?);
         }
@@ -308,35 +275,24 @@ fn mapped(
 
 /// Answers one list to `out` by a line of JSON.
 fn answer_json<W: Write, E: Write>(
-    alloc: Global,
     manner: Manner<'_>,
     list: &ListLines<'_>,
     out: &mut W,
     err: &mut E,
-) -> Outcome
-    ensures { result ≡ Outcome.Made → E.contents err.new ≡ E.contents err.old }
+) -> Result<Outcome, Failure>
+    ensures { IfOk result (λ o. o ≡ Outcome.Made → E.contents err.new ≡ E.contents err.old) }
 {
-    let Ok((line, verdict)) = tried!(manner.tries, json(alloc, manner, list)) else {
-        return fail(Failure::Memory, err);
-    };
-    let Ok((line, linted)) = tried!(manner.tries, json_linted(alloc, manner, list, &line)) else {
-        return fail(Failure::Memory, err);
-    };
-    match out.write_all(line.as_bytes()) {
-        Ok(()) => outcome_of(verdict, list.title.is_some()).and(linted),
-        Err(_) => fail(Failure::Write, err),
-    }
+    let (line, verdict) = tried!(manner.tries, json(manner, list))?;
+    let (line, linted) = tried!(manner.tries, json_linted(manner, list, &line))?;
+    write_whole(line.as_bytes(), out)?;
+    Ok(outcome_of(verdict, list.title.is_some()).and(linted))
 }
 
 /// The list's line of JSON, with its map where that is asked for.
-fn json(
-    alloc: Global,
-    manner: Manner<'_>,
-    list: &ListLines<'_>,
-) -> Result<(String, Verdict), AllocError> {
-    let (line, verdict) = list_json(alloc, manner.source, list)?;
+fn json(manner: Manner<'_>, list: &ListLines<'_>) -> Result<(String, Verdict), AllocError> {
+    let (line, verdict) = list_json(manner.alloc, manner.source, list)?;
     if manner.map {
-        Ok((json_with_map(alloc, list, &line, verdict)?, verdict))
+        Ok((json_with_map(manner.alloc, list, &line, verdict)?, verdict))
     } else {
         Ok((line, verdict))
     }
@@ -344,16 +300,15 @@ fn json(
 
 /// The line with the list's warnings, where they are asked for.
 fn json_linted(
-    alloc: Global,
     manner: Manner<'_>,
     list: &ListLines<'_>,
     line: &str,
 ) -> Result<(String, Outcome), AllocError> {
     if manner.lint == Linting::Off {
-        return Ok((String::from_str(alloc, line)?, Outcome::Made));
+        return Ok((String::from_str(manner.alloc, line)?, Outcome::Made));
     }
-    let warnings = list_warnings(alloc, list)?;
-    let line = json_with_warnings(alloc, line, &warnings)?;
+    let warnings = list_warnings(manner.alloc, list)?;
+    let line = json_with_warnings(manner.alloc, line, &warnings)?;
     Ok((line, warned_outcome(manner.lint, warnings.is_empty())))
 }
 
@@ -369,7 +324,8 @@ fn outcome_of(verdict: Verdict, has_title: bool) -> Outcome
 }
 
 /// The faults of a list, each in a line behind its source.
-fn told(alloc: Global, source: &str, made: &ListOutput) -> Result<String, AllocError> {
+fn told(manner: Manner<'_>, made: &ListOutput) -> Result<String, AllocError> {
+    let Manner { alloc, source, .. } = manner;
     let mut told = String::new(alloc);
     for fault in &made.faults {
         writeln!(told, "{source}:{fault}")?;

@@ -7,11 +7,11 @@ ghost use Rattle.vast_talk.specs.Linted.{IsTalking};
 ghost use Rattle.vast_replay.specs.Sessions.{IsBegun, WritesReplies};
 ghost use Rattle.vast_replay.specs.Internal.Sessions.{HasRepliedAll, IsWithoutFeed, ReadsLine};
 
-use crate::failure::{Failure, fail};
 use crate::outcome::Outcome;
 use std::alloc::Global;
 use std::io;
-use std::io::{BufRead, ErrorKind, Write};
+use std::io::{BufRead, Write};
+use vast_shell::{Failure, WriteFault, ended, write_whole};
 use vast_talk::Talk;
 
 /// Answers each line of `input` by a line of JSON on `out`, written through at once, to the end of the input; with `lint`
@@ -33,48 +33,38 @@ pub fn answer_lines<R: BufRead, W: Write, E: Write>(
         (λ bytes. WritesReplies lint (lines_of bytes) (W.contents out.old) (W.contents out.new)) }
 {
     let mut talk = talk_of(alloc, lint);
-    let outcome = answer_each(alloc, &mut talk, input, out, err);
+    let answered = answer_each(alloc, &mut talk, input, out);
     drop(talk);
-    outcome
+    ended(answered, Outcome::Failed, err)
 }
 
 /// Answers each line in this talk.
-fn answer_each<R: BufRead, W: Write, E: Write>(
+fn answer_each<R: BufRead, W: Write>(
     alloc: Global,
     talk: &mut Talk,
     input: &mut R,
     out: &mut W,
-    err: &mut E,
-) -> Outcome
-    ensures made { result ≡ Outcome.Made → E.contents err.new ≡ E.contents err.old }
-    ensures replies { IsTalking talk.old → result ≡ Outcome.Made → IfSome (R.remaining input.old)
-        (λ bytes. HasRepliedAll bytes talk.old talk.new (W.contents out.old) (W.contents out.new)) }
+) -> Result<Outcome, Failure>
+    ensures { IsTalking talk.old → OnOk result (IfSome (R.remaining input.old)
+        (λ bytes. HasRepliedAll bytes talk.old talk.new (W.contents out.old) (W.contents out.new))) }
 {
     for _ in 0..u64::MAX {
         let line = match read_line(alloc, input) {
-            Ok(None) => return Outcome::Made,
             Ok(Some(line)) => line,
-            Err(error) if error.kind() == ErrorKind::OutOfMemory => {
-                return fail(Failure::Memory, err);
-            }
-            Err(_) => return fail(Failure::Read, err),
+            Ok(None) => return Ok(Outcome::Made),
+            Err(error) => return Err(Failure::of_read(error)),
         };
-        let Ok(reply) = talk.reply(&line) else {
-            return fail(Failure::Memory, err);
-        };
-        if write_through(out, &reply).is_err() {
-            return fail(Failure::Write, err);
-        }
+        write_through(out, &talk.reply(&line)?)?;
     }
-    fail(Failure::Lines, err)
+    Err(Failure::Lines)
 }
 
 /// Writes the text, and through to its end.
-fn write_through<W: Write>(out: &mut W, text: &str) -> io::Result<()>
+fn write_through<W: Write>(out: &mut W, text: &str) -> Result<(), WriteFault>
     ensures { OnOk result (Appends (W.contents out.old) (W.contents out.new) text.now) }
 {
-    out.write_all(text.as_bytes())?;
-    out.flush()
+    write_whole(text.as_bytes(), out)?;
+    out.flush().map_err(|_| WriteFault)
 }
 
 fn talk_of(alloc: Global, lint: bool) -> Talk

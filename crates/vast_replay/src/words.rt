@@ -1,7 +1,9 @@
 //! The words behind the program's name.
 
-use std::alloc::{AllocError, AllocFailed, Global};
-use thiserror::Error;
+use crate::program::Manner;
+use std::alloc::Global;
+use vast_list::Tries;
+use vast_shell::WordFault;
 
 /// What the words ask for.
 #[derive(Drop)]
@@ -21,14 +23,8 @@ pub(crate) enum Request<'a> {
     },
     /// Lists of files; of standard input where there are none.
     Lists {
-        /// What is printed of each list.
-        form: Form,
-        /// Whether what was refused memory is made once more.
-        again: bool,
-        /// Whether each line of a text is printed behind the line of the list that it comes from.
-        map: bool,
-        /// Which forms are told beside the faults.
-        lint: Linting,
+        /// How they are answered.
+        manner: Manner<'static>,
         /// The files' names, where `-` is standard input.
         files: Vec<&'a str>,
     },
@@ -58,25 +54,6 @@ pub enum Linting {
     Strict,
 }
 
-/// Why the words ask for nothing.
-#[derive(Debug, Drop, Error)]
-pub(crate) enum WordFault<'a> {
-    #[error("unknown word {0}")]
-    Unknown(&'a str),
-    #[error("{0} and {1} exclude each other")]
-    Together(&'static str, &'static str),
-    #[error("{0} takes no file")]
-    WithFile(&'static str),
-    #[error("out of memory")]
-    Memory,
-}
-
-impl From<AllocFailed<&str>> for WordFault<'_> {
-    fn from(_failed: AllocFailed<&str>) -> Self {
-        WordFault::Memory
-    }
-}
-
 /// What is asked for but for files, `--again`, `--map` and `--lint`.
 #[derive(Clone, Copy, PartialEq, Eq)]
 enum Mode {
@@ -90,24 +67,11 @@ enum Mode {
     Plain,
 }
 
-impl Mode {
-    fn word(self) -> &'static str {
-        match self {
-            Mode::Help => "--help",
-            Mode::Version => "--version",
-            Mode::Calls | Mode::CallsJson => "--calls",
-            Mode::Session => "--session",
-            Mode::Check => "--check",
-            Mode::Json => "--json",
-            Mode::Plain => "--plain",
-        }
-    }
-}
-
 /// The words so far.
 #[derive(Drop)]
 struct Seen<'a> {
-    mode: Option<Mode>,
+    /// With its word.
+    mode: Option<(Mode, &'static str)>,
     again: bool,
     map: bool,
     lint: Linting,
@@ -151,61 +115,70 @@ impl<'a> Seen<'a> {
             "--lint" if self.lint == Linting::Off => self.lint = Linting::Told,
             "--lint" => {}
             "--strict" => self.lint = Linting::Strict,
-            "--help" | "-h" => self.choose(Mode::Help)?,
-            "--version" | "-V" => self.choose(Mode::Version)?,
-            "--calls" => self.choose(Mode::Calls)?,
-            "--session" => self.choose(Mode::Session)?,
-            "--check" => self.choose(Mode::Check)?,
-            "--json" => self.choose(Mode::Json)?,
-            "--plain" => self.choose(Mode::Plain)?,
+            "--help" | "-h" => self.choose(Mode::Help, "--help")?,
+            "--version" | "-V" => self.choose(Mode::Version, "--version")?,
+            "--calls" => self.choose(Mode::Calls, "--calls")?,
+            "--session" => self.choose(Mode::Session, "--session")?,
+            "--check" => self.choose(Mode::Check, "--check")?,
+            "--json" => self.choose(Mode::Json, "--json")?,
+            "--plain" => self.choose(Mode::Plain, "--plain")?,
             _ => return Err(WordFault::Unknown(word)),
         }
         Ok(())
     }
 
-    fn choose(&mut self, mode: Mode) -> Result<(), WordFault<'a>> {
+    fn choose(&mut self, mode: Mode, word: &'static str) -> Result<(), WordFault<'a>> {
         self.mode = Some(match (self.mode, mode) {
-            (None, _) => mode,
-            (Some(Mode::Help), _) | (_, Mode::Help) => Mode::Help,
-            (Some(Mode::Calls | Mode::CallsJson), Mode::Json)
-            | (Some(Mode::Json | Mode::CallsJson), Mode::Calls) => Mode::CallsJson,
-            (Some(earlier), _) if earlier == mode => mode,
-            (Some(earlier), _) => return Err(WordFault::Together(earlier.word(), mode.word())),
+            (None, _) => (mode, word),
+            (Some((Mode::Help, _)), _) | (_, Mode::Help) => (Mode::Help, "--help"),
+            (Some((Mode::Calls | Mode::CallsJson, _)), Mode::Json)
+            | (Some((Mode::Json | Mode::CallsJson, _)), Mode::Calls) => (
+                Mode::CallsJson,
+                "--calls",
+            ),
+            (Some((earlier, _)), _) if earlier == mode => (mode, word),
+            (Some((_, earlier)), _) => return Err(WordFault::Together(earlier, word)),
         });
         Ok(())
     }
 
     fn request(self) -> Result<Request<'a>, WordFault<'a>> {
-        match self.mode {
-            None => Ok(self.lists(Form::Text)),
-            Some(Mode::Help) => Ok(Request::Help),
-            Some(Mode::Json) => Ok(self.lists(Form::Json)),
-            Some(mode) if self.again => Err(WordFault::Together("--again", mode.word())),
-            Some(mode) if self.map => Err(WordFault::Together("--map", mode.word())),
-            Some(Mode::Check) => Ok(self.lists(Form::Faults)),
-            Some(Mode::Plain) => Ok(self.lists(Form::Plain)),
-            Some(mode) if self.lint == Linting::Strict => {
-                Err(WordFault::Together("--strict", mode.word()))
-            }
-            Some(mode) if !self.files.is_empty() => Err(WordFault::WithFile(mode.word())),
-            Some(Mode::Session) => Ok(Request::Session {
+        let Some((mode, word)) = self.mode else {
+            return Ok(self.lists(Form::Text));
+        };
+        match mode {
+            Mode::Help => Ok(Request::Help),
+            Mode::Json => Ok(self.lists(Form::Json)),
+            _ if self.again => Err(WordFault::Together("--again", word)),
+            _ if self.map => Err(WordFault::Together("--map", word)),
+            Mode::Check => Ok(self.lists(Form::Faults)),
+            Mode::Plain => Ok(self.lists(Form::Plain)),
+            _ if self.lint == Linting::Strict => Err(WordFault::Together("--strict", word)),
+            _ if !self.files.is_empty() => Err(WordFault::Takes(word, "no file")),
+            Mode::Session => Ok(Request::Session {
                 lint: self.lint == Linting::Told,
             }),
-            Some(mode) if self.lint != Linting::Off => {
-                Err(WordFault::Together("--lint", mode.word()))
-            }
-            Some(Mode::Version) => Ok(Request::Version),
-            Some(Mode::Calls) => Ok(Request::Calls),
-            Some(Mode::CallsJson) => Ok(Request::CallsJson),
+            _ if self.lint != Linting::Off => Err(WordFault::Together("--lint", word)),
+            Mode::Version => Ok(Request::Version),
+            Mode::Calls => Ok(Request::Calls),
+            Mode::CallsJson => Ok(Request::CallsJson),
         }
     }
 
     fn lists(self, form: Form) -> Request<'a> {
         Request::Lists {
-            form,
-            again: self.again,
-            map: self.map,
-            lint: self.lint,
+            manner: Manner {
+                alloc: *self.files.allocator(),
+                form,
+                map: self.map,
+                lint: self.lint,
+                tries: if self.again {
+                    Tries::Again
+                } else {
+                    Tries::Once
+                },
+                source: "<stdin>",
+            },
             files: self.files,
         }
     }

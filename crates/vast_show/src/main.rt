@@ -4,38 +4,22 @@
 mod designs;
 mod program;
 
-use program::{fail, run};
-use std::alloc::{AllocError, Global};
-use std::env;
+use program::run;
 use std::io::ErrorKind;
 use std::process::ExitCode;
 use vast_examples::ExampleFault;
-
-/// The words after the program's name.
-fn arguments(rt: &HostRuntime) -> std::io::Result<Vec<String>> {
-    let alloc = rt.alloc();
-    let mut words = Vec::new(alloc);
-    for word in env::args(rt)?.skip(1) {
-        words.push(word)?;
-    }
-    Ok(words)
-}
-
-fn slices(alloc: Global, words: &[String]) -> Result<Vec<&str>, AllocError> {
-    words.iter().map(|word| word.as_str()).collect(alloc)
-}
+use vast_shell::{fail, with_words};
 
 fn main(rt: HostRuntime) -> ExitCode {
-    let alloc = rt.alloc();
     let mut err = rt.stderr();
-    let status = match arguments(&rt) {
-        Ok(words) => match slices(alloc, &words) {
-            Ok(words) => run(alloc, &words, &mut rt.stdout(), &mut err),
-            Err(error) => fail(error, &mut err),
-        },
-        Err(error) if error.kind() == ErrorKind::OutOfMemory => fail(error, &mut err),
+    let answered = with_words(&rt, |words| {
+        run(rt.alloc(), words, &mut rt.stdout(), &mut rt.stderr())
+    });
+    let status = match answered {
+        Ok(status) => status,
+        Err(error) if error.kind() == ErrorKind::OutOfMemory => fail(error, 1, &mut err),
         // A word that isn't UTF-8 names no example.
-        Err(_) => fail(ExampleFault::Unknown, &mut err),
+        Err(_) => fail(ExampleFault::Unknown, 1, &mut err),
     };
     ExitCode::from(status)
 }

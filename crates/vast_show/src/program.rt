@@ -1,14 +1,13 @@
 //! What the program does with its words.
 
-ghost use Rattle.std.specs.Prelude.{◌≡◌, ◌≤◌, length, IfOk, string_bytes};
-ghost use Rattle.vast_print.specs.Layout.{IsFileText};
+ghost use Rattle.std.specs.Prelude.{◌≡◌, ◌≤◌, length};
 ghost use Rattle.vast_show.specs.Shown.{ShowsFile, ShowsFiles};
 
 use crate::designs::{fifo, uart};
 use std::alloc::Global;
-use std::fmt::Display;
 use std::io::Write;
 use vast_examples::example;
+use vast_shell::print;
 
 /// Prints the example that each word names, in their order, and answers the status: 0, or 1 at the first word that
 /// names none, at a refusal or a fault, whose words go to `err`.
@@ -27,6 +26,7 @@ pub(crate) fn run<W: Write, E: Write>(alloc: Global, words: &[&str], out: &mut W
 }
 
 /// Prints one example: a queue, a transmitter, or one of `vast_examples`.
+#[tactic(auto, using(crate::proofs::Shown::shown))]
 fn show<W: Write, E: Write>(alloc: Global, word: &str, out: &mut W, err: &mut E) -> u8
     ensures status { result ≤ 1 }
     ensures shown { result ≡ 0 → ShowsFile (W.contents out.old) (W.contents out.new) }
@@ -39,32 +39,4 @@ fn show<W: Write, E: Write>(alloc: Global, word: &str, out: &mut W, err: &mut E)
     } else {
         print(example(alloc, word), out, err)
     }
-}
-
-/// Prints the text, or says why there is none.
-fn print<F: Display + Drop, W: Write, E: Write>(
-    text: Result<String, F>,
-    out: &mut W,
-    err: &mut E,
-) -> u8
-    requires { IfOk text (λ t. IsFileText (string_bytes t)) }
-    ensures status { result ≤ 1 }
-    ensures shown { result ≡ 0 → ShowsFile (W.contents out.old) (W.contents out.new) }
-    ensures silent { result ≡ 0 → E.contents err.new ≡ E.contents err.old }
-{
-    match text {
-        Ok(text) => match out.write_all(text.as_bytes()) {
-            Ok(()) => 0,
-            Err(_) => fail("write fault", err),
-        },
-        Err(fault) => fail(fault, err),
-    }
-}
-
-/// Says what went wrong, and answers the status of it.
-pub(crate) fn fail<F: Display + Drop, E: Write>(fault: F, err: &mut E) -> u8
-    ensures { result ≡ 1 }
-{
-    let _ = writeln!(err, "{fault}");
-    1
 }

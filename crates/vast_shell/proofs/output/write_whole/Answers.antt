@@ -1,8 +1,8 @@
 use Rattle.std.proofs.Common.{◌≡◌, ◌++◌, take, drop, ap, ◌∙◌}
 use Rattle.std.proofs.KnownBytes.{Appends-kept}
-use Rattle.vast_demo.proofs.Streams.{write_more, all_left}
-use Rattle.vast_demo.proofs.output.write_line.Goals as goal
-use Rattle.vast_demo.proofs.output.write_line.Goals.{in-Ok, in-Err+else-ne}
+use Rattle.vast_shell.proofs.Streams.{write_more, all_left}
+use Rattle.vast_shell.proofs.output.write_whole.Goals as goal
+use Rattle.vast_shell.proofs.output.write_whole.Goals.{in-Ok, in-Err+else-ne}
 
 pub loop-preserved : goal.loop-preserved
 loop-preserved g c =

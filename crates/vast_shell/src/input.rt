@@ -1,9 +1,8 @@
 //! Reading a whole input, of no more bytes than a checked text may have.
-#![tactic(auto)]
 
 ghost use Rattle.std.specs.Prelude.{◌≡◌, IfOk, IsErrOf, OnErr};
-ghost use Rattle.vast_input.specs.Input.{GivesAll, GivesSome, GivesTooMany};
-ghost use Rattle.vast_input.specs.declared.InputFault.TheVariants.{Memory};
+ghost use Rattle.vast_shell.specs.Input.{GivesAll, GivesSome, GivesTooMany};
+ghost use Rattle.vast_shell.specs.declared.input.InputFault.TheVariants.{Memory};
 
 use std::alloc::{AllocError, Global};
 use std::io::{ErrorKind, Read};

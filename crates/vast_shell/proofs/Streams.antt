@@ -1,5 +1,5 @@
 -- What reads and writes do to known bytes.
-use Rattle.std.proofs.Common.{◌≡◌, ℕ, ◌+◌, List, ◌++◌, Option, length, take, drop, ap, ◌∙◌, append_assoc, length-drop, take_all, ◌-◌, take-append-drop, arith}
+use Rattle.std.proofs.Common.{◌≡◌, ℕ, List, ◌++◌, Option, length, take, drop, ap, ◌∙◌, append_assoc, length-drop, take_all, ◌-◌, take-append-drop, arith}
 use Rattle.std.specs.Io.KnownBytes.{Appends}
 use Rattle.std.proofs.KnownBytes.{Appends-trans}
 

@@ -1,6 +1,6 @@
 use Rattle.std.proofs.Common.{rules}
-use Rattle.vast_input.proofs.Given.{given_more}
-use Rattle.vast_input.proofs.read_input.Goals as goal
+use Rattle.vast_shell.proofs.Given.{given_more}
+use Rattle.vast_shell.proofs.input.read_input.Goals as goal
 
 pub returns-in_err-extend_from_slice-in-Ok-clause-some : goal.returns-in_err-extend_from_slice-in-Ok-clause-some
 returns-in_err-extend_from_slice-in-Ok-clause-some g c =

@@ -1,6 +1,6 @@
 use Rattle.std.proofs.Common.{◌≡◌, ◌≤◌, length}
 use Rattle.std.specs.Io.KnownBytes.{Consumes}
-use Rattle.vast_input.proofs.read_input.Given as goal
+use Rattle.vast_shell.proofs.input.read_input.Given as goal
 
 -- what was read so far stands in the vector, and is not too long
 abbrev pub invariant-loop : goal.invariant-loop

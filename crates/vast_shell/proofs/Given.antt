@@ -2,7 +2,7 @@
 use Rattle.std.proofs.Common.{◌≡◌, ℕ, ◌≤◌, ◌+◌, ◌^◌, List, ◌++◌, Option, Result, Ok, Err, OnErr, length, take, length-append, arith}
 use Rattle.std.specs.Io.KnownBytes.{Consumes}
 use Rattle.std.proofs.KnownBytes.{Consumes-trans}
-use Rattle.vast_input.specs.Input.{GivesSome}
+use Rattle.vast_shell.specs.Input.{GivesSome}
 
 -- Whatever the result is, the reader gave this and that.
 pub given_more :

@@ -1,0 +1,4 @@
+pub mod Failures
+pub mod Input
+pub mod Outcomes
+pub mod Output
