@@ -22,8 +22,8 @@ DEFINITIONS = """# Definitions
 
 Written by `tools/believed/run --write` from the comments above the definitions, and the gate fails where it is not
 true. Here stands what the contracts of public functions speak of, file by file: all of each crate's `specs/` but its
-`Internal/`, whose files are named below each crate's table. [GLOSSARY](GLOSSARY.md) has the words of those that have
-no comment. The law over lists of calls, `vast_script::laws::prints_what_was_built`, rests on each definition that
+`Internal/`, whose files are named below each crate's table. [GLOSSARY](GLOSSARY.md) has words
+that are no definition. The law over lists of calls, `vast_script::laws::prints_what_was_built`, rests on each definition that
 stands upright; on one in italics rests another claim of [BELIEVED](BELIEVED.md); on one in brackets the contract of
 some other public function. Those without a comment of their own stand beside their file's.
 """

@@ -134,6 +134,7 @@ IsFresh dialect (Some kept) =
 abbrev pub IsPrinted : Session → String Global → Type 0
 IsPrinted session file = IsTextOf (tree session.file) (string_bytes file)
 
+-- The text of the open session is kept.
 abbrev pub Printed : (before after : Option Kept) → Type 0
 Printed (Some before) (Some after) = IsPrinted before.session after.file
 Printed _ _ = ⊥

@@ -33,6 +33,7 @@ use Rattle.vast_core.specs.Types.{ExprWellFormed, TypeWellFormed}
 use Rattle.vast_core.specs.Records.{Port, ModuleRecord, Definition, Artifact, BlankArtifact, CommentArtifact, InlineArtifact, MacroArtifact, InstanceRecord, FileItem, IsFree}
 use Rattle.vast_core.specs.Nests.{NestRecord, FunctionRecord, AlwaysRecord, nest_kind, is_kind, BlockKind, ConditionalKind, CaseStatementKind, LoopKind}
 
+-- What a file holds for its users: the trees of its nodes, its containers, the records of all else, its items.
 pub record Bench : Type 0 where
   pub file_type : VastFileType
   pub nodes : Nodes
@@ -73,6 +74,7 @@ trees_of b es = exprs_in b.nodes es
 abbrev pub has_root : (ExprTree → Bool) → Bench → ℕ → Bool
 has_root shape b i = is_root_of shape (slice_get b.nodes.roots i)
 
+-- The handle is the file's, and its index names an expression; so it is of each kind of handle below.
 abbrev pub OwnsExpr : Bench → Expr → Type 0
 OwnsExpr b e = IsOwned b.nodes.id e.id (is_expr_root (slice_get b.nodes.roots e.id.index))
 
@@ -186,6 +188,7 @@ abbrev pub names_of : Option ModuleRecord → List (List ℕ)
 names_of None = []
 names_of (Some m) = m.names
 
+-- No port, wire, reg, logic or function of the module has the name.
 abbrev pub NameIsFree : Bench → VastModule → List ℕ → Type 0
 NameIsFree b m name = IsFree name (names_of (slice_get b.modules m.id.index))
 

@@ -31,6 +31,7 @@ abbrev pub multiple : ℤ → Option ℤ → Option ℤ
 multiple p None = None
 multiple p (Some bits) = Some (p *ℤ bits)
 
+-- The product of all dimensions with the base's bits, where those are known.
 unfoldable pub bit_count : TypeTree → Option ℤ
 bit_count t = multiple (product (dimensions_of t)) (base_bits (base_of t))
 

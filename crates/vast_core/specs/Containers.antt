@@ -53,6 +53,7 @@ with_spare_block b = record (with_block b) { spare = Some (next_block b) }
 abbrev pub new_conditional : Bench → Expr → NestRecord
 new_conditional b condition = ConditionalNestRecord (record { condition = condition; consequent = record { id = next_id b (suc (length b.nests)) }; else_ifs = []; otherwise = None })
 
+-- A conditional more, whose first arm has an empty block.
 abbrev pub with_conditional : Expr → Bench → Bench
 with_conditional condition b = with_block (with_nest (new_conditional b condition) b)
 
@@ -60,6 +61,7 @@ with_conditional condition b = with_block (with_nest (new_conditional b conditio
 abbrev pub new_case : CaseKind → Expr → NestRecord
 new_case kind selector = CaseNestRecord (record { kind = kind; unique = false; selector = selector; arms = [] })
 
+-- A case statement more, without arms.
 abbrev pub with_case : CaseKind → Expr → Bench → Bench
 with_case kind selector b = with_nest (new_case kind selector) b
 
@@ -67,6 +69,7 @@ with_case kind selector b = with_nest (new_case kind selector) b
 abbrev pub with_nest_entry : ℕ → NestedEntry → Bench → Bench
 with_nest_entry place entry b = record b { nests = changed_at place (with_entry entry) b.nests }
 
+-- A statement more, at the end of the block.
 abbrev pub with_statement : VastStatementBlock → Statement → Bench → Bench
 with_statement owner s b = with_nest_entry owner.id.index (StatementEnters s) b
 
@@ -74,9 +77,11 @@ with_statement owner s b = with_nest_entry owner.id.index (StatementEnters s) b
 abbrev pub with_else_if : Conditional → Expr → Bench → Bench
 with_else_if owner condition b = with_nest_entry owner.id.index (ElseIfEnters (record { condition = condition; block = next_block b })) (with_block b)
 
+-- The conditional's `else`, with an empty block.
 abbrev pub with_else : Conditional → Bench → Bench
 with_else owner b = with_nest_entry owner.id.index (ElseEnters (next_block b)) (with_block b)
 
+-- An arm more of the case statement, with an empty block; without a label it is `default`.
 abbrev pub with_case_arm : CaseStatement → Option Expr → Bench → Bench
 with_case_arm owner label b = with_nest_entry owner.id.index (CaseArmEnters (record { label = label; block = next_block b })) (with_block b)
 
@@ -90,5 +95,6 @@ abbrev pub with_unique : Bool → NestRecord → NestRecord
 with_unique unique (CaseNestRecord c) = CaseNestRecord (record c { unique = unique })
 with_unique unique nest = nest
 
+-- The case statement is `unique`, or not.
 abbrev pub with_case_unique : CaseStatement → Bool → Bench → Bench
 with_case_unique c unique b = record b { nests = changed_at c.id.index (with_unique unique) b.nests }

@@ -26,9 +26,11 @@ names_by_member functions _ = []
 abbrev pub names_declared : List Port → List FunctionRecord → ModuleRecord → List (List ℕ)
 names_declared ports functions m = flat_map (names_by_port ports) m.ports ++ flat_map (names_by_member functions) m.members
 
+-- How often the name stands in the list.
 abbrev pub times : List ℕ → List (List ℕ) → ℕ
 times name names = count_by (bytes_eq name) names
 
+-- The names that the module declares are those that are taken, each once.
 pub record NamesSound (ports : List Port) (functions : List FunctionRecord) (m : ModuleRecord) : Type 0 where
   pub taken : (name : List ℕ) → times name (names_declared ports functions m) ≡ times name m.names
   pub once : (name : List ℕ) → times name m.names ≤ 1

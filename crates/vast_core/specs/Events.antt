@@ -9,6 +9,7 @@ abbrev pub IsWrongEvent : Bench → Option Expr → Type 0
 IsWrongEvent b None = ⊥
 IsWrongEvent b (Some e) = is_event (tree_of b e) ≡ false
 
+-- The expression at this place is no event, and all before it are.
 pub record IsFirstWrongEvent (b : Bench) (events : List Expr) (i : ℕ) : Type 0 where
   pub wrong : IsWrongEvent b (slice_get events i)
   pub before : All (EventSound b) (take i events)

@@ -44,6 +44,7 @@ with_root b r = record b { nodes = with_node b.nodes r }
 abbrev pub with_expr : ExprTree → Bench → Bench
 with_expr e b = with_root b (ExprRoot e)
 
+-- A type more.
 abbrev pub with_type : TypeTree → Bench → Bench
 with_type t b = with_root b (TypeRoot t)
 

@@ -25,5 +25,6 @@ members_of (Some m) = m.members
 abbrev pub with_members_hoisted : ℕ → ModuleRecord → ModuleRecord
 with_members_hoisted start m = record m { members = hoisted start m.members }
 
+-- The module's first members stay; of the rest the declarations come first.
 abbrev pub with_hoisted : VastModule → ℕ → Bench → Bench
 with_hoisted m start b = record b { modules = changed_at m.id.index (with_members_hoisted start) b.modules }

@@ -30,6 +30,7 @@ with_loop_member owner entry b = with_nest_entry owner.id.index (MemberEnters en
 abbrev pub new_always : Bench → AlwaysKind → List Expr → AlwaysRecord
 new_always b kind events = record { kind = kind; events = events; block = next_block b }
 
+-- An always block more, with an empty block.
 abbrev pub with_always : AlwaysKind → List Expr → Bench → Bench
 with_always kind events b = record (with_block b) { always_blocks = b.always_blocks ++ new_always b kind events ∷ [] }
 
@@ -37,6 +38,7 @@ with_always kind events b = record (with_block b) { always_blocks = b.always_blo
 abbrev pub new_loop : Bench → List ℕ → Expr → Expr → Option (List ℕ) → NestRecord
 new_loop b name start end label = LoopNestRecord (record { genvar = next_logic_ref b; name = name; start = start; end = end; label = label; members = [] })
 
+-- A loop more, without members, and its variable's name as an expression.
 abbrev pub with_loop : List ℕ → Expr → Expr → Option (List ℕ) → Bench → Bench
 with_loop name start end label b = with_expr (NameTree name Untyped) (with_nest (new_loop b name start end label) b)
 
@@ -44,6 +46,7 @@ with_loop name start end label b = with_expr (NameTree name Untyped) (with_nest 
 abbrev pub new_function : Bench → List ℕ → VastDataType → FunctionRecord
 new_function b name result_type = record { name = name; result_type = result_type; result_name = next_logic_ref b; inputs = []; locals = []; body = next_block b; names = with_name name [] }
 
+-- A function more, with an empty body and its result's name as an expression.
 abbrev pub with_function : List ℕ → VastDataType → Bench → Bench
 with_function name result_type b =
     with_expr (NameTree name (Typed (type_of b result_type))) (record (with_block b) { functions = b.functions ++ new_function b name result_type ∷ [] })

@@ -70,6 +70,7 @@ variable_names variables = map (λ v. v.name) variables
 abbrev pub declared_names : FunctionRecord → List (List ℕ)
 declared_names f = f.name ∷ (variable_names f.inputs ++ variable_names f.locals)
 
+-- An always block: its kind, its events and its block.
 pub record AlwaysRecord : Type 0 where
   pub kind : AlwaysKind
   pub events : List Expr

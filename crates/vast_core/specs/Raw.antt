@@ -14,6 +14,7 @@ use Rattle.vast_core.specs.declared.node.Instance.{Instance}
 use Rattle.vast_core.specs.declared.node.AlwaysBlock.{AlwaysBlock}
 use Rattle.vast_core.specs.declared.node.FileItem.{FileItem}
 
+-- What an `Ast` holds, node by node.
 pub record Raw : Type 0 where
   pub file_type : VastFileType
   pub id : ℕ

@@ -28,6 +28,7 @@ pub record ModuleRecord : Type 0 where
   pub members : List Member
   pub names : List (List ℕ)
 
+-- An instantiation: its names, its parameters and its connections.
 pub record InstanceRecord : Type 0 where
   pub module_name : List ℕ
   pub instance_name : List ℕ

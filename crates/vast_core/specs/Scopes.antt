@@ -10,10 +10,12 @@ use Rattle.vast_core.specs.Growth.{with_expr, with_member}
 use Rattle.vast_core.specs.Parameters.{form_name}
 use Rattle.vast_core.specs.Loops.{with_loop_member}
 
+-- The module or the loop is the file's.
 abbrev pub OwnsScope : Bench → Scope → Type 0
 OwnsScope b (ScopeModule m) = OwnsModule b m
 OwnsScope b (ScopeLoop l) = OwnsLoop b l
 
+-- A member more, at the end of the scope's members.
 abbrev pub with_scope_member : Scope → Member → Bench → Bench
 with_scope_member (ScopeModule m) entry b = with_member m entry b
 with_scope_member (ScopeLoop l) entry b = with_loop_member l entry b

@@ -61,6 +61,7 @@ MemberSound b (LoopEntry l) = OwnsLoop b l
 abbrev pub HoldsBlock : Bench → ℕ → VastStatementBlock → Type 0
 HoldsBlock b i c = OwnsBlock b c × i < c.id.index
 
+-- What the statement names is the file's, and what it holds is newer than the container of this number.
 abbrev pub StatementSound : Bench → ℕ → Statement → Type 0
 StatementSound b i (AssignStatement s) = OwnsStatement b s
 StatementSound b i (ContinuousStatement s) = OwnsStatement b s
@@ -145,6 +146,7 @@ is_event (PosEdgeTree operand) = true
 is_event (NegEdgeTree operand) = true
 is_event _ = false
 
+-- The expression is the file's, and an edge or a name.
 abbrev pub EventSound : Bench → Expr → Type 0
 EventSound b e = OwnsExpr b e × IsTrue (is_event (tree_of b e))
 
@@ -195,6 +197,7 @@ pub record KindsSound (modules : List ModuleRecord) (functions : List FunctionRe
   pub locals : Each HasLocalKinds functions
   pub values : Each GivesValues instances
 
+-- What records, lists and the spare block name is the file's; names are distinct, parents single, kinds as the grammar has them.
 pub record FileSound (b : Bench) : Type 0 where
   pub records : RecordsSound b
   pub spare : IfSome b.spare (OwnsBlock b)

@@ -15,6 +15,7 @@ use Rattle.vast_core.specs.Artifacts.{next_statement}
 use Rattle.vast_core.specs.Containers.{next_conditional, with_conditional, with_statement}
 use Rattle.vast_core.specs.Scopes.{OwnsScope, with_scope_member}
 
+-- The scope or the block is the file's.
 abbrev pub OwnsSpot : Bench → Spot → Type 0
 OwnsSpot b (ScopeSpot scope) = OwnsScope b scope
 OwnsSpot b (BlockSpot block) = OwnsBlock b block

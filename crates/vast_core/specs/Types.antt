@@ -48,6 +48,7 @@ base_is_signed (IntegerTree signed) = signed
 base_is_signed (IntTree signed) = signed
 base_is_signed _ = false
 
+-- The type within the arrays is signed.
 abbrev pub is_signed : TypeTree → Bool
 is_signed t = base_is_signed (base_of t)
 
@@ -90,6 +91,7 @@ abbrev mutual
   ExprWellFormed (CallTree name arguments) = ExprsWellFormed arguments
   ExprWellFormed MissingExpr = ⊥
 
+  -- The same of a type: its width is usable, its dimensions are such, what is packed may be.
   pub TypeWellFormed : TypeTree → Type 0
   TypeWellFormed (VectorTree width value signed) = (IsUsableWidth width × (value ≡ literal_value width)) × ExprWellFormed width
   TypeWellFormed (PackedTree element dimensions) = (IsTrue (is_packable element) × AreDimensions dimensions) × TypeWellFormed element

@@ -6,6 +6,7 @@ use Rattle.vast_core.specs.Records.{module_record, instance_record}
 use Rattle.vast_core.specs.Nests.{nest_record, function_record, always_record}
 use Rattle.vast_core.specs.Bench.{Bench}
 
+-- The bench of what an `Ast` holds.
 unfoldable pub bench : Raw → Bench
 bench a =
     record {

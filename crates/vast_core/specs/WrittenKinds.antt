@@ -16,10 +16,12 @@ abbrev pub IsVariableKind : (local : Bool) → DataKind → Type 0
 IsVariableKind false kind = Unit {0}
 IsVariableKind true kind = IsTrue (is_local_word kind)
 
+-- A declaration among the module's members is a wire, a reg or a logic.
 abbrev pub HasOwnKind : Member → Type 0
 HasOwnKind (DeclarationEntry kind name data_type) = IsOwnKind kind
 HasOwnKind _ = Unit {0}
 
+-- The function's local is a reg or a logic.
 abbrev pub HasLocalKind : FunctionVariable → Type 0
 HasLocalKind v = IsVariableKind true v.kind
 
@@ -27,5 +29,6 @@ abbrev pub IsGiven : Option Expr → Type 0
 IsGiven None = ⊥
 IsGiven (Some value) = Unit {0}
 
+-- The instance's parameter has a value.
 abbrev pub HasValue : Connection → Type 0
 HasValue c = IsGiven c.value

@@ -24,6 +24,7 @@ use Rattle.vast_script.specs.Statements.{add_function, function_add_variable, bl
 abbrev pub IsPlainDesign : List Call → Type 0
 IsPlainDesign calls = is_plain_file (tree (called (start SystemVerilog 1) calls)) ≡ true
 
+-- The calls of `passthrough`.
 unfoldable pub passthrough_calls : List Call
 passthrough_calls =
     add_module (codes "passthrough")
@@ -34,6 +35,7 @@ passthrough_calls =
     ∷ artifact_call (AddMemberContinuousAssignment 0 4)
     ∷ []
 
+-- The calls of `cases`.
 unfoldable pub cases_calls : List Call
 cases_calls =
     add_module (codes "encoder")

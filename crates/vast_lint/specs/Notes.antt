@@ -54,6 +54,7 @@ abbrev pub mended : Note → Note
 mended Zero = Zero
 mended _ = Nothing
 
+-- The notes after these answers were mended.
 abbrev pub all_mended : List Note → List ℕ → List Note
 all_mended notes numbers = fold (λ left number. changed_at number mended left) notes numbers
 
@@ -74,6 +75,7 @@ abbrev pub shown_at : Note → ℕ → Option ℕ
 shown_at NoTimes number = Some number
 shown_at _ number = None
 
+-- The warning of this rule of the answer of this number, where there is a rule.
 abbrev pub told_by : Option Rule → ℕ → Option ℕ → List Warning
 told_by None number shown = []
 told_by (Some rule) number shown = record { rule = rule; number = number; shown = shown } ∷ []

@@ -1,7 +1,7 @@
 //! The table of the rules: what each says, and which tools refuse what it tells.
 //!
 //! The tools were tried on small modules, Icarus Verilog 11.0 with `-g2012`, Verilator 5.006 with `--lint-only` and Yosys
-//! 0.23 with `read_verilog -sv`; in the dialect Verilog as `docs/TOOLS.md` says. What IEEE 1800-2017 and 1364-2005 say is a
+//! 0.23 with `read_verilog -sv`; in the dialect Verilog as `docs/use/TOOLS.md` says. What IEEE 1800-2017 and 1364-2005 say is a
 //! reading of them without guarantee.
 
 use crate::rule::Rule;

@@ -246,6 +246,7 @@ helper_pieces (BitwiseOrReduceArrayElements a b) = place a ++ listed number b.it
 helper_pieces (LogicalAndReduce a b) = listed place a.items ++ truth b
 helper_pieces (LogicalOrReduce a b) = listed place a.items ++ truth b
 
+-- The arguments of a step or a helper as pieces, in the order of the parameters.
 abbrev pub call_pieces : Call → List Piece
 call_pieces (StepCall step) = step_pieces step
 call_pieces (HelperCall helper) = helper_pieces helper

@@ -48,6 +48,7 @@ abbrev pub IsMade : {A : Type 0} → (old new : Bench) → Answer → Result A C
 IsMade old new answer (Err cause) rule = ⊥
 IsMade old new answer (Ok x) rule = IsExpression old new answer (rule x)
 
+-- An expression with the rule's tree was made, or what a fault keeps is kept.
 abbrev pub Makes : {A : Type 0} → (old new : Bench) → Result Answer StepFault → Result A Cause → (A → Result ExprTree (List ℕ)) → Type 0
 Makes old new (Ok answer) looked rule = IsMade old new answer looked rule
 Makes old new (Err fault) looked rule = IsKept old new fault
@@ -83,12 +84,14 @@ NamesRegisters b answers (n ∷ ns) (r ∷ rs) = NamesRegister b answers n r × 
 NamesRegisters b answers [] (r ∷ rs) = ⊥
 NamesRegisters b answers (n ∷ ns) [] = ⊥
 
+-- The numbers stand for the reset, if there is one.
 abbrev pub NamesReset : Bench → List Answer → Option ResetNumbers → Option Reset → Type 0
 NamesReset b answers None None = ⊤
 NamesReset b answers (Some numbers) (Some reset) = (one an_expr b answers numbers.signal ≡ Ok reset.signal) × (reset.active_low ≡ numbers.active_low)
 NamesReset b answers None (Some reset) = ⊥
 NamesReset b answers (Some numbers) None = ⊥
 
+-- The number stands for the module or the loop.
 abbrev pub NamesScope : Bench → List Answer → ℕ → RegisterScope → Type 0
 NamesScope b answers n (ModuleScope owner) = one a_module b answers n ≡ Ok owner
 NamesScope b answers n (LoopScope owner) = one a_loop b answers n ≡ Ok owner
@@ -103,6 +106,7 @@ abbrev pub AddsNamed : (old new : Bench) → List Answer → Result Answer StepF
 AddsNamed old new answers (Ok answer) clk reset registers scope = AddsThem old new answers answer clk reset registers scope
 AddsNamed old new answers (Err fault) clk reset registers scope = IsKept old new fault
 
+-- What a helper does: the tree of a reduction, or the registers that its handles stand for.
 abbrev pub Helps : (old new : Bench) → List Answer → Result Answer StepFault → Helper → Type 0
 Helps old new answers result (AddRegisters clk reset registers scope) = AddsNamed old new answers result clk reset registers.items scope
 Helps old new answers result (BitwiseOrReduce values) = Makes old new result (many an_expr old answers values.items) (joined old)

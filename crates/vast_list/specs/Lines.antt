@@ -78,6 +78,7 @@ word_kind word = if slice_index word 0 == 63 then Asked else (if slice_index wor
 abbrev pub text_kind : List ℕ → LineKind
 text_kind text = if is_passed text then Passed else word_kind (call_word text)
 
+-- What a line is, by its bytes: blank or a comment, a question, a helper or a step.
 abbrev pub line_kind : List ℕ → LineKind
 line_kind line = text_kind (without_return line)
 

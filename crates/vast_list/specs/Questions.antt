@@ -64,6 +64,7 @@ value_words (TypeWidthAsInt64 a) = (codes "?TypeWidthAsInt64", place a)
 value_words (TypeWidthExpr a) = (codes "?TypeWidthExpr", place a)
 value_words (WidthIsUsable a) = (codes "?WidthIsUsable", place a)
 
+-- The name and the arguments of a question.
 abbrev pub question_words : Question → List ℕ × List Piece
 question_words (Module question) = module_words question
 question_words (OfValue question) = value_words question
@@ -143,6 +144,7 @@ module _ (b : Bench) (answers : List Answer) where
   value_fact (TypeWidthExpr a) = and_then (one a_type b answers a) (λ t. width_words (width_of (type_of b t)))
   value_fact (WidthIsUsable a) = about an_expr a (λ e. Whether (is_usable_width (tree_of b e)))
 
+  -- What the file has of a question, or the cause why there is nothing.
   abbrev pub fact_of : Question → Result Fact Cause
   fact_of (Module question) = module_fact question
   fact_of (OfValue question) = value_fact question
@@ -158,6 +160,7 @@ port_told port = record {
   reference = Some (string_bytes port.reference);
 }
 
+-- What a value tells.
 abbrev pub fact_told : Value → Fact
 fact_told (Text words) = Words (string_bytes words)
 fact_told Nothing = NoWidth

@@ -85,6 +85,7 @@ port_front port = text_member (codes "{\"name\":") (string_bytes port.name) ++ t
 abbrev pub port_end : PortValue → List ℕ
 port_end port = text_member (codes ",\"reference\":") (string_bytes port.reference) ++ codes "}"
 
+-- A port, as an object of JSON.
 abbrev pub port_object : PortValue → List ℕ
 port_object port = port_front port ++ port_type port.width port.signed ++ port_end port
 

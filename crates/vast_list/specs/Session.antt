@@ -88,6 +88,7 @@ IsSameFile old new = (new.file ≡ old.file) × (new.answers.items ≡ old.answe
 abbrev pub IsSameKnown : (old new : Session) → Type 0
 IsSameKnown old new = (meaning new.names ≡ meaning old.names) × (new.skipped.items ≡ old.skipped.items)
 
+-- File, answers, names and the numbers that were passed over are as before.
 abbrev pub IsSame : (old new : Session) → Type 0
 IsSame old new = IsSameFile old new × IsSameKnown old new
 
@@ -127,6 +128,7 @@ IsGivenBy line (Step number name) = (line_kind line ≡ Stepped) × (name.now �
 IsGivenBy line (Helper number name) = (line_kind line ≡ Helped) × (name.now ≡ line_word line)
 IsGivenBy line (Answered name value) = (line_kind line ≡ Asked) × (name.now ≡ line_word line)
 
+-- What a line does to a session.
 abbrev pub Takes : (old new : Session) → (line : List ℕ) → Result Given Fault → Type 0
 Takes old new line (Ok given) = Gives old new line given
 Takes old new line (Err fault) = IsLeft old new fault

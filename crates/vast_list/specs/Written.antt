@@ -12,9 +12,11 @@ use Rattle.vast_list.specs.CallArguments.{Piece, Place, Number, Count, Text, Wor
 
 -- A decimal numeral, and one that may have a minus.
 
+-- A decimal numeral and its number.
 abbrev pub IsNatural : List ℕ → ℕ → Type 0
 IsNatural word n = IsNumeral 10 word × (n ≡ digits_value 10 word)
 
+-- A decimal numeral that may have a minus, and its number.
 abbrev pub IsInteger : List ℕ → ℤ → Type 0
 IsInteger word z =
     ((n : ℕ) × IsNatural word n × (z ≡ pos n)) ⊎ ((digits : List ℕ) × (n : ℕ) × (word ≡ 45 ∷ digits) × IsNatural digits n × (z ≡ neg_ℤ (pos n)))
@@ -50,6 +52,7 @@ IsPair written meant =
     (first : List ℕ) × (high : ℕ) × (second : List ℕ) × (low : ℕ) × IsCode first high × IsHigh high × IsCode second low × IsLow low
     × (written ≡ (92 ∷ 117 ∷ first) ++ (92 ∷ 117 ∷ second)) × (meant ≡ encode_utf8 (paired high low))
 
+-- A part of a text: a byte, an escape by a letter, one by a code, or a pair of surrogates; and what it means.
 abbrev pub IsPart : (written meant : List ℕ) → Type 0
 IsPart written meant = IsPlain written meant ⊎ (IsLetter written meant ⊎ (IsCharacter written meant ⊎ IsPair written meant))
 
@@ -60,6 +63,7 @@ pub record IsContent (between content : List ℕ) : Type 0 where
   pub written : between ≡ flat_map (λ (part : List ℕ × List ℕ). part.0) parts
   pub means : content ≡ flat_map (λ (part : List ℕ × List ℕ). part.1) parts
 
+-- A text in its quotes, and its content.
 abbrev pub IsQuoted : (word content : List ℕ) → Type 0
 IsQuoted word content = (written : List ℕ) × IsContent written content × (word ≡ 34 ∷ (written ++ 34 ∷ []))
 
@@ -88,6 +92,7 @@ module _ (named : List ℕ → Option Named) (skipped : List ℕ) where
   abbrev pub IsAnswer : List ℕ → ℤ → Type 0
   IsAnswer word z = (name : List ℕ) × (word ≡ 63 ∷ name) × (named name ≡ Some (NumberNamed z))
 
+  -- The piece is written so, by what the names so far stand for and which lines were passed over.
   abbrev pub IsWritten : Piece → List ℕ → Type 0
   IsWritten (Place place) word = IsHandle word place
   IsWritten (Number z) word = IsInteger word z ⊎ IsAnswer word z
@@ -95,6 +100,7 @@ module _ (named : List ℕ → Option Named) (skipped : List ℕ) where
   IsWritten (Text content) word = IsQuoted word content
   IsWritten (Word w) word = word ≡ w
 
+  -- The pieces are written one after the other, a space before each.
   abbrev pub AreWritten : List Piece → List ℕ → Type 0
   AreWritten [] text = text ≡ []
   AreWritten (piece ∷ pieces) text = (word : List ℕ) × (more : List ℕ) × IsWritten piece word × AreWritten pieces more × (text ≡ 32 ∷ (word ++ more))

@@ -1,6 +1,6 @@
 //! Lists of builder calls as text: a list is read, its calls are made, its questions are answered, its file is printed.
 //!
-//! `docs/LISTS.md` has the form. A [`Session`] takes the lines of a list one by one; [`list_output`] answers a whole list.
+//! `docs/use/LISTS.md` has the form. A [`Session`] takes the lines of a list one by one; [`list_output`] answers a whole list.
 #![tactic(auto)]
 
 mod again;

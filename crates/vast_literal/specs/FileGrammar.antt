@@ -44,6 +44,7 @@ pub data IsCase : Key → Bool → Type 0 where
   casex_word : IsCase CasexKey false
 
 mutual
+  -- The tokens spell the statement.
   pub data IsStatement : List Token → NormalStatement → Type 0 where
     simple : {ts : List Token} {s : NormalStatement} → IsAssign ts s → IsStatement ts s
     -- assign L = X ;
@@ -185,6 +186,7 @@ pub data IsFunctionBody : List Token → NormalStatements → Type 0 where
   casez_body : {ts : List Token} {s : NormalStatement} → IsCases CasezKey true ts s → IsFunctionBody ts (Then s Done)
 
 mutual
+  -- The tokens spell the member.
   pub data IsMember : List Token → NormalMember → Type 0 where
     declaration : {ds : List Token} {d : NormalDeclaration} → IsDeclared is_member_kind ds d → IsMember ds (DeclarationPart d)
     -- assign L = X ;
@@ -246,6 +248,7 @@ pub data IsItem : List Token → NormalItem → Type 0 where
   -- ` include "path"
   include_item : (path : List ℕ) → IsItem (MacroWord (codes "include") ∷ (Quoted (34 ∷ (path ++ (34 ∷ []))) ∷ [])) (IncludePart path)
 
+-- The tokens spell the file.
 pub data IsFile : List Token → NormalFile → Type 0 where
   file : {ts : List Token} {is : List NormalItem} → IsMany IsItem ts is → IsFile ts (record { items = is })
 
@@ -265,5 +268,6 @@ pub record OneStatement : Type 0 where
 pub record OneMember : Type 0 where
   pub same : (ts : List Token) (a b : NormalMember) → IsMember ts a → IsMember ts b → a ≡ b
 
+-- Each token list spells at most one file.
 pub record OneFile : Type 0 where
   pub same : (ts : List Token) (a b : NormalFile) → IsFile ts a → IsFile ts b → a ≡ b

@@ -163,6 +163,7 @@ abbrev pub dialect_kind : Dialect → Kind
 dialect_kind VerilogDialect = UserKind
 dialect_kind SystemVerilogDialect = LogicKind
 
+-- The kind of a function's result: that of its type, or by dialect `reg` or `logic`.
 abbrev pub result_kind : Dialect → TypeTree → Kind
 result_kind dialect (IntegerTree signed) = IntegerKind
 result_kind dialect (IntTree signed) = IntKind
@@ -186,6 +187,7 @@ abbrev pub is_casez : StatementTree → Bool
 is_casez (CaseTree unique CaseZ e arms) = true
 is_casez _ = false
 
+-- The block is one `casez`, so it stands without `begin` and `end`.
 abbrev pub is_one_casez : Statements → Bool
 is_one_casez (MoreStatements s NoStatements) = is_casez s
 is_one_casez _ = false

@@ -148,6 +148,7 @@ pub record ParameterPortTree : Type 0 where
   pub type : MaybeType
   pub value : ExprTree
 
+-- A module: its name, the parameters and ports of its header, and its members.
 pub record ModuleTree : Type 0 where
   pub name : List ℕ
   pub parameters : List ParameterPortTree
@@ -160,6 +161,7 @@ pub data FileItemTree : Type 0 where
   CommentItem : (text : List ℕ) → FileItemTree
   BlankItem : FileItemTree
 
+-- A file: its dialect and its items.
 pub record FileTree : Type 0 where
   pub dialect : Dialect
   pub items : List FileItemTree

@@ -83,6 +83,7 @@ passthrough_file = record {
   }) ∷ [];
 }
 
+-- What the grammar derives from some texts, and the normal forms of some trees.
 pub record WorkedTexts : Type 0 where
   -- Parentheses leave nothing behind.
   pub nested_parentheses : HasOneTree (codes "((a))") (Name (codes "a"))

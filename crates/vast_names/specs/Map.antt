@@ -8,5 +8,6 @@ value_of [] values name = None
 value_of (first ∷ names) [] name = None
 value_of (first ∷ names) (value ∷ values) name = cond (bytes_eq first name) value (value_of names values name)
 
+-- What a name stands for.
 abbrev pub meaning : {V : Type 0} → (List (List ℕ) × List (Option V)) → List ℕ → Option V
 meaning map name = value_of map.0 map.1 name

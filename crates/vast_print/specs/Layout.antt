@@ -68,6 +68,7 @@ unfoldable pub items_page : Dialect → List FileItemTree → Page
 items_page dialect [] = no_lines
 items_page dialect (i ∷ items) = above (item_page dialect i) (items_page dialect items)
 
+-- The page of a file.
 unfoldable pub layout : FileTree → Page
 layout f = items_page f.dialect f.items
 

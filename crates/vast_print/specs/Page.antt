@@ -22,6 +22,7 @@ unfoldable pub print_lines : List Line → List ℕ
 print_lines [] = []
 print_lines (l ∷ p) = indent l.depth l.bytes ++ (l.bytes ++ (10 ∷ print_lines p))
 
+-- The page's lines, each after two spaces a depth unless it is empty, and before a line break.
 unfoldable pub print : Page → List ℕ
 print p = print_lines p.lines
 

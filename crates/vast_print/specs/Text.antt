@@ -39,6 +39,7 @@ unfoldable pub package_text : (package_name name : List ℕ) → Printed
 package_text p n = plain_text p ⊕ plain_text (codes "::") ⊕ plain_text n
 
 unfoldable mutual
+  -- The text of an expression: operators, parentheses, elided selects of scalars, casts.
   pub expr_text : ExprTree → Printed
   expr_text (NameTree name type) = plain_text name
   expr_text (LiteralTree text value) = plain_text text

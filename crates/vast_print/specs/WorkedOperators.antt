@@ -51,5 +51,6 @@ pub record IsAsStandard (x y : StandardOperator) : Type 0 where
   pub printed : (expr_text (meant x y)).text ≡ written x y
   pub read : DerivesOnly (written x y) (meant x y)
 
+-- Each two operators in one text are printed and read as the standard has them.
 abbrev pub WorkedOperators : Type 0
 WorkedOperators = All (λ x. All (IsAsStandard x) standard_operators) standard_operators

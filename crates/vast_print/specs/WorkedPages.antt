@@ -32,6 +32,7 @@ module_file n ports members = record { dialect = SystemVerilogDialect; items = M
 abbrev pub assigned : List ℕ → List ℕ → Statements
 assigned l r = MoreStatements (AssignTree Blocking (name l) (name r)) NoStatements
 
+-- What some declarations, members and files are printed as.
 pub record WorkedPages : Type 0 where
   -- Packed dimensions stand before the base's own bits, outermost first.
   pub packed_declaration :

@@ -17,6 +17,7 @@ scalar w = NameTree w (Typed (ScalarTree false))
 abbrev pub number : List ℕ → ℤ → ExprTree
 number w v = LiteralTree w (Some v)
 
+-- What some expressions are printed as.
 pub record WorkedTexts : Type 0 where
   -- A right child of equal level is in parentheses.
   pub right_child : (expr_text (BinaryTree SubOp (name (codes "a")) (BinaryTree SubOp (name (codes "b")) (name (codes "c"))))).text ≡ codes "a - (b - c)"

@@ -33,6 +33,7 @@ type_name_of t = option_and_then (λ b. b.value.type_name) t
 abbrev pub sign_of : Option (Box DeclaredType Global) → Option Key
 sign_of t = option_and_then (λ b. option_map key_of b.value.sign) t
 
+-- The normal declaration that a declaration of the reader stands for.
 abbrev pub declaration_view : NormalDeclaration → normal.NormalDeclaration
 declaration_view d = record {
   kind = option_map key_of d.kind;

@@ -24,6 +24,7 @@ port_view p = record { direction = key_of p.direction; declaration = declaration
 abbrev pub ports_view : List Port → List normal.NormalPort
 ports_view ps = map port_view ps
 
+-- The normal module that a module of the reader stands for.
 abbrev pub module_view : NormalModule → normal.NormalModule
 module_view m = record { name = m.name; parameters = parameters_view m.parameters; ports = ports_view m.ports; members = members_view m.members }
 

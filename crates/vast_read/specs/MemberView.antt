@@ -51,6 +51,7 @@ member_level (NormalMember-F.Conditional s) = normal.ConditionalPart (arms_in (s
 member_level (NormalMember-F.Function f) = normal.FunctionPart (declaration_view f.value.output.value) (declarations_view f.value.inputs) (declarations_view f.value.locals) (block_view f.value.body)
 member_level (NormalMember-F.Loop l ms) = normal.LoopPart l.value.variable (view l.value.start.value) (view l.value.end.value) l.value.label (members_of ms)
 
+-- The normal member that a member of the reader stands for, case by case.
 abbrev pub member_view : NormalMember → normal.NormalMember
 member_view = fold-NormalMember normal.NormalMember member_level
 

@@ -22,6 +22,7 @@ arm_level a = (view a.condition.value, block_of a.block)
 abbrev pub label_level : CaseArm-F normal.NormalStatement ChoicePart LabelPart → LabelPart
 label_level a = (option_map (λ x. view x.value) a.label, block_of a.block)
 
+-- The normal statement that a statement of the reader stands for, case by case.
 abbrev pub statement_view : NormalStatement → normal.NormalStatement
 statement_view = fold-NormalStatement normal.NormalStatement ChoicePart LabelPart statement_level arm_level label_level
 

@@ -83,15 +83,18 @@ many_and_open k b answers ns ms =
 
 -- Calls over handles of these kinds: they are looked for, and the call goes on with them.
 
+-- A call over a handle of this kind: it is looked up, and the call goes on with it.
 abbrev pub takes_one : {A : Type 0} → Kind A → ℕ → (A → Bench → Outcome) → Call
 takes_one k n next b answers = given (one k b answers n) (λ x. next x b)
 
+-- A call over two handles of these kinds.
 abbrev pub takes_two : {A B : Type 0} → Kind A → Kind B → (n m : ℕ) → (A → B → Bench → Outcome) → Call
 takes_two j k n m next b answers = given (two j k b answers n m) (λ (x, y). next x y b)
 
 abbrev pub takes_three : {A B C : Type 0} → Kind A → Kind B → Kind C → (n m o : ℕ) → (A → B → C → Bench → Outcome) → Call
 takes_three i j k n m o next b answers = given (three i j k b answers n m o) (λ (x, y, z). next x y z b)
 
+-- A call over a list of handles of this kind.
 abbrev pub takes_many : {A : Type 0} → Kind A → List ℕ → (List A → Bench → Outcome) → Call
 takes_many k ns next b answers = given (many k b answers ns) (λ xs. next xs b)
 

@@ -38,6 +38,7 @@ make_instantiation module_name instance_name parameters values ports wires =
 abbrev pub add_part : {O H : Type 0} → Kind O → (O → Scope) → Kind H → (H → Member) → (owner part : ℕ) → Call
 add_part owners scope kind entry owner part = takes_two owners kind owner part (λ owner part b. Made Nothing (with_scope_member (scope owner) (entry part) b))
 
+-- What becomes of a step of a part made beforehand, one clause each.
 abbrev pub artifact_call : ArtifactStep → Call
 artifact_call (MakeDef name kind type) = takes_one a_type type (λ type. makes Def next_def (with_definition (record { name = string_bytes name; kind = kind; data_type = type })))
 artifact_call MakeBlankLine = λ b answers. Made (BlankLine (record { id = next_artifact b })) (with_artifact BlankArtifact b)

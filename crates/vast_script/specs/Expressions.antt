@@ -39,6 +39,7 @@ make_array_assignment_pattern parts = takes_many an_expr parts (λ parts. makes 
 abbrev pub make_macro_ref_with_args : List ℕ → List ℕ → Call
 make_macro_ref_with_args name arguments = takes_many an_expr arguments (λ arguments. makes MacroRef (λ b. record { id = next_node b }) (λ b. with_expr (MacroTree name (SomeArguments (trees_of b arguments))) b))
 
+-- What becomes of a step of an expression, one clause each.
 abbrev pub expression_call : ExpressionStep → Call
 expression_call (MakeLiteral text format) = λ b answers. allowed (literal_in format (string_bytes text)) (λ tree. Made (Expr (next_expr b)) (with_expr tree b))
 expression_call (MakeBinaryPattern bits) = make_binary_pattern (string_bytes bits)

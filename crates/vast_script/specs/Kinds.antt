@@ -26,6 +26,7 @@ use Rattle.vast_core.specs.Nests.{nest_kind, is_kind, BlockKind, ConditionalKind
 use Rattle.vast_script.specs.declared.answer.Answer.{Answer}
 use Rattle.vast_script.specs.declared.answer.Answer.TheVariants.{BlankLine, CaseStatement, Comment, Conditional, ContinuousAssignment, Def, Expr, GenerateLoop, Index, IndexableExpr, InlineVerilogStatement, Instantiation, LocalparamRef, LogicRef, MacroRef, MacroStatement, ParameterRef, Slice, VastAlwaysBase, VastDataType, VastFunction, VastModule, VastStatementBlock}
 
+-- A kind of handle: which answers may stand for one, and the test that it is the file's.
 pub record Kind (H : Type 0) : Type 0 where
   -- the handle that an answer is, if it is of the kind
   pub of_answer : Answer → Option H
@@ -54,6 +55,7 @@ indexable_of (Index r) = Some (record { id = r.id })
 indexable_of (ParameterRef r) = Some (record { id = r.id })
 indexable_of _ = None
 
+-- An expression, for which all that convert to one may stand.
 abbrev pub an_expr : Kind ExprHandle
 an_expr = record { of_answer = expr_of; is_own = λ b e. is_own_id b e.id (is_expr_root (slice_get b.nodes.roots e.id.index)) }
 

@@ -21,6 +21,7 @@ use Rattle.vast_script.specs.Outcome.{Call, Made, holding, makes}
 use Rattle.vast_script.specs.Kinds.{a_module, a_loop, an_expr, a_definition, a_comment, an_instantiation, an_inline, a_macro_statement}
 use Rattle.vast_script.specs.Arguments.{takes_one, takes_two, takes_three}
 
+-- What becomes of a step of a generate loop, one clause each.
 abbrev pub loop_call : LoopStep → Call
 loop_call (AddGenerateLoop owner name start end label) = takes_three a_module an_expr an_expr owner start end
     (λ owner start end b. Made (GenerateLoop (next_loop b)) (with_member owner (LoopEntry (next_loop b)) (with_loop (string_bytes name) start end (label_bytes label) b)))

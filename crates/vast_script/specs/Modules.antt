@@ -41,6 +41,7 @@ add_variable kind word owner name type =
     takes_two a_module a_type owner type
     (λ owner type b. allowed (unless_taken word name (names_in b owner)) (λ _. Made (LogicRef (next_logic_ref b)) (with_declaration owner kind name type b)))
 
+-- What becomes of a step of an item, a module or what it declares, one clause each.
 abbrev pub module_call : ModuleStep → Call
 module_call (AddInclude path) = add_item (IncludeEntry (string_bytes path))
 module_call (AddBlankLine blank) = takes_one a_blank_line blank (λ blank b. Made Nothing (with_item FileBlankEntry b))

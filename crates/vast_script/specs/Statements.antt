@@ -59,6 +59,7 @@ block_add_case kind block selector =
     takes_two a_block an_expr block selector
     (λ block selector b. Made (CaseStatement (next_case b)) (with_statement block (CasesStatement (next_case b)) (with_case kind selector b)))
 
+-- What becomes of a step of a function, an always block or a statement, one clause each.
 abbrev pub statement_call : StatementStep → Call
 statement_call (AddFunction owner name type) = add_function owner (string_bytes name) type
 statement_call (FunctionAddInput function name type) = function_add_variable false Reg (codes "input") function (string_bytes name) type

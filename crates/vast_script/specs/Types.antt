@@ -27,6 +27,7 @@ abbrev pub make_unpacked_array_type : ℕ → List ℤ → Call
 make_unpacked_array_type element dimensions =
     takes_one a_type element (λ element b. provided (are_dimensions dimensions) (Made (VastDataType (next_type b)) (with_type (UnpackedTree (type_of b element) dimensions) b)))
 
+-- What becomes of a step of a type, one clause each.
 abbrev pub type_call : TypeStep → Call
 type_call MakeScalarType = make_type (ScalarTree false)
 type_call (MakeIntegerType signed) = make_type (IntegerTree signed)

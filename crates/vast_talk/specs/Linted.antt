@@ -20,5 +20,6 @@ AreBeside None (Some lint) has_lint = ⊥
 AreBeside (Some session) None has_lint = has_lint ≡ false
 AreBeside (Some session) (Some lint) has_lint = (has_lint ≡ true) × IsLevel lint session
 
+-- Of lines that are answered one by one: beside a session there is a lint exactly where one is asked for.
 abbrev pub IsTalking : Talk → Type 0
 IsTalking talk = AreBeside talk.session talk.lint talk.has_lint

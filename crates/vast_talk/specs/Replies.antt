@@ -67,6 +67,7 @@ RepliesLinted old new number line told =
     (AsksForWarnings line × (new ≡ old) × IsWarningsAnswer number told)
     ⊎ ((AsksForWarnings line → ⊥) × (object : List ℕ) × RepliesToLine old new number line object × IsWarned object told)
 
+-- What is told of a line in a session, with a lint or without.
 abbrev pub RepliesInSession : (has_lint : Bool) → (old new : Session) → (number : ℕ) → (line object : List ℕ) → Type 0
 RepliesInSession false old new number line object = RepliesToLine old new number line object
 RepliesInSession true old new number line object = RepliesLinted old new number line object
@@ -84,6 +85,7 @@ RepliesToFirst (Some new) number line object =
     (dialect : VastFileType) × (without_return line ≡ dialect_word dialect) × IsNew dialect new
     × (object ≡ text_object number (codes ",\"dialect\":") (dialect_word dialect))
 
+-- What is told of a line that is no header: before a session, or in one.
 abbrev pub RepliesToTaken : (has_lint : Bool) → (old new : Option Session) → (number : ℕ) → (line object : List ℕ) → Type 0
 RepliesToTaken has_lint None new number line object = RepliesToFirst new number line object
 RepliesToTaken has_lint (Some old) None number line object = ⊥

@@ -1,7 +1,7 @@
 //! Lists of builder calls in talk with a program: what their calls print that is no SystemVerilog or Verilog, and sessions
 //! whose lines are answered one by one, by JSON.
 //!
-//! A [`Talk`] takes the lines of a session; [`list_warnings`] lints a whole list. `docs/LISTS.md` has the form of lists
+//! A [`Talk`] takes the lines of a session; [`list_warnings`] lints a whole list. `docs/use/LISTS.md` has the form of lists
 //! and of the replies.
 #![tactic(auto)]
 

@@ -65,6 +65,7 @@ abbrev pub with_given : VastStatementBlock → (target : Expr) → Option Expr �
 with_given block target None b = b
 with_given block target (Some value) b = with_statement block (AssignStatement (next_statement b)) (with_assignment (record { lhs = target; rhs = value; nonblocking = true }) b)
 
+-- An assignment more in the block: what the register takes in this part of it.
 unfoldable pub with_assigned : Share → VastStatementBlock → RegisterDefinition → Bench → Bench
 with_assigned share block r b = with_given block r.reg (value_expr share r b) (with_value share r b)
 
@@ -96,6 +97,7 @@ with_if_else condition block b = with_else (next_conditional b) (with_if conditi
 
 -- The conditional of a reset: its first block assigns the reset values, its second the values outside of reset.
 
+-- The conditional of a reset with its two blocks: reset values, and values outside of reset.
 unfoldable pub with_branches : (condition : Expr) → List RegisterDefinition → VastStatementBlock → Bench → Bench
 with_branches condition registers block b =
     with_all_assigned OutsideReset (second_block condition block b) registers (with_all_assigned AtReset (first_block b) registers (with_if_else condition block b))

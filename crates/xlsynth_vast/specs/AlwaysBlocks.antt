@@ -20,6 +20,7 @@ abbrev pub events_from : (word : List ℕ) → Bench → (i : ℕ) → List Expr
 events_from word b i [] = Ok tt
 events_from word b i (e ∷ es) = if is_event (tree_of b e) then events_from word b (suc i) es else Err (wrong_event word i)
 
+-- Each of the events is an edge or a name, or else the first that isn't is refused.
 abbrev pub unless_wrong_event : (word : List ℕ) → Bench → List Expr → Result (Unit {0}) (List ℕ)
 unless_wrong_event word b events = events_from word b 0 events
 

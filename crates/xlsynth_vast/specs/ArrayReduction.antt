@@ -53,6 +53,7 @@ as_known (Some known) given = if pointwise int_eq known given then Ok tt else Er
 abbrev pub countable : List ℤ → Result (Unit {0}) (List ℕ)
 countable given = if int_lt (product given) (pos (2 ^ 64)) then Ok tt else Err (codes "packed-array element count exceeds usize")
 
+-- The checks of an array reduction, in their order.
 unfoldable pub reducible : ExprTree → List ℤ → Result (Unit {0}) (List ℕ)
 reducible array given = and_then (any_dimension given) (λ _. and_then (each_positive given) (λ _. and_then (as_known (known_dimensions array) given) (λ _. countable given)))
 

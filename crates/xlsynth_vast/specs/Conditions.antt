@@ -16,5 +16,6 @@ abbrev pub is_usable_value : Option ℤ → Bool
 is_usable_value None = true
 is_usable_value (Some value) = int_le (pos 1) value
 
+-- The width is no literal with a value below 1.
 abbrev pub is_usable_width : ExprTree → Bool
 is_usable_width width = is_usable_value (literal_value width)

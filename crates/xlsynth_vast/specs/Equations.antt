@@ -15,6 +15,7 @@ is_one _ = false
 abbrev pub next_bit_vector : ℤ → Bench → VastDataType
 next_bit_vector bits b = cond (is_one bits) (next_type b) (next_vector bits b)
 
+-- A type of so many bits: one bit is a scalar, more are a vector after the literal of its width.
 abbrev pub with_bit_vector : ℤ → Bool → Bench → Bench
 with_bit_vector bits signed b = cond (is_one bits) (with_type (ScalarTree signed) b) (with_vector bits signed b)
 

@@ -29,6 +29,7 @@ abbrev pub ports_of : Option ModuleRecord → List ModulePort
 ports_of None = []
 ports_of (Some m) = m.ports
 
+-- The module's ports, in order.
 abbrev pub ports_in : Bench → VastModule → List ModulePort
 ports_in b m = ports_of (slice_get b.modules m.id.index)
 
@@ -64,6 +65,7 @@ abbrev pub known_bits : Option ℤ → ℤ
 known_bits None = pos 0
 known_bits (Some n) = if int_lt n (pos (2 ^ 63)) then n else pos 0
 
+-- The bits of the port's type, or 0 where they aren't known or are 2^63 or more.
 abbrev pub width_at : Bench → ModulePort → Option ℤ
 width_at b p = option_map (λ t. known_bits (bit_count (type_of b t))) (type_at b p)
 
@@ -72,6 +74,7 @@ abbrev pub named : ExprTree → Option (List ℕ)
 named (NameTree name type) = Some name
 named _ = None
 
+-- The name that the handle is.
 abbrev pub name_of_ref : Bench → LogicRef → Option (List ℕ)
 name_of_ref b r = named (tree_of b (record { id = r.id }))
 
@@ -91,6 +94,7 @@ abbrev pub first_block : Option NestRecord → Option VastStatementBlock
 first_block (Some (ConditionalNestRecord c)) = Some c.consequent
 first_block _ = None
 
+-- The block of the conditional's first arm.
 abbrev pub then_block_at : Bench → Conditional → Option VastStatementBlock
 then_block_at b c = first_block (slice_get b.nests c.id.index)
 
@@ -99,5 +103,6 @@ abbrev pub variable_of : Option NestRecord → Option LogicRef
 variable_of (Some (LoopNestRecord l)) = Some l.genvar
 variable_of _ = None
 
+-- The loop's variable, as an expression.
 abbrev pub genvar_at : Bench → GenerateLoop → Option LogicRef
 genvar_at b l = variable_of (slice_get b.nests l.id.index)

@@ -21,6 +21,7 @@ pub record ModuleDeclaresDistinctly (ports : List Port) (functions : List Functi
   pub distinct : AreDistinct (names_declared ports functions m)
   pub taken : (name : List ℕ) → IsFree name m.names ↔ IsFree name (names_declared ports functions m)
 
+-- The names that the module declares are pairwise distinct, and they are those that are taken in it.
 abbrev pub ModuleNamesAreDistinct : Bench → VastModule → Type 0
 ModuleNamesAreDistinct b m = IfSome (slice_get b.modules m.id.index) (ModuleDeclaresDistinctly b.ports b.functions)
 
@@ -30,6 +31,7 @@ pub record FunctionDeclaresDistinctly (f : FunctionRecord) : Type 0 where
   pub distinct : AreDistinct (names_in_function f)
   pub taken : (name : List ℕ) → IsFree name f.names ↔ IsFree name (names_in_function f)
 
+-- The names that the function declares are pairwise distinct, and they are those that are taken in it.
 abbrev pub FunctionNamesAreDistinct : Bench → VastFunction → Type 0
 FunctionNamesAreDistinct b f = IfSome (slice_get b.functions f.id.index) FunctionDeclaresDistinctly
 

@@ -55,6 +55,7 @@ ContainerIsThere b (ConditionalNestRecord c) = ConditionalIsThere b c
 ContainerIsThere b (CaseNestRecord c) = Each (λ (arm : CaseArm). BlockIsThere b arm.block) c.arms
 ContainerIsThere b (LoopNestRecord l) = Each (MemberIsThere b) l.members
 
+-- What items, modules and containers name is there: only a blank line is a blank line in the file's tree.
 pub record NothingIsMissing (b : Bench) : Type 0 where
   pub items : Each (ItemIsThere b) b.items
   pub modules : Each (ModuleIsThere b) b.modules

@@ -36,6 +36,7 @@ bitwise_reduction (t ∷ ts) = chain BitwiseOrOp t ts
 abbrev pub with_nodes : List Root → Bench → Bench
 with_nodes roots b = record b { nodes = record { id = b.nodes.id; roots = b.nodes.roots ++ roots } }
 
+-- The file has expressions and types more, and is else as it was.
 pub record HasMoreNodes (old new : Bench) : Type 0 where
   pub more : List Root
   pub after : new ≡ with_nodes more old

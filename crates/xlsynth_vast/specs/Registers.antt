@@ -103,11 +103,13 @@ by_reset (Some reset) registers =
 abbrev pub register_block : Option ResetTree → List RegisterTree → Statements
 register_block reset registers = block_of (assigned_all unreset_value registers ++ by_reset reset registers)
 
+-- The always block of the registers, at the rising edge of the clock.
 abbrev pub registers_member : (clk : ExprTree) → Option ResetTree → List RegisterTree → MemberTree
 registers_member clk reset registers = AlwaysMember AlwaysFFWord (MoreExprs (PosEdgeTree clk) NoExprs) (register_block reset registers)
 
 -- What the statements mean. A set of trees says which of them hold: it is given by its test.
 
+-- Whether a tree holds, by the set of those that do.
 abbrev pub holds : (ExprTree → Bool) → ExprTree → Bool
 holds v (UnaryTree LogicalNotOp operand) = not (holds v operand)
 holds v (TernaryTree condition consequent alternate) = if holds v condition then holds v consequent else holds v alternate
@@ -139,6 +141,7 @@ abbrev mutual
   assigned_else v name (ElseIf condition block alternates) before = if holds v condition then assigned_in v name block before else assigned_else v name alternates before
   assigned_else v name (Else block) before = assigned_in v name block before
 
+-- The last value that the block assigns to the name, by the set of trees that hold.
 abbrev pub assigned : (ExprTree → Bool) → Statements → (name : List ℕ) → Option ExprTree
 assigned v block name = assigned_in v name block None
 
@@ -161,6 +164,7 @@ next_value_with v (Some value) true r = settle v value
 next_value_with v (Some value) false r = next_value_outside v r
 next_value_with v None active r = next_value_outside v r
 
+-- The value that the register is to take.
 abbrev pub next_value : (ExprTree → Bool) → Option ResetTree → RegisterTree → ExprTree
 next_value v reset r = next_value_with v r.reset_value (is_active v reset) r
 
@@ -179,6 +183,7 @@ TakeTheirValues reset registers =
     AreDistinctRegisters registers → (v : ExprTree → Bool) (i : ℕ) (r : RegisterTree) → slice_get registers i ≡ Some r →
     assigned v (register_block reset registers) (name_in r.target) ≡ Some (next_value v reset r)
 
+-- Registers of distinct names take their values by their block, whatever holds.
 abbrev pub RegistersTakeTheirValues : Type 0
 RegistersTakeTheirValues = (reset : Option ResetTree) (registers : List RegisterTree) → unless_unresettable reset registers ≡ Ok tt → TakeTheirValues reset registers
 
@@ -205,6 +210,7 @@ with_unused roots assignments containers spare b =
       spare = spare;
     }
 
+-- The file has nodes and containers more that no list names, and perhaps another spare block.
 pub record HasUnused (old new : Bench) : Type 0 where
   pub roots : List Root
   pub assignments : List Assignment

@@ -3,6 +3,7 @@ use Rattle.std.specs.Prelude.{◌-◌, vec_capacity, vec_len}
 use Rattle.vast_core.specs.Raw.{Raw}
 use Rattle.vast_core.specs.declared.ast.Ast.TheInside.{Inside}
 
+-- What an `Ast` holds, read off its arenas.
 abbrev pub arenas : Inside → Raw
 arenas a =
     record {

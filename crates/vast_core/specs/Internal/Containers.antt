@@ -219,12 +219,14 @@ abbrev pub spare_used : Bool → Option VastStatementBlock → List Part
 spare_used false spare = []
 spare_used true spare = held_by_block spare
 
+-- What comes and the entry are the file's, and each container that comes stands in one place.
 pub record GrowthSound (b : Bench) (l : Listing) (f : Fresh) : Type 0 where
   pub fresh : FreshSound b (with_fresh f b) f
   pub listing : ListingSound b (with_fresh f b) l
   -- What is made is placed, each once, and so is the spare block that is taken.
   pub placed : held_by_listing l ++ held_by_fresh f ≡ made b f ++ spare_used f.takes_spare b.spare
 
+-- An entry of a list, together with what comes.
 abbrev pub after_growth : Listing → Fresh → Bench → Bench
 after_growth l f b = with_listing l (with_fresh f b)
 

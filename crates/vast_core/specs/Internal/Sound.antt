@@ -5,6 +5,7 @@ use Rattle.vast_core.specs.Raw.{Raw}
 use Rattle.vast_core.specs.View.{bench}
 use Rattle.vast_core.specs.Sound.{FileSound}
 
+-- Children are older, and what the file's records and lists name is its own.
 pub record IsSound (a : Raw) : Type 0 where
   pub terms : TermsSound (no_nodes a.id) a.terms
   pub file : FileSound (bench a)

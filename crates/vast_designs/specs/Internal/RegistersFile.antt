@@ -69,25 +69,30 @@ the_values = record { first = first_value; second = second_value }
 
 -- The two registers.
 
+-- The register with an enable.
 abbrev pub enabled : Signals → State → Values → RegisterDefinition
 enabled signals state values = record { reg = record { id = state.first.id }; next = record { id = state.first_next.id }; reset_value = Some values.first; enable = Some (record { id = signals.enable.id }) }
 
+-- The register without one.
 abbrev pub plain : State → Values → RegisterDefinition
 plain state values = record { reg = record { id = state.second.id }; next = record { id = state.second_next.id }; reset_value = Some values.second; enable = None }
 
 -- The file behind each part, before the registers are added.
 
+-- The file of `registers` after its ports were made.
 unfoldable pub signals_made : Bench
 signals_made =
     with_port the_module Input Wire (codes "en") bit
     (with_port the_module Input Wire (codes "rst") bit
     (with_port the_module Input Wire (codes "clk") bit (with_type (ScalarTree false) (with_module (codes "regs_rst_en") (start SystemVerilog 1)))))
 
+-- The file of `registers` after its variables were made.
 unfoldable pub state_made : Bench
 state_made =
     with_declaration the_module Logic (codes "r2_next") byte
     (with_declaration the_module Logic (codes "r2") byte
     (with_declaration the_module Logic (codes "r_next") byte (with_declaration the_module Logic (codes "r") byte (with_bit_vector (pos 8) false signals_made))))
 
+-- The file of `registers` after its reset values were made.
 unfoldable pub values_made : Bench
 values_made = with_expr (LiteralTree (codes "8'h55") (Some (pos 85))) (with_expr (LiteralTree (codes "8'haa") (Some (pos 170))) state_made)

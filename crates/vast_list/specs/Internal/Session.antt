@@ -69,6 +69,7 @@ IsActionOf named skipped name arguments (Ask question) =
 IsActionOf named skipped name arguments (CallAction call) =
     (word_kind name ≡ call_kind call) × (call_name call ≡ name) × AreWritten named skipped (call_pieces call) arguments
 
+-- What a call does to a session.
 abbrev pub Makes : (old new : Session) → Call → Result (Unit {0}) Fault → Type 0
 Makes old new call (Ok done) = IsMade old new call
 Makes old new call (Err fault) = IsFileLeft old new fault

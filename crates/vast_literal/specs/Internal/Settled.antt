@@ -12,6 +12,7 @@ either (Some x) f other = f x
 abbrev pub fuel : (rank : ℕ) → List Token → ℕ
 fuel rank ts = suc (5 * length ts + rank)
 
+-- What the parsers of expressions return from some fuel on, without fuel.
 unfoldable pub settled : Parser
 settled = record {
   expression_at = λ ts. (run (fuel 3 ts)).expression_at ts;

@@ -6,6 +6,7 @@ use Rattle.vast_names.specs.declared.hash.TheConstants.{BASIS, PRIME}
 unfoldable pub hash_step : ℕ → ℕ → ℕ
 hash_step hash byte = (bit_xor hash byte * PRIME) % 2 ^ 64
 
+-- FNV-1a of 64 bits, with its upper half mixed into the lower.
 unfoldable pub hash : List ℕ → ℕ
 hash name = let all = fold hash_step BASIS name in bit_xor all (all / 2 ^ 32)
 

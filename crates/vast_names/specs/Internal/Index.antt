@@ -25,6 +25,7 @@ pub record AreFiled (names : List (List ℕ)) (heads links : List ℕ) (crowded 
   pub found : (k : ℕ) → k < length names → IsFound heads links crowded k (slice_index_or names k [])
   pub own : (name : List ℕ) (k : ℕ) → crowded name ≡ Some k → (k < length names) × (slice_index_or names k [] ≡ name)
 
+-- Each name is found from its slot's head, or in the tree.
 abbrev pub Files : Index → List (List ℕ) → Type 0
 Files index names = AreFiled names index.heads.items index.links.items (get_by_text index.crowded)
 

@@ -5,6 +5,7 @@ use Rattle.vast_names.specs.declared.table.NameTable.TheInside.{Inside}
 use Rattle.vast_names.specs.Internal.Texts.{texts_of, IsCut}
 use Rattle.vast_names.specs.Internal.Index.{Files}
 
+-- A table's names, in the order in which they were entered.
 abbrev pub names_of : Inside → List (List ℕ)
 names_of t = texts_of t.texts
 

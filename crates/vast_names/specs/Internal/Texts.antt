@@ -12,6 +12,7 @@ abbrev pub AreEnds : ℕ → List ℕ → List ℕ → Type 0
 AreEnds start [] bytes = start ≡ length bytes
 AreEnds start (e ∷ ends) bytes = (start ≤ e) × AreEnds e ends bytes
 
+-- The texts that lie one after another in a buffer, each up to its end.
 abbrev pub texts_of : Texts → List (List ℕ)
 texts_of t = cut 0 t.ends.items t.bytes.items
 

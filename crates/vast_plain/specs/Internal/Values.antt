@@ -36,6 +36,7 @@ abbrev mutual
   maybe_weight NoExpr = 0
   maybe_weight (SomeExpr value) = expr_weight value
 
+  -- The same of a list of expressions.
   pub exprs_weight : Exprs → ℕ
   exprs_weight NoExprs = 0
   exprs_weight (MoreExprs part parts) = expr_weight part + exprs_weight parts
@@ -44,6 +45,7 @@ abbrev mutual
   arguments_weight NoArguments = 0
   arguments_weight (SomeArguments arguments) = exprs_weight arguments
 
+  -- The same of a type.
   pub type_weight : TypeTree → ℕ
   type_weight (VectorTree width value signed) = expr_weight width
   type_weight (PackedTree element dimensions) = type_weight element

@@ -5,6 +5,7 @@ use Rattle.vast_read.specs.Internal.Reading.{Reading}
 use Rattle.vast_read.specs.declared.build.Form.{Form}
 use Rattle.vast_read.specs.declared.build.Form.TheVariants as form
 
+-- The grammar's expression of which the parts are what these were made of.
 abbrev pub form_tree : {E P W : Type 0} → Reading E P W → Form E P W → NormalExpr
 form_tree r (form.Name w) = normal.Name w.now
 form_tree r (form.Literal w) = normal.Literal w.now

@@ -3,6 +3,7 @@ use Rattle.vast_literal.specs.Tokens as to
 use Rattle.vast_read.specs.declared.token.Token.{Token}
 use Rattle.vast_read.specs.declared.token.Token.TheVariants as token
 
+-- The grammar's token that a token of the reader stands for.
 abbrev pub token_view : Token → to.Token
 token_view (token.Reserved k) = to.Reserved k
 token_view (token.Word w) = to.Word w.now

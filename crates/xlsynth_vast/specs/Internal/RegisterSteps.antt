@@ -20,6 +20,7 @@ abbrev pub MayFill : (old new : Bench) → Result (Unit {0}) AllocError → Vast
 MayFill old new (Ok _) block after = new ≡ after
 MayFill old new (Err _) block after = StaysUnused block old new
 
+-- The block of the registers was made, or memory was refused and no list names what there is more.
 abbrev pub MayMakeBlock : (old new : Bench) → Result VastStatementBlock AllocError → Option Reset → List RegisterDefinition → Type 0
 MayMakeBlock old new (Ok block) reset registers = (block ≡ next_block old) × (new ≡ with_register_block reset registers old)
 MayMakeBlock old new (Err _) reset registers = HasUnused old new

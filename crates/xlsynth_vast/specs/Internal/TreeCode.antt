@@ -198,8 +198,10 @@ first_type _ = MissingType
 letters_code : Coded (List Letter)
 letters_code = coded_list (hlevel codes)
 
+-- The letters of an expression, which give it back: by these a proof tells apart what files hold.
 pub expr_code : Coded ExprTree
 expr_code = code_by (List Letter) letters_code (λ t. spell_expr t []) (λ ls. first_expr (read_letters ls [])) (λ t. ap first_expr (expr-read t [] []))
 
+-- The same of a type.
 pub type_code : Coded TypeTree
 type_code = code_by (List Letter) letters_code (λ t. spell_type t []) (λ ls. first_type (read_letters ls [])) (λ t. ap first_type (type-read t [] []))
