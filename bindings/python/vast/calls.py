@@ -419,7 +419,7 @@ class Calls(Core):
         return Module(self, self._later(f"AddModule {quoted(name)}"))
 
     def add_input(self, owner: Module, name: str, data_type: TypeLike) -> LogicRef:
-        """An input, as the module's last port; answers its name as an expression.
+        """An input, as the module's last port; returns its name as an expression.
 
         Raises `Condition` unless: `name_is_free`.
         """
@@ -428,7 +428,7 @@ class Calls(Core):
         ))
 
     def add_output(self, owner: Module, name: str, data_type: TypeLike) -> LogicRef:
-        """An output, as the module's last port; answers its name as an expression.
+        """An output, as the module's last port; returns its name as an expression.
 
         Raises `Condition` unless: `name_is_free`.
         """
@@ -464,7 +464,7 @@ class Calls(Core):
         ))
 
     def add_wire(self, owner: Module, name: str, data_type: TypeLike) -> LogicRef:
-        """A wire, as the module's last member; answers its name as an expression.
+        """A wire, as the module's last member; returns its name as an expression.
 
         Raises `Condition` unless: `name_is_free`.
         """
@@ -473,7 +473,7 @@ class Calls(Core):
         ))
 
     def add_reg(self, owner: Module, name: str, data_type: TypeLike) -> LogicRef:
-        """A reg, as the module's last member; answers its name as an expression.
+        """A reg, as the module's last member; returns its name as an expression.
 
         Raises `Refused` where the module has the name.
         """
@@ -482,7 +482,7 @@ class Calls(Core):
         ))
 
     def add_logic(self, owner: Module, name: str, data_type: TypeLike) -> LogicRef:
-        """A logic, as the module's last member; answers its name as an expression.
+        """A logic, as the module's last member; returns its name as an expression.
 
         Raises `Refused` where the module has the name.
         """
@@ -510,7 +510,7 @@ class Calls(Core):
         ))
 
     def add_parameter(self, owner: Module, name: str, rhs: Operand) -> ParameterRef:
-        """`parameter NAME = VALUE`, as the module's last member; answers its name."""
+        """`parameter NAME = VALUE`, as the module's last member; returns its name."""
         return ParameterRef(self, self._later(
             f"AddParameter {self._own(owner, Module)} {quoted(name)} {self._value(rhs)}"
         ))
@@ -523,13 +523,13 @@ class Calls(Core):
         ))
 
     def add_localparam(self, owner: Module, name: str, rhs: Operand) -> LocalparamRef:
-        """`localparam NAME = VALUE`, as the module's last member; answers its name."""
+        """`localparam NAME = VALUE`, as the module's last member; returns its name."""
         return LocalparamRef(self, self._later(
             f"AddLocalparam {self._own(owner, Module)} {quoted(name)} {self._value(rhs)}"
         ))
 
     def add_int_localparam(self, owner: Module, name: str, rhs: Operand) -> LocalparamRef:
-        """`localparam int NAME = VALUE`, as the module's last member; answers its name."""
+        """`localparam int NAME = VALUE`, as the module's last member; returns its name."""
         return LocalparamRef(self, self._later(
             f"AddIntLocalparam {self._own(owner, Module)} {quoted(name)} {self._value(rhs)}"
         ))
@@ -630,7 +630,7 @@ class Calls(Core):
         name: str,
         rhs: Operand,
     ) -> LocalparamRef:
-        """`localparam NAME = VALUE`, as the loop's last member; answers its name."""
+        """`localparam NAME = VALUE`, as the loop's last member; returns its name."""
         return LocalparamRef(self, self._later(
             f"GenerateAddLocalparam {self._own(generate, GenerateLoop)} {quoted(name)}"
             f" {self._value(rhs)}"
@@ -744,7 +744,7 @@ class Calls(Core):
         ))
 
     def function_add_reg(self, function: Function, name: str, data_type: TypeLike) -> LogicRef:
-        """A reg, as the function's last local; answers its name as an expression.
+        """A reg, as the function's last local; returns its name as an expression.
 
         Raises `Refused` where the function has the name.
         """
@@ -753,7 +753,7 @@ class Calls(Core):
         ))
 
     def function_add_logic(self, function: Function, name: str, data_type: TypeLike) -> LogicRef:
-        """A logic, as the function's last local; answers its name as an expression.
+        """A logic, as the function's last local; returns its name as an expression.
 
         Raises `Refused` where the function has the name.
         """
@@ -880,7 +880,7 @@ class Calls(Core):
         ))
 
     def conditional_add_else(self, conditional: Conditional) -> StatementBlock:
-        """The conditional's `else` with an empty block; answers the block.
+        """The conditional's `else` with an empty block; returns the block.
 
         Raises `Condition` unless: not `conditional_has_else`.
         """

@@ -279,11 +279,11 @@ class Module(ModuleWords):
     __slots__ = ()
 
     def add_input(self, name: str, data_type: TypeLike) -> LogicRef:
-        """`File.add_input`: an input, as the module's last port; answers its name as an expression."""
+        """`File.add_input`: an input, as the module's last port; returns its name as an expression."""
         return self.file.add_input(self, name, data_type)
 
     def add_output(self, name: str, data_type: TypeLike) -> LogicRef:
-        """`File.add_output`: an output, as the module's last port; answers its name as an
+        """`File.add_output`: an output, as the module's last port; returns its name as an
         expression.
         """
         return self.file.add_output(self, name, data_type)
@@ -305,15 +305,15 @@ class Module(ModuleWords):
         return self.file.add_logic_output(self, name, data_type)
 
     def add_wire(self, name: str, data_type: TypeLike) -> LogicRef:
-        """`File.add_wire`: a wire, as the module's last member; answers its name as an expression."""
+        """`File.add_wire`: a wire, as the module's last member; returns its name as an expression."""
         return self.file.add_wire(self, name, data_type)
 
     def add_reg(self, name: str, data_type: TypeLike) -> LogicRef:
-        """`File.add_reg`: a reg, as the module's last member; answers its name as an expression."""
+        """`File.add_reg`: a reg, as the module's last member; returns its name as an expression."""
         return self.file.add_reg(self, name, data_type)
 
     def add_logic(self, name: str, data_type: TypeLike) -> LogicRef:
-        """`File.add_logic`: a logic, as the module's last member; answers its name as an
+        """`File.add_logic`: a logic, as the module's last member; returns its name as an
         expression.
         """
         return self.file.add_logic(self, name, data_type)
@@ -331,7 +331,7 @@ class Module(ModuleWords):
         return self.file.add_typed_parameter_port(self, name, data_type, value)
 
     def add_parameter(self, name: str, rhs: Operand) -> ParameterRef:
-        """`File.add_parameter`: `parameter NAME = VALUE`, as the module's last member; answers its
+        """`File.add_parameter`: `parameter NAME = VALUE`, as the module's last member; returns its
         name.
         """
         return self.file.add_parameter(self, name, rhs)
@@ -343,14 +343,14 @@ class Module(ModuleWords):
         return self.file.add_parameter_with_def(self, definition, rhs)
 
     def add_localparam(self, name: str, rhs: Operand) -> LocalparamRef:
-        """`File.add_localparam`: `localparam NAME = VALUE`, as the module's last member; answers
+        """`File.add_localparam`: `localparam NAME = VALUE`, as the module's last member; returns
         its name.
         """
         return self.file.add_localparam(self, name, rhs)
 
     def add_int_localparam(self, name: str, rhs: Operand) -> LocalparamRef:
         """`File.add_int_localparam`: `localparam int NAME = VALUE`, as the module's last member;
-        answers its name.
+        returns its name.
         """
         return self.file.add_int_localparam(self, name, rhs)
 
@@ -475,13 +475,13 @@ class Function(FunctionWords):
         return self.file.function_add_logic_input(self, name, data_type)
 
     def add_reg(self, name: str, data_type: TypeLike) -> LogicRef:
-        """`File.function_add_reg`: a reg, as the function's last local; answers its name as an
+        """`File.function_add_reg`: a reg, as the function's last local; returns its name as an
         expression.
         """
         return self.file.function_add_reg(self, name, data_type)
 
     def add_logic(self, name: str, data_type: TypeLike) -> LogicRef:
-        """`File.function_add_logic`: a logic, as the function's last local; answers its name as an
+        """`File.function_add_logic`: a logic, as the function's last local; returns its name as an
         expression.
         """
         return self.file.function_add_logic(self, name, data_type)
@@ -717,7 +717,7 @@ class Conditional(ConditionalWords):
         return self.file.conditional_add_else_if(self, condition)
 
     def add_else(self) -> StatementBlock:
-        """`File.conditional_add_else`: the conditional's `else` with an empty block; answers the
+        """`File.conditional_add_else`: the conditional's `else` with an empty block; returns the
         block.
         """
         return self.file.conditional_add_else(self)
@@ -790,7 +790,7 @@ class GenerateLoop(LoopWords):
 
     def add_localparam(self, name: str, rhs: Operand) -> LocalparamRef:
         """`File.generate_add_localparam`: `localparam NAME = VALUE`, as the loop's last member;
-        answers its name.
+        returns its name.
         """
         return self.file.generate_add_localparam(self, name, rhs)
 

@@ -6,7 +6,7 @@ use xlsynth_vast::{Expr, VastFile, VastModule};
 /// The target is assigned the value.
 ///
 /// # Errors
-/// `Foreign` where a handle is another file's; want of memory.
+/// `Foreign` where a handle is another file's; out of memory.
 pub(crate) fn assign(
     module: VastModule,
     target: Expr,

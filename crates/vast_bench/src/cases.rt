@@ -6,7 +6,7 @@ use xlsynth_vast::{CaseStatement, Expr, LiteralFormat, VastFile};
 /// A `case` of so many arms in an `always_comb`.
 ///
 /// # Errors
-/// Want of memory, and a literal of more than 32 bits is refused.
+/// Out of memory, and a literal of more than 32 bits is refused.
 pub(crate) fn build_cases(size: usize, file: &mut VastFile) -> Result<(), BenchFault> {
     let module = file.add_module("cases")?;
     let word = file.make_bit_vector_type(32, false)?;

@@ -5,9 +5,6 @@ use crate::fault::BenchFault;
 use xlsynth_vast::{Expr, VastDataType, VastFile, VastModule};
 
 /// So many wires in one module, each assigned the one before it, and the first one the input.
-///
-/// # Errors
-/// Want of memory.
 pub(crate) fn build_flat(size: usize, file: &mut VastFile) -> Result<(), BenchFault> {
     let module = file.add_module("flat")?;
     let byte = file.make_bit_vector_type(8, false)?;

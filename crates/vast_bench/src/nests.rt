@@ -5,9 +5,6 @@ use xlsynth_vast::{Expr, VastFile, VastStatementBlock};
 
 /// So many nests in one `always_comb`, each of `depth` conditionals, every one in the one before it, and an assignment
 /// in the last.
-///
-/// # Errors
-/// Want of memory.
 pub(crate) fn build_nests(
     count: usize,
     depth: usize,
@@ -43,7 +40,7 @@ fn add_nest(
     Ok(())
 }
 
-/// A conditional in the block; answers its own block.
+/// A conditional in the block; returns its own block.
 fn add_level(
     block: VastStatementBlock,
     go: Expr,

@@ -5,9 +5,6 @@ use crate::fault::BenchFault;
 use xlsynth_vast::VastFile;
 
 /// One assignment of so many sums, the first in the second, and so on.
-///
-/// # Errors
-/// Want of memory.
 pub(crate) fn build_sum(size: usize, file: &mut VastFile) -> Result<(), BenchFault> {
     let module = file.add_module("sum")?;
     let byte = file.make_bit_vector_type(8, false)?;

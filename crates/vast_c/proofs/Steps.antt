@@ -16,7 +16,7 @@ use Rattle.vast_c.specs.declared.TheConstants.{MEMORY}
 use Rattle.vast_c.specs.declared.kept.Cause.{Cause}
 use Rattle.vast_c.specs.declared.kept.Cause.TheVariants.{Refused, Condition, Form, Memory}
 use Rattle.vast_c.specs.declared.kept.Kept.{Kept}
-use Rattle.vast_c.specs.declared.kept.Told.{Told}
+use Rattle.vast_c.specs.declared.kept.ToldFault.{ToldFault}
 use Rattle.std.specs.Prelude.{IfSome, Option, None, Some}
 use Rattle.std.specs.Option.{option_map_or}
 
@@ -25,7 +25,7 @@ pub gave_more : (a : Session) (lines : List (List ℕ)) (b : Session) (line : Li
 gave_more a [] b line c same gave = (c, subst (λ (s : Session). GaveLine s line c) same gave, refl)
 gave_more a (first ∷ lines) b line c gave last = (gave.0, gave.1, gave_more gave.0 lines b line c gave.2 last)
 
--- the item behind the first n
+-- the item after the first n
 pub record Next {X : Type 0} (all : List X) (n : ℕ) (x : X) (xs : List X) : Type 0 where
   pub taken : take (n + 1) all ≡ take n all ++ x ∷ []
   pub dropped : drop (n + 1) all ≡ xs
@@ -75,11 +75,11 @@ made_as Same b a lines taken cause before after is_before is_after weaker run =
     rw (is_before, is_after) (record { between = run.between; gave = run.gave; same = weaker run.between a.session run.same; counted = run.counted; fault = run.fault })
 
 -- a fault of one line is that of the first of more lines
-pub fault_of_first : (a b : Session) (n m : ℕ) (line : List ℕ) (lines rest : List (List ℕ)) (told : Option Told) → n ≡ m → rest ≡ line ∷ lines → TellsFault a b m (line ∷ []) told → TellsFault a b n rest told
+pub fault_of_first : (a b : Session) (n m : ℕ) (line : List ℕ) (lines rest : List (List ℕ)) (told : Option ToldFault) → n ≡ m → rest ≡ line ∷ lines → TellsFault a b m (line ∷ []) told → TellsFault a b n rest told
 fault_of_first a b n m line lines rest told same is fault = rw (same, is) fault
 
 -- the fault that is told of a line is what the session said of it
-pub told_of : (a b c : Session) (n : ℕ) (line : List ℕ) (fault : Fault) (told : Option Told) → c ≡ b → IfSome told (λ t. fault ≡ Line t.fault)
+pub told_of : (a b c : Session) (n : ℕ) (line : List ℕ) (fault : Fault) (told : Option ToldFault) → c ≡ b → IfSome told (λ t. fault ≡ Line t.fault)
     → IsOfLine n fault → IsCausedBy a b line fault → (HasKind line Passed → ⊥) → TellsFault a c n (line ∷ []) told
 told_of a b c n line fault None same is number cause kind = tt
 told_of a b c n line fault (Some t) same is number cause kind =
@@ -87,6 +87,6 @@ told_of a b c n line fault (Some t) same is number cause kind =
     subst (λ (s : Session). IsFaultOf a s n (line ∷ []) (Line t.fault)) (sym same) said
 
 -- where a fault of this cause is told, its status is the cause's
-pub status_told : (cause : Cause) (told : Option Told) → IsToldOf cause told → status_of cause ≡ option_map_or (λ (t : Told). status_of (cause_of t.fault.cause)) told MEMORY
+pub status_told : (cause : Cause) (told : Option ToldFault) → IsToldOf cause told → status_of cause ≡ option_map_or (λ (t : ToldFault). status_of (cause_of t.fault.cause)) told MEMORY
 status_told cause None is = ap status_of is
 status_told cause (Some t) is = ap status_of (sym is)

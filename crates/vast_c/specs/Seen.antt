@@ -10,7 +10,7 @@ use Rattle.vast_list.specs.Lines.{HasKind, Passed}
 use Rattle.vast_list.specs.Session.{Gives, IsCausedBy, IsFileLeft, IsGivenBy, IsNew, IsOfLine, IsTextOf}
 use Rattle.vast_list.specs.declared.fault.Fault.{Fault}
 use Rattle.vast_list.specs.declared.fault.Fault.TheVariants.{Line, Memory as FaultMemory}
-use Rattle.vast_list.specs.declared.session.Given.{Given}
+use Rattle.vast_list.specs.declared.session.LineResult.{LineResult}
 use Rattle.vast_list.specs.declared.session.Session.{Session}
 use Rattle.vast_script.specs.declared.fault.StepFault.{StepFault}
 use Rattle.vast_script.specs.declared.fault.StepFault.TheVariants.{NoAnswer, WrongKind, Condition as NotMet, Refused as IsRefused, Memory as OutOfMemory}
@@ -18,7 +18,7 @@ use Rattle.vast_c.specs.declared.TheConstants.{ANSWER, MESSAGE, WORDS, CALL, FIL
 use Rattle.vast_c.specs.declared.kept.Cause.{Cause}
 use Rattle.vast_c.specs.declared.kept.Cause.TheVariants.{Refused, Condition, Form, Memory}
 use Rattle.vast_c.specs.declared.kept.Kept.{Kept}
-use Rattle.vast_c.specs.declared.kept.Told.{Told}
+use Rattle.vast_c.specs.declared.kept.ToldFault.{ToldFault}
 
 -- The file's tree and the answers are as before.
 abbrev pub IsSameTree : (before after : Session) → Type 0
@@ -30,7 +30,7 @@ more_lines lines more = min (lines + more) (2 ^ 64 - 1)
 
 -- The line gave something of its kind.
 abbrev pub GaveLine : (before : Session) → (line : List ℕ) → (after : Session) → Type 0
-GaveLine before line after = (given : Given) × Gives before after line given × IsGivenBy line given
+GaveLine before line after = (given : LineResult) × Gives before after line given × IsGivenBy line given
 
 -- Each of the lines gave something, one after another.
 abbrev pub Gave : (before : Session) → (lines : List (List ℕ)) → (after : Session) → Type 0
@@ -43,7 +43,7 @@ IsFaultOf before after number [] fault = ⊥
 IsFaultOf before after number (line ∷ lines) fault = IsOfLine number fault × IsCausedBy before after line fault × (HasKind line Passed → ⊥)
 
 -- What is told, if anything is, is such a fault.
-abbrev pub TellsFault : (before after : Session) → (number : ℕ) → (lines : List (List ℕ)) → Option Told → Type 0
+abbrev pub TellsFault : (before after : Session) → (number : ℕ) → (lines : List (List ℕ)) → Option ToldFault → Type 0
 TellsFault before after number lines told = IfSome told (λ t. IsFaultOf before after number lines (Line t.fault))
 
 -- So many of the lines gave what they gave and were counted; since then the session is the same but for what Same leaves
@@ -80,7 +80,7 @@ lines_in None = 0
 lines_in (Some kept) = kept.lines
 
 -- the last fault, if there is one
-abbrev pub told_in : Option Kept → Option Told
+abbrev pub told_in : Option Kept → Option ToldFault
 told_in None = None
 told_in (Some kept) = kept.told
 
@@ -89,9 +89,9 @@ abbrev pub text_in : (text : ℤ) → Option Kept → List ℕ
 text_in text None = []
 text_in text (Some kept) =
     if int_eq text ANSWER then string_bytes kept.answer
-    else if int_eq text MESSAGE then option_map_or (λ (told : Told). string_bytes told.message) kept.told []
-    else if int_eq text WORDS then option_map_or (λ (told : Told). string_bytes told.fault.words) kept.told []
-    else if int_eq text CALL then option_map_or (λ (told : Told). string_bytes told.fault.call) kept.told []
+    else if int_eq text MESSAGE then option_map_or (λ (told : ToldFault). string_bytes told.message) kept.told []
+    else if int_eq text WORDS then option_map_or (λ (told : ToldFault). string_bytes told.fault.words) kept.told []
+    else if int_eq text CALL then option_map_or (λ (told : ToldFault). string_bytes told.fault.call) kept.told []
     else if int_eq text FILE then string_bytes kept.file
     else []
 
@@ -100,8 +100,8 @@ abbrev pub number_in : (number : ℤ) → Option Kept → ℕ
 number_in number None = 0
 number_in number (Some kept) =
     if int_eq number COUNT then length kept.session.answers.items
-    else if int_eq number LINE then option_map_or (λ (told : Told). told.fault.line) kept.told 0
-    else if int_eq number COLUMN then option_map_or (λ (told : Told). unwrap_or told.fault.column 0) kept.told 0
+    else if int_eq number LINE then option_map_or (λ (told : ToldFault). told.fault.line) kept.told 0
+    else if int_eq number COLUMN then option_map_or (λ (told : ToldFault). unwrap_or told.fault.column 0) kept.told 0
     else 0
 
 -- What a fault's cause is to C: a line that is not in the form has none.
@@ -122,7 +122,7 @@ status_of Memory = MEMORY
 
 -- the status of a fault: its cause's; where none is told, memory was refused
 abbrev pub status_in : Option Kept → ℤ
-status_in kept = option_map_or (λ (told : Told). status_of (cause_of told.fault.cause)) (told_in kept) MEMORY
+status_in kept = option_map_or (λ (told : ToldFault). status_of (cause_of told.fault.cause)) (told_in kept) MEMORY
 
 -- A new session of the dialect is open, with no line, no fault and no text.
 abbrev pub IsFresh : VastFileType → Option Kept → Type 0

@@ -11,7 +11,7 @@ ghost use Rattle.vast_c.specs.Internal.Seen.{IsToldOf, LeftBy, LeftIfAny};
 
 use crate::lines::first_line;
 use std::alloc::Global;
-use vast_list::{Fault, Given, LineFault, Session};
+use vast_list::{Fault, LineFault, LineResult, Session};
 use vast_script::StepFault;
 use xlsynth_vast::VastFileType;
 
@@ -30,7 +30,7 @@ pub(crate) enum Cause {
 
 /// A fault, and its message.
 #[derive(Drop)]
-pub(crate) struct Told {
+pub(crate) struct ToldFault {
     pub(crate) message: String,
     pub(crate) fault: LineFault,
 }
@@ -44,7 +44,7 @@ pub(crate) struct Kept {
     /// What the last line answered.
     pub(crate) answer: String,
     /// The last fault, where the last call had one.
-    pub(crate) told: Option<Told>,
+    pub(crate) told: Option<ToldFault>,
     /// The file as it was printed last.
     pub(crate) file: String,
 }
@@ -103,7 +103,7 @@ impl Kept {
     /// Prints the file.
     ///
     /// # Errors
-    /// A refusal of the text, and want of memory; the text of before stays.
+    /// A refusal of the text, and out of memory; the text of before stays.
     pub(crate) fn print(&mut self) -> Result<(), Cause>
         ensures printed { IfOk result (λ _. IsPrinted self.old.session self.new.file) }
         ensures session { self.new.session ≡ self.old.session }
@@ -137,7 +137,7 @@ impl Kept {
     {
         let number = self.lines.saturating_add(1);
         match self.session.line(number, line) {
-            Ok(Given::Answer { value, .. }) => {
+            Ok(LineResult::Answer { value, .. }) => {
                 let Ok(answer) = format!(in *self.answer.allocator(); "{value}") else {
                     self.told = None;
                     return Err(Cause::Memory);
@@ -155,7 +155,7 @@ impl Kept {
         }
     }
 
-    /// Keeps the fault, and answers its cause.
+    /// Keeps the fault, and returns its cause.
     fn tell(&mut self, fault: Fault) -> Cause
         ensures left { (a b : AnySession) → IsLeft a b fault → LeftBy a b result }
         ensures session { self.new.session ≡ self.old.session }
@@ -172,7 +172,7 @@ impl Kept {
             return Cause::Memory;
         };
         let cause = cause_of(&fault);
-        self.told = Some(Told { message, fault });
+        self.told = Some(ToldFault { message, fault });
         cause
     }
 }

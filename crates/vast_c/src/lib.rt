@@ -21,7 +21,7 @@ use std::alloc::Global;
 use warned::warned_text;
 use xlsynth_vast::VastFileType;
 
-/// What a call answers.
+/// What a call returns.
 pub const OK: i32 = 0;
 
 /// The library refuses what the line asks.
@@ -170,7 +170,7 @@ pub extern "C" fn vast_print(alloc: Global, handle: &mut Handle) -> i32
     }
 }
 
-/// Copies the start of a text, as much as fits, and answers the length of all of it.
+/// Copies the start of a text, as much as fits, and returns the length of all of it.
 #[unsafe(no_mangle)]
 pub extern "C" fn vast_text(alloc: Global, handle: &mut Handle, text: i32, out: &mut [u8]) -> usize
     ensures copied { Copied (text_in text handle.old.kept) out.old out.new result }

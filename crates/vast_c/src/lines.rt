@@ -5,7 +5,7 @@ ghost use Rattle.vast_list.specs.Lines.{lines_of};
 
 use vast_list::ended_line;
 
-/// The first line of the bytes, which are not none, without its line feed, and what stands behind that.
+/// The first line of the bytes, which are not none, without its line feed, and what stands after that.
 #[tactic(auto, using(vast_list::proofs::EndedLines::first_lines))]
 pub(crate) fn first_line(bytes: &[u8]) -> (&[u8], &[u8])
     requires { 0 < length bytes.now }

@@ -8,9 +8,6 @@ use xlsynth_vast::VastFileType;
 
 /// What the calls of these lines print that is no SystemVerilog or Verilog, or that a tool refuses: a line for each, in
 /// the form of [`LineWarning`]. Lines are counted from 1.
-///
-/// # Errors
-/// Want of memory.
 pub(crate) fn warned_text(
     alloc: Global,
     dialect: VastFileType,
@@ -21,7 +18,7 @@ pub(crate) fn warned_text(
     written(alloc, &warnings)
 }
 
-/// The list of these lines, behind one that names the dialect, which is not counted.
+/// The list of these lines, after one that names the dialect, which is not counted.
 fn list_of(
     alloc: Global,
     dialect: VastFileType,

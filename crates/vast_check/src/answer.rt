@@ -26,9 +26,6 @@ pub(crate) enum Answer<'t> {
 }
 
 /// What is found of these bytes.
-///
-/// # Errors
-/// Want of memory.
 pub(crate) fn answer_of(alloc: Global, bytes: &[u8]) -> Result<Answer<'_>, AllocError>
     ensures { IfOk result (Answers bytes.now) }
 {

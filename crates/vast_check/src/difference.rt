@@ -40,7 +40,7 @@ impl<'t> Pair<'t> {
 /// Two texts side by side, but for tokens that may be redundant.
 #[derive(Drop)]
 struct Aligned<'t> {
-    /// Where both begin, and what stands behind each semicolon of both.
+    /// Where both begin, and what stands after each semicolon of both.
     starts: Vec<Pair<'t>>,
     /// From the first tokens on that are not the same.
     other: Pair<'t>,
@@ -50,9 +50,6 @@ struct Aligned<'t> {
 /// are not the same, or in an earlier statement that is grouped otherwise the first parentheses.
 ///
 /// Statements are those that end with a semicolon. Where groupings differ, the texts are compared again some twenty times.
-///
-/// # Errors
-/// Want of memory.
 pub(crate) fn difference<'t>(alloc: Global, texts: Pair<'t>) -> Result<Pair<'t>, AllocError> {
     let Aligned { starts, other } = side_by_side(alloc, texts)?;
     let statement = first_regrouped(alloc, texts, &starts)?;
@@ -123,7 +120,7 @@ fn is_same_before(
     Ok(are_same(alloc, &mixed, texts.new)? == Comparison::Same)
 }
 
-/// What is left behind the tokens that are the same.
+/// What is left after the tokens that are the same.
 fn behind_alike(texts: Pair<'_>) -> Pair<'_> {
     let mut rest = texts;
     for _ in 0..texts.old.len() {

@@ -1,9 +1,9 @@
-//! What could stand behind the beginning of a file.
+//! What could stand after the beginning of a file.
 
 use std::alloc::{AllocError, Global};
 use vast_read::underived_at;
 
-/// A token that is tried behind a beginning, how what it stands for is told, and by which other words it is told too.
+/// A token that is tried after a beginning, how what it stands for is told, and by which other words it is told too.
 type Trial = (&'static str, &'static str, &'static [&'static str]);
 
 /// What is tried, in the order in which it is told.
@@ -80,12 +80,9 @@ pub(crate) struct Expected {
     pub(crate) is_all: bool,
 }
 
-/// What could stand behind this beginning of a text: words for tokens that the reader takes there.
+/// What could stand after this beginning of a text: words for tokens that the reader takes there.
 ///
 /// Of long texts few are tried.
-///
-/// # Errors
-/// Want of memory.
 pub(crate) fn expected_behind(alloc: Global, before: &str) -> Result<Expected, AllocError> {
     let mut words = Vec::new(alloc);
     let most = MOST_READ / (before.len() + 1);
@@ -110,7 +107,7 @@ fn is_told(words: &[&'static str], within: &[&'static str]) -> bool {
     within.iter().any(|word| words.contains(word))
 }
 
-/// Whether the reader takes this token behind this beginning.
+/// Whether the reader takes this token after this beginning.
 fn goes_on(alloc: Global, before: &str, token: &str) -> Result<bool, AllocError> {
     let mut text = String::with_capacity(alloc, before.len() + token.len() + 1)?;
     text.push_str(before)?;

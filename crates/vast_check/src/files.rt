@@ -11,7 +11,7 @@ const STDIN: &str = "<stdin>";
 
 /// Answers the files in order, or standard input where there are none.
 ///
-/// A file that can't be read is told, and the files behind it are answered.
+/// A file that can't be read is told, and the files after it are answered.
 pub(crate) fn answer_files(rt: &HostRuntime, files: &[&str]) -> Outcome {
     if files.is_empty() {
         return answer_stdin(rt);

@@ -11,7 +11,7 @@ pub enum Outcome {
     Yes,
     /// It isn't so.
     No,
-    /// Some file was not read; where each is answered by itself, the files behind it are.
+    /// Some file was not read; where each is answered by itself, the files after it are.
     Unread,
     /// A stream failed or memory was refused, which ends the run.
     Failed,

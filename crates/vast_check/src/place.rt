@@ -33,7 +33,7 @@ fn breaks(bytes: &[u8]) -> usize
     bytes.iter().filter(|byte| **byte == b'\n').count()
 }
 
-/// What stands behind the last line break.
+/// What stands after the last line break.
 fn last_line(bytes: &[u8]) -> &[u8]
     ensures { result.now ≡ last_line bytes.now }
 {

@@ -23,7 +23,7 @@ pub(crate) struct Source<'t> {
 
 /// What is found of two files.
 #[derive(Clone, Copy)]
-pub(crate) enum Found<'t> {
+pub(crate) enum PairResult<'t> {
     /// The grammar derives one file from both.
     Same,
     /// It derives two: their texts.
@@ -48,14 +48,14 @@ pub(crate) fn compare<W: Write, E: Write>(
     ensures silent { result ≢ Outcome.Failed → E.contents err.new ≡ E.contents err.old }
 {
     match found_of(alloc, old.bytes, new.bytes) {
-        Ok(Found::Same) => write_made(same_line(alloc), Outcome::Yes, out, err),
-        Ok(Found::Different(texts)) => write_made(
+        Ok(PairResult::Same) => write_made(same_line(alloc), Outcome::Yes, out, err),
+        Ok(PairResult::Different(texts)) => write_made(
             difference_line(alloc, old.name, new.name, texts),
             Outcome::No,
             out,
             err,
         ),
-        Ok(Found::Underived) => {
+        Ok(PairResult::Underived) => {
             let told = tell_underived(alloc, old, out, err);
             told.and(tell_underived(alloc, new, out, err))
         }
@@ -64,22 +64,22 @@ pub(crate) fn compare<W: Write, E: Write>(
 }
 
 /// What is found of two files.
-fn found_of<'t>(alloc: Global, old: &'t [u8], new: &'t [u8]) -> Result<Found<'t>, AllocError>
+fn found_of<'t>(alloc: Global, old: &'t [u8], new: &'t [u8]) -> Result<PairResult<'t>, AllocError>
     ensures { IfOk result (Compares old.now new.now) }
 {
     match (str::from_utf8(old), str::from_utf8(new)) {
         (Ok(old), Ok(new)) => found_texts(alloc, Pair { old, new }),
-        _ => Ok(Found::Underived),
+        _ => Ok(PairResult::Underived),
     }
 }
 
-fn found_texts(alloc: Global, texts: Pair<'_>) -> Result<Found<'_>, AllocError>
+fn found_texts(alloc: Global, texts: Pair<'_>) -> Result<PairResult<'_>, AllocError>
     ensures { IfOk result (Compares texts.entry.old.now texts.entry.new.now) }
 {
     match are_same(alloc, texts.old, texts.new)? {
-        Comparison::Same => Ok(Found::Same),
-        Comparison::Different => Ok(Found::Different(texts)),
-        Comparison::OldUnderived | Comparison::NewUnderived => Ok(Found::Underived),
+        Comparison::Same => Ok(PairResult::Same),
+        Comparison::Different => Ok(PairResult::Different(texts)),
+        Comparison::OldUnderived | Comparison::NewUnderived => Ok(PairResult::Underived),
     }
 }
 

@@ -1,4 +1,4 @@
-//! The words behind the program's name.
+//! The words after the program's name.
 
 use std::alloc::Global;
 use vast_shell::WordFault;
@@ -22,7 +22,7 @@ struct Seen<'a> {
     help: bool,
     version: bool,
     same: bool,
-    /// Whether `--` was there, behind which each word is a file.
+    /// Whether `--` was there, after which each word is a file.
     only_files: bool,
     files: Vec<&'a str>,
 }
@@ -30,7 +30,7 @@ struct Seen<'a> {
 /// What the words ask for, in any order: `--help` whatever else there is, else one thing.
 ///
 /// # Errors
-/// An unknown word, a file where none is taken, and want of memory.
+/// An unknown word, a file where none is taken, and out of memory.
 pub(crate) fn requested<'a>(
     alloc: Global,
     words: &[&'a str],

@@ -40,7 +40,7 @@ case-place b x h = kind-there (is_kind CaseStatementKind) b.nests x.id.index nev
 pub loop-place : (b : Bench) (x : GenerateLoop) → OwnsLoop b x → x.id.index < length b.nests
 loop-place b x h = kind-there (is_kind LoopKind) b.nests x.id.index never h.of_kind
 
--- The element behind the last one but one.
+-- The element after the last one but one.
 second-seam : {A : Type 0} (xs : List A) (x y : A) → slice_get ((xs ++ x ∷ []) ++ y ∷ []) (suc (length xs)) ≡ Some y
 second-seam [] x y = refl
 second-seam (z ∷ xs) x y = second-seam xs x y

@@ -129,7 +129,7 @@ pub function-enters-as :
     GrowthSound b (InModule owner (FunctionEntry h) (Some taken)) (fresh_function variable type (record { name = name; result_type = type; result_name = g; inputs = inputs; locals = locals; body = body; names = names }))
 function-enters-as b owner h variable taken name type g inputs locals body names e f i l x n t o k free = rw (e, f, i, l, x, n, t) (function-enters b owner variable name type o k free)
 
--- What the file is behind this growth.
+-- What the file is after this growth.
 pub function-grown :
     (b : Bench) (owner : VastModule) (h : VastFunction) (variable : List ℕ) (n taken name : List ℕ) (type : VastDataType) (g : LogicRef) (inputs locals : List FunctionVariable) (body : VastStatementBlock) (names : List (List ℕ)) →
     h ≡ next_function b → g ≡ next_logic_ref b → inputs ≡ [] → locals ≡ [] → body ≡ next_block b → names ≡ n ∷ [] → taken ≡ n → name ≡ n → variable ≡ n →

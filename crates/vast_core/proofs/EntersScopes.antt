@@ -19,7 +19,7 @@ use Rattle.vast_core.specs.Sound.{EventSound, FormSound, MemberSound, MemberNewe
 use Rattle.vast_core.specs.Growth.{next_logic_ref, next_continuous, with_expr}
 use Rattle.vast_core.specs.Internal.Parameters.{IsDeclaredBy}
 use Rattle.vast_core.specs.Containers.{next_conditional, new_conditional}
-use Rattle.vast_core.specs.Internal.Containers.{Fresh, FreshSound, GrowthSound, with_fresh, after_growth, no_fresh, fresh_assignment, made, held_by_fresh, spare_used}
+use Rattle.vast_core.specs.Internal.Containers.{Fresh, FreshSound, GrowthSound, with_fresh, after_growth, no_fresh, fresh_assignment, made, held_by_fresh, detached_used}
 use Rattle.vast_core.proofs.Containers.{fresh_container}
 use Rattle.vast_core.specs.Loops.{next_always, next_loop, new_always, new_loop, with_loop}
 use Rattle.vast_core.proofs.Loops.{fresh_always, fresh_loop, fresh_name}
@@ -57,7 +57,7 @@ NewerIn (ScopeLoop l) c entry = MemberNewer c l.id.index entry
 -- The entry of a scope is sound where the member is, and places what is made.
 scope-enters :
     (b : Bench) (scope : Scope) (m : Member) (f : Fresh) → OwnsScope b scope → FreshSound b (with_fresh f b) f → MemberSound (with_fresh f b) m → IsUnnamed m → NewerIn scope (with_fresh f b) m →
-    held_by_member m ++ held_by_fresh f ≡ made b f ++ spare_used f.takes_spare b.spare → GrowthSound b (listing_in scope m) f
+    held_by_member m ++ held_by_fresh f ≡ made b f ++ detached_used f.takes_detached b.detached → GrowthSound b (listing_in scope m) f
 scope-enters b (ScopeModule owner) m f o h k unnamed newer placed =
     record { fresh = h; listing = record { owner_there = o; member = k; kind = own-kind m unnamed; declares = no-names (with_fresh f b).functions m unnamed; free = tt }; placed = placed }
 scope-enters b (ScopeLoop owner) m f o h k unnamed newer placed = record { fresh = h; listing = (loop-place b owner o, (k, newer)); placed = placed }
@@ -128,11 +128,11 @@ over-newer b (ScopeModule owner) kind events block older = tt
 over-newer b (ScopeLoop owner) kind events block older = rw (slice_get-seam b.always_blocks (always_over kind events block)) older
 
 pub always_over-enters :
-    (b : Bench) (scope : Scope) (kind : AlwaysKind) (events : List Expr) (block : VastStatementBlock) → OwnsScope b scope → All (EventSound b) events → OwnsBlock b block → b.spare ≡ Some block →
+    (b : Bench) (scope : Scope) (kind : AlwaysKind) (events : List Expr) (block : VastStatementBlock) → OwnsScope b scope → All (EventSound b) events → OwnsBlock b block → b.detached ≡ Some block →
     IsOlder scope block → GrowthSound b (listing_in scope (AlwaysEntry (next_always b))) (fresh_over (always_over kind events block))
-always_over-enters b scope kind events block o h k spare older =
+always_over-enters b scope kind events block o h k detached older =
     scope-enters b scope (AlwaysEntry (next_always b)) (fresh_over (always_over kind events block)) o (over-comes b kind events block h k) (next_over_owned b kind events block) tt
-    (over-newer b scope kind events block older) (rw spare refl)
+    (over-newer b scope kind events block older) (rw detached refl)
 
 pub conditional-enters :
     (b : Bench) (scope : Scope) (condition : Expr) → OwnsScope b scope → OwnsExpr b condition →
@@ -157,7 +157,7 @@ pub loop-enters-as :
     GrowthSound b (listing_in scope (LoopEntry h)) (fresh_loop variable (LoopNestRecord (record { genvar = g; name = name; start = start; end = end; label = label; members = ms })))
 loop-enters-as b scope h variable g name start end label ms e f m o k l = rw (e, f, m) (loop-enters b scope variable name start end label o k l)
 
--- What the file is behind these growths.
+-- What the file is after these growths.
 
 pub scope-grown : (b : Bench) (scope : Scope) (m : Member) (f : Fresh) → after_growth (listing_in scope m) f b ≡ with_scope_member scope m (with_fresh f b)
 scope-grown b (ScopeModule owner) m f = refl

@@ -10,7 +10,7 @@ use Rattle.vast_core.specs.Bench.{Bench, OwnsExpr, OwnsIndexable, tree_of, trees
 use Rattle.vast_core.specs.Growth.{next_id, with_expr, with_type, with_bounds, with_vector, with_fixed_index, with_fixed_slice, next_expr, known_literal, decimal_literal, with_fixed_replication}
 use Rattle.vast_core.proofs.Laws.{next_owned, next_tree, old_owned, old_tree, old_trees}
 
--- The ids behind one literal and behind two.
+-- The ids after one literal and after two.
 
 pub second_id : (b : Bench) (e : ExprTree) → next_id (with_expr e b) (length (with_expr e b).nodes.roots) ≡ next_id b (length b.nodes.roots + 1)
 second_id b e = rw (length-append b.nodes.roots (ExprRoot e ∷ [])) refl
@@ -65,7 +65,7 @@ pub fixed-vector :
     with_type (VectorTree (tree_of (with_expr (known_literal t w) b) i) (Some w) signed) (with_expr (known_literal t w) b) ≡ with_vector bits signed b
 fixed-vector b bits w signed t i q o k = rw (q, o, k, next_tree b (decimal_literal bits)) refl
 
--- The subject and both literals are the file's behind the literals.
+-- The subject and both literals are the file's after the literals.
 pub bounds-owned :
     (b : Bench) (s : IndexableExpr) (high low : ExprTree) (i e : Expr) (second : Id) → OwnsIndexable b s → i ≡ next_expr b → e ≡ record { id = s.id } → second ≡ next_id b (length b.nodes.roots + 1) →
     OwnsExpr (with_expr low (with_expr high b)) e × OwnsExpr (with_expr low (with_expr high b)) i × OwnsExpr (with_expr low (with_expr high b)) (record { id = second })

@@ -3,7 +3,7 @@ use Rattle.std.proofs.Common.{◌≡◌, ℕ, List, map, refl, arith, subst}
 use Rattle.std.specs.Prelude.{IfSome}
 use Rattle.vast_core.specs.declared.handle.VastModule.{VastModule}
 use Rattle.vast_core.specs.declared.node.Module.{Module}
-use Rattle.vast_core.specs.Raw.{Raw}
+use Rattle.vast_core.specs.ArenaState.{ArenaState}
 use Rattle.vast_core.specs.Records.{ModuleRecord, module_record, changed_at}
 use Rattle.vast_core.specs.Bench.{Bench}
 use Rattle.vast_core.specs.View.{bench}
@@ -46,29 +46,29 @@ RecordsSound-changed b i f q s =
     }
 
 pub bench-changed :
-    (a b : Raw) (i : ℕ) (f : ModuleRecord → ModuleRecord) (ms : List Module) (r : ℕ) → b ≡ a →
+    (a b : ArenaState) (i : ℕ) (f : ModuleRecord → ModuleRecord) (ms : List Module) (r : ℕ) → b ≡ a →
     map module_record ms ≡ changed_at i f (map module_record b.modules) →
     bench (record b { modules = ms; module_room = r }) ≡ record (bench a) { modules = changed_at i f (bench a).modules }
 unfolding bench
 bench-changed a b i f ms r e q = rw (q, ← e) refl
 
-spare-hoisted : (b : Bench) (m : VastModule) (start : ℕ) (o : Option VastStatementBlock) → IfSome o (OwnsBlock b) → IfSome o (OwnsBlock (with_hoisted m start b))
-spare-hoisted b m start None h = tt
-spare-hoisted b m start (Some x) h = record { of_file = h.of_file; of_kind = h.of_kind }
+detached-hoisted : (b : Bench) (m : VastModule) (start : ℕ) (o : Option VastStatementBlock) → IfSome o (OwnsBlock b) → IfSome o (OwnsBlock (with_hoisted m start b))
+detached-hoisted b m start None h = tt
+detached-hoisted b m start (Some x) h = record { of_file = h.of_file; of_kind = h.of_kind }
 
 FileSound-hoisted : (b : Bench) (m : VastModule) (start : ℕ) → FileSound b → FileSound (with_hoisted m start b)
 FileSound-hoisted b m start s =
     record {
       records = RecordsSound-changed b m.id.index (with_members_hoisted start) (members-hoisted b start) s.records;
-      spare = spare-hoisted b m start b.spare s.spare;
+      detached = detached-hoisted b m start b.detached s.detached;
       names = names-hoisted b m start s.names;
       parents = HasOneParent-hoisted b m start s.parents;
       kinds = KindsSound-hoisted b m start s.kinds;
     }
 
 pub sound-hoisted :
-    (a b : Raw) (m : VastModule) (start : ℕ) (ms : List Module) (r : ℕ) → b ≡ a →
+    (a b : ArenaState) (m : VastModule) (start : ℕ) (ms : List Module) (r : ℕ) → b ≡ a →
     map module_record ms ≡ changed_at m.id.index (with_members_hoisted start) (map module_record b.modules) → IsSound b → IsSound (record b { modules = ms; module_room = r })
 sound-hoisted a b m start ms r e q s =
-    let P : Raw → Type 0 = λ y. FileSound (bench y) in
+    let P : ArenaState → Type 0 = λ y. FileSound (bench y) in
     record { terms = s.terms; file = rw (bench-changed a b m.id.index (with_members_hoisted start) ms r e q) (FileSound-hoisted (bench a) m start (subst P e s.file)) }

@@ -9,7 +9,7 @@ use Rattle.vast_core.specs.Functions.{with_listed_variable}
 use Rattle.vast_core.specs.Hoisting.{with_members_hoisted, with_hoisted}
 use Rattle.vast_core.specs.WrittenKinds.{IsVariableKind, HasOwnKind, HasLocalKind}
 use Rattle.vast_core.specs.Sound.{Each, DeclaresOwnKinds, HasLocalKinds, GivesValues, KindsSound}
-use Rattle.vast_core.specs.Internal.Containers.{Listing, Nowhere, InFile, InHeader, InPorts, InModule, InFunction, InNest, AsSpare, with_listed, with_listing, with_fresh, Fresh, FreshSound, ComesEmpty, FunctionComes, InstanceComes, ListingSound}
+use Rattle.vast_core.specs.Internal.Containers.{Listing, Nowhere, InFile, InHeader, InPorts, InModule, InFunction, InNest, AsDetached, with_listed, with_listing, with_fresh, Fresh, FreshSound, ComesEmpty, FunctionComes, InstanceComes, ListingSound}
 use Rattle.vast_core.proofs.Lists.{Each-push, Each-changed_at}
 use Rattle.vast_core.proofs.Added.{Each-added}
 use Rattle.vast_core.proofs.Hoisting.{Each-hoisted}
@@ -65,7 +65,7 @@ KindsSound-listing b c (InModule owner entry name) k s = record { declarations =
 KindsSound-listing b c (InFunction f local v) k s =
     record { declarations = s.declarations; locals = Each-changed_at HasLocalKinds (with_listed_variable local v) (variable-kinds local v k.kind) c.functions f.id.index s.locals; values = s.values }
 KindsSound-listing b c (InNest place entry) k s = s
-KindsSound-listing b c (AsSpare block) k s = s
+KindsSound-listing b c (AsDetached block) k s = s
 
 -- Hoisting.
 

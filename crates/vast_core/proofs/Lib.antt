@@ -21,6 +21,7 @@ pub mod Added
 pub mod ModuleNames
 pub mod KindsKept
 pub mod Growing
+pub mod Admitted
 pub mod Enters
 pub mod EntersMembers
 pub mod EntersRecords
@@ -33,5 +34,5 @@ pub mod EntersScopes
 pub mod WellFormedParts
 pub mod WellFormedTree
 pub mod Stays
-pub mod Spots
+pub mod InsertionPoints
 pub mod Heights

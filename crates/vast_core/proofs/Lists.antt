@@ -1,4 +1,4 @@
--- Laws of lists: reading behind an append, changing one element, facts of each element.
+-- Laws of lists: reading after an append, changing one element, facts of each element.
 use Rattle.std.proofs.Common.{zero, suc, get_or, ◌≡◌, ℕ, ◌<◌, ◌≤◌, IsTrue, nat_lt, List, [], ◌∷◌, ◌++◌, length, Some, None, slice_get, All, refl, sym, ap, arith, map}
 use Rattle.std.proofs.Math.ListN.{set}
 use Rattle.vast_core.specs.Records.{changed_at}
@@ -9,7 +9,7 @@ slice_get-append [] ys i x h = cc
 slice_get-append (y ∷ xs) ys zero x h = h
 slice_get-append (y ∷ xs) ys (suc i) x h = slice_get-append xs ys i x h
 
--- The element behind a list that grew by one.
+-- The element after a list that grew by one.
 pub slice_get-seam : {X : Type 0} (xs : List X) (x : X) → slice_get (xs ++ x ∷ []) (length xs) ≡ Some x
 slice_get-seam [] x = refl
 slice_get-seam (y ∷ xs) x = slice_get-seam xs x

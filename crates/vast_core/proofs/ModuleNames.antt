@@ -16,7 +16,7 @@ use Rattle.vast_core.specs.Functions.{with_listed_variable}
 use Rattle.vast_core.specs.Hoisting.{with_members_hoisted, with_hoisted}
 use Rattle.vast_core.specs.DeclaredNames.{name_of_port, name_of_function, names_by_port, names_by_member, names_declared, times, NamesSound}
 use Rattle.vast_core.specs.Sound.{AreDistinct, Each, MemberSound, ModuleSound, RecordsSound, NamesAreSound}
-use Rattle.vast_core.specs.Internal.Containers.{Listing, Nowhere, InFile, InHeader, InPorts, InModule, InFunction, InNest, AsSpare, with_listed, listed_name, with_listing, Fresh, with_fresh, ListingSound}
+use Rattle.vast_core.specs.Internal.Containers.{Listing, Nowhere, InFile, InHeader, InPorts, InModule, InFunction, InNest, AsDetached, with_listed, listed_name, with_listing, Fresh, with_fresh, ListingSound}
 use Rattle.vast_core.proofs.Lists.{below-of, All-cons, All-head, All-tail, Each-changed_at, Each-changed_there}
 use Rattle.vast_core.proofs.Added.{Each-added, get-added}
 use Rattle.vast_core.proofs.Names.{test-equal}
@@ -204,7 +204,7 @@ names-listing b c (InFunction f local v) s k h =
     let d : Bench = with_listing (InFunction f local v) c in
     all-kept c d (record { ports = λ i below. refl; functions = λ i below. name-changed (with_listed_variable local v) (listed-name local v) c.functions f.id.index i }) c.modules s.modules h
 names-listing b c (InNest place entry) s k h = h
-names-listing b c (AsSpare block) s k h = h
+names-listing b c (AsDetached block) s k h = h
 
 -- Hoisting.
 

@@ -9,7 +9,7 @@ use Rattle.vast_core.specs.Bench.{Bench}
 use Rattle.vast_core.specs.Functions.{with_listed_variable}
 use Rattle.vast_core.specs.Hoisting.{with_hoisted, with_members_hoisted}
 use Rattle.vast_core.specs.Containers.{NestedEntry, StatementEnters, ElseIfEnters, ElseEnters, CaseArmEnters, MemberEnters, with_entry, with_unique, with_case_unique}
-use Rattle.vast_core.specs.Internal.Containers.{Listing, Nowhere, InFile, InHeader, InPorts, InModule, InFunction, InNest, AsSpare, with_listed, listed_functions, listed_nests, with_listing, added, Fresh, with_fresh, with_empty_block, spare_left, after_growth, read_off, held_by_entry, held_by_listing, held_by_fresh, made_containers, made, spare_used}
+use Rattle.vast_core.specs.Internal.Containers.{Listing, Nowhere, InFile, InHeader, InPorts, InModule, InFunction, InNest, AsDetached, with_listed, listed_functions, listed_nests, with_listing, added, Fresh, with_fresh, with_empty_block, detached_left, after_growth, read_off, held_by_entry, held_by_listing, held_by_fresh, made_containers, made, detached_used}
 use Rattle.vast_core.specs.Parents.{Part, ContainerPart, FunctionPart, AlwaysPart, is_same, held_by_statement, held_by_member, held_by_else_if, held_by_block, held_by_case_arm, held_by_conditional, held_by_container, held_by_function, held_by_always, held_by_module, held, places, present, HasOneParent}
 use Rattle.vast_core.proofs.Lists.{length-changed_at, length-push}
 use Rattle.vast_core.proofs.Counts.{count-append, over-push, over-added, over-changed, over-hoisted}
@@ -60,13 +60,13 @@ listed p entry (Some name) m = let e = over-push (is_same p) held_by_member m.me
 
 file-places :
     (p : Part) (b : Bench) → places p (held b) ≡
-    places p (flat_map held_by_container b.nests) + (places p (flat_map held_by_function b.functions) + (places p (flat_map held_by_always b.always_blocks) + (places p (flat_map held_by_module b.modules) + places p (held_by_block b.spare))))
+    places p (flat_map held_by_container b.nests) + (places p (flat_map held_by_function b.functions) + (places p (flat_map held_by_always b.always_blocks) + (places p (flat_map held_by_module b.modules) + places p (held_by_block b.detached))))
 file-places p b =
     let t = is_same p in
-    let modules = count-append t (flat_map held_by_module b.modules) (held_by_block b.spare) in
-    let always_blocks = count-append t (flat_map held_by_always b.always_blocks) (flat_map held_by_module b.modules ++ held_by_block b.spare) in
-    let functions = count-append t (flat_map held_by_function b.functions) (flat_map held_by_always b.always_blocks ++ (flat_map held_by_module b.modules ++ held_by_block b.spare)) in
-    let containers = count-append t (flat_map held_by_container b.nests) (flat_map held_by_function b.functions ++ (flat_map held_by_always b.always_blocks ++ (flat_map held_by_module b.modules ++ held_by_block b.spare))) in
+    let modules = count-append t (flat_map held_by_module b.modules) (held_by_block b.detached) in
+    let always_blocks = count-append t (flat_map held_by_always b.always_blocks) (flat_map held_by_module b.modules ++ held_by_block b.detached) in
+    let functions = count-append t (flat_map held_by_function b.functions) (flat_map held_by_always b.always_blocks ++ (flat_map held_by_module b.modules ++ held_by_block b.detached)) in
+    let containers = count-append t (flat_map held_by_container b.nests) (flat_map held_by_function b.functions ++ (flat_map held_by_always b.always_blocks ++ (flat_map held_by_module b.modules ++ held_by_block b.detached))) in
     omega (arith, containers, functions, always_blocks, modules)
 
 -- New nodes.
@@ -75,16 +75,16 @@ empty-block : (p : Part) (block : Bool) (nests : List NestRecord) → places p (
 empty-block p false nests = refl
 empty-block p true nests = let e = over-push (is_same p) held_by_container nests (BlockRecord []) in omega (arith, e)
 
-spare-parts : (p : Part) (takes : Bool) (spare : Option VastStatementBlock) → places p (held_by_block (spare_left takes spare)) + places p (spare_used takes spare) ≡ places p (held_by_block spare)
-spare-parts p false spare = omega arith
-spare-parts p true spare = omega arith
+detached-parts : (p : Part) (takes : Bool) (detached : Option VastStatementBlock) → places p (held_by_block (detached_left takes detached)) + places p (detached_used takes detached) ≡ places p (held_by_block detached)
+detached-parts p false detached = omega arith
+detached-parts p true detached = omega arith
 
 module-parts : (p : Part) (o : Option ModuleRecord) → places p (read_off held_by_module o) ≡ 0 → (ms : List ModuleRecord) → places p (flat_map held_by_module (added ms o)) ≡ places p (flat_map held_by_module ms)
 module-parts p o h ms = let e = over-added (is_same p) held_by_module ms o in omega (arith, e, h)
 
 nodes-come :
     (p : Part) (f : Fresh) (b : Bench) → places p (read_off held_by_module f.fresh_module) ≡ 0 →
-    places p (held (with_fresh f b)) + places p (spare_used f.takes_spare b.spare) ≡ places p (held b) + places p (held_by_fresh f)
+    places p (held (with_fresh f b)) + places p (detached_used f.takes_detached b.detached) ≡ places p (held b) + places p (held_by_fresh f)
 nodes-come p f b none =
     let t = is_same p in
     let old = file-places p b in
@@ -94,10 +94,10 @@ nodes-come p f b none =
     let functions = over-added t held_by_function b.functions f.function in
     let always_blocks = over-added t held_by_always b.always_blocks f.always_block in
     let modules = module-parts p f.fresh_module none b.modules in
-    let spare = spare-parts p f.takes_spare b.spare in
+    let detached = detached-parts p f.takes_detached b.detached in
     let outer = count-append t (read_off held_by_container f.container) (read_off held_by_function f.function ++ read_off held_by_always f.always_block) in
     let inner = count-append t (read_off held_by_function f.function) (read_off held_by_always f.always_block) in
-    omega (arith, old, new, block, containers, functions, always_blocks, modules, spare, outer, inner)
+    omega (arith, old, new, block, containers, functions, always_blocks, modules, detached, outer, inner)
 
 -- A new entry.
 
@@ -133,9 +133,9 @@ entry-comes p (InNest place entry) b =
     let new = file-places p (with_listing (InNest place entry) b) in
     let more = over-changed (is_same p) held_by_container (with_entry entry) (places p (held_by_entry entry)) (entered p entry) b.nests place in
     omega (arith, old, new, more)
-entry-comes p (AsSpare block) b =
+entry-comes p (AsDetached block) b =
     let old = file-places p b in
-    let new = file-places p (with_listing (AsSpare block) b) in
+    let new = file-places p (with_listing (AsDetached block) b) in
     omega (arith, old, new)
 
 -- The parts that a file has.
@@ -228,7 +228,7 @@ present-listed (AlwaysPart i) l b = refl
 -- A growth that places what it makes, each once.
 pub HasOneParent-growth :
     (b : Bench) (l : Listing) (f : Fresh) → ((p : Part) → places p (read_off held_by_module f.fresh_module) ≡ 0) →
-    held_by_listing l ++ held_by_fresh f ≡ made b f ++ spare_used f.takes_spare b.spare → HasOneParent b → HasOneParent (after_growth l f b)
+    held_by_listing l ++ held_by_fresh f ≡ made b f ++ detached_used f.takes_detached b.detached → HasOneParent b → HasOneParent (after_growth l f b)
 HasOneParent-growth b l f none placed h =
     record {
       once = λ p.
@@ -240,7 +240,7 @@ HasOneParent-growth b l f none placed h =
           let more = present-made p f b in
           let same = ap (places p) placed in
           let left = count-append t (held_by_listing l) (held_by_fresh f) in
-          let right = count-append t (made b f) (spare_used f.takes_spare b.spare) in
+          let right = count-append t (made b f) (detached_used f.takes_detached b.detached) in
           omega (arith, old, nodes, entry, there, more, same, left, right);
     }
 

@@ -4,30 +4,30 @@ use Rattle.std.specs.Prelude.{IfSome}
 use Rattle.vast_core.specs.declared.handle.Expr.{Expr}
 use Rattle.vast_core.specs.declared.handle.VastStatementBlock.{VastStatementBlock}
 use Rattle.vast_literal.specs.declared.kind.AlwaysKind.{AlwaysKind}
-use Rattle.vast_core.specs.Raw.{Raw}
+use Rattle.vast_core.specs.ArenaState.{ArenaState}
 use Rattle.vast_core.specs.Nests.{AlwaysRecord}
 use Rattle.vast_core.specs.Bench.{Bench, OwnsAlways, OwnsBlock}
 use Rattle.vast_core.specs.View.{bench}
 use Rattle.vast_core.specs.Sound.{EventSound, FileSound}
 use Rattle.vast_core.specs.Internal.Sound.{IsSound}
 use Rattle.vast_core.specs.Containers.{with_block, next_block}
-use Rattle.vast_core.specs.Internal.Containers.{AsSpare, GrowthSound, Fresh, FreshSound, no_fresh, fresh_block}
+use Rattle.vast_core.specs.Internal.Containers.{AsDetached, GrowthSound, Fresh, FreshSound, no_fresh, fresh_block}
 use Rattle.vast_core.specs.Loops.{next_always}
 use Rattle.vast_core.specs.Unattached.{always_over, with_always_over}
 use Rattle.vast_core.proofs.Lists.{Each-own}
 use Rattle.vast_core.proofs.Terms.{last-test}
 use Rattle.vast_core.proofs.Enters.{a-block-comes, next_block_owned}
 
-pub spare-comes : (b : Bench) → GrowthSound b (AsSpare (next_block b)) fresh_block
-spare-comes b = record { fresh = a-block-comes b (with_block b); listing = next_block_owned b; placed = refl }
+pub detached-comes : (b : Bench) → GrowthSound b (AsDetached (next_block b)) fresh_block
+detached-comes b = record { fresh = a-block-comes b (with_block b); listing = next_block_owned b; placed = refl }
 
-pub file-sound : (a b : Raw) → b ≡ a → IsSound b → FileSound (bench a)
-file-sound a b e s = let P : Raw → Type 0 = λ y. FileSound (bench y) in subst P e s.file
+pub file-sound : (a b : ArenaState) → b ≡ a → IsSound b → FileSound (bench a)
+file-sound a b e s = let P : ArenaState → Type 0 = λ y. FileSound (bench y) in subst P e s.file
 
 -- An always block over a block.
 
 abbrev pub fresh_over : AlwaysRecord → Fresh
-fresh_over a = record no_fresh { always_block = Some a; takes_spare = true }
+fresh_over a = record no_fresh { always_block = Some a; takes_detached = true }
 
 pub over-comes :
     (b : Bench) (kind : AlwaysKind) (events : List Expr) (block : VastStatementBlock) → All (EventSound b) events → OwnsBlock b block →
@@ -38,11 +38,11 @@ over-comes b kind events block h k =
 pub next_over_owned : (b : Bench) (kind : AlwaysKind) (events : List Expr) (block : VastStatementBlock) → OwnsAlways (with_always_over kind events block b) (next_always b)
 next_over_owned b kind events block = record { of_file = refl; of_kind = rw (length-append b.always_blocks (always_over kind events block ∷ [])) (last-test (length b.always_blocks)) }
 
-spare-there : (b : Bench) (o : Option VastStatementBlock) (x : VastStatementBlock) → o ≡ Some x → IfSome o (OwnsBlock b) → OwnsBlock b x
-spare-there b o x e h = rw e at h
+detached-there : (b : Bench) (o : Option VastStatementBlock) (x : VastStatementBlock) → o ≡ Some x → IfSome o (OwnsBlock b) → OwnsBlock b x
+detached-there b o x e h = rw e at h
 
--- The spare block is the file's.
-pub spare-owned : (b : Bench) (x : VastStatementBlock) → FileSound b → b.spare ≡ Some x → OwnsBlock b x
-spare-owned b x s e = spare-there b b.spare x e s.spare
+-- The detached block is the file's.
+pub detached-owned : (b : Bench) (x : VastStatementBlock) → FileSound b → b.detached ≡ Some x → OwnsBlock b x
+detached-owned b x s e = detached-there b b.detached x e s.detached
 
-pub ruleset enters_over = (spare-comes, spare-owned)
+pub ruleset enters_over = (detached-comes, detached-owned)

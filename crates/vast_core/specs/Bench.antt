@@ -48,11 +48,11 @@ pub record Bench : Type 0 where
   pub always_blocks : List AlwaysRecord
   pub items : List FileItem
   -- A block that nothing holds yet, for an always block to take.
-  pub spare : Option VastStatementBlock
+  pub detached : Option VastStatementBlock
 
 -- A file that holds nothing.
 abbrev pub start : VastFileType → ℕ → Bench
-start file_type id = record { file_type = file_type; nodes = no_nodes id; nests = []; ports = []; assignments = []; modules = []; functions = []; definitions = []; artifacts = []; instances = []; always_blocks = []; items = []; spare = None }
+start file_type id = record { file_type = file_type; nodes = no_nodes id; nests = []; ports = []; assignments = []; modules = []; functions = []; definitions = []; artifacts = []; instances = []; always_blocks = []; items = []; detached = None }
 
 -- The tree of a handle.
 

@@ -45,9 +45,9 @@ with_nest n b = record b { nests = b.nests ++ n ∷ [] }
 abbrev pub with_block : Bench → Bench
 with_block b = with_nest (BlockRecord []) b
 
--- An empty block, which is the file's spare one.
-abbrev pub with_spare_block : Bench → Bench
-with_spare_block b = record (with_block b) { spare = Some (next_block b) }
+-- An empty block, which is the file's detached one.
+abbrev pub with_detached_block : Bench → Bench
+with_detached_block b = record (with_block b) { detached = Some (next_block b) }
 
 -- A conditional and its first arm, an empty block.
 abbrev pub new_conditional : Bench → Expr → NestRecord

@@ -16,26 +16,26 @@ use Rattle.vast_core.specs.declared.handle.ContinuousAssignment.{ContinuousAssig
 use Rattle.vast_literal.specs.declared.kind.ModulePortDirection.{ModulePortDirection}
 use Rattle.vast_literal.specs.declared.kind.DataKind.{DataKind}
 use Rattle.vast_core.specs.declared.node.Assignment.{Assignment}
-use Rattle.vast_core.specs.Raw.{Raw}
+use Rattle.vast_core.specs.ArenaState.{ArenaState}
 use Rattle.vast_core.specs.View.{bench}
 use Rattle.vast_core.specs.Nodes.{Root, ExprRoot, TypeRoot, with_node}
 use Rattle.vast_core.specs.Records.{FileItem, ModuleEntry, Member, DeclarationEntry, new_module, with_listed_port, with_listed_member, with_listed_name, changed_at}
 use Rattle.vast_core.specs.Bench.{Bench, tree_of, trees_of, type_of}
 
--- The call answers this and leaves this, both of what the file held; or memory was refused and nothing changed.
+-- The call returns this and leaves this, both of what the file held; or memory was refused and nothing changed.
 abbrev pub Builds : {A : Type 0} → (old new : Bench) → Result A AllocError → (Bench → A) → (Bench → Bench) → Type 0
 Builds old new (Ok x) answer after = (x ≡ answer old) × (new ≡ after old)
 Builds old new (Err _) answer after = new ≡ old
 
--- The same of a call that answers nothing.
+-- The same of a call that returns nothing.
 abbrev pub Leaves : (old new : Bench) → Result (Unit {0}) AllocError → (Bench → Bench) → Type 0
 Leaves old new result after = Builds old new result (λ _. tt) after
 
 -- The same two of the arenas that hold the file.
-abbrev pub Grows : {A : Type 0} → (old new : Raw) → Result A AllocError → (Bench → A) → (Bench → Bench) → Type 0
+abbrev pub Grows : {A : Type 0} → (old new : ArenaState) → Result A AllocError → (Bench → A) → (Bench → Bench) → Type 0
 Grows old new result answer after = Builds (bench old) (bench new) result answer after
 
-abbrev pub GrowsBy : (old new : Raw) → Result (Unit {0}) AllocError → (Bench → Bench) → Type 0
+abbrev pub GrowsBy : (old new : ArenaState) → Result (Unit {0}) AllocError → (Bench → Bench) → Type 0
 GrowsBy old new result after = Leaves (bench old) (bench new) result after
 
 abbrev pub with_root : Bench → Root → Bench

@@ -8,5 +8,5 @@ pub mod Containers
 pub mod Fresh
 pub mod Arrivals
 pub mod Scopes
-pub mod Spots
+pub mod InsertionPoints
 pub mod Entries

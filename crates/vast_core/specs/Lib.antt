@@ -3,7 +3,7 @@ pub mod Types
 pub mod Nodes
 pub mod Records
 pub mod Nests
-pub mod Raw
+pub mod ArenaState
 pub mod Bench
 pub mod BitCount
 pub mod View
@@ -22,5 +22,5 @@ pub mod Functions
 pub mod Events
 pub mod Unattached
 pub mod Scopes
-pub mod Spots
+pub mod InsertionPoints
 pub mod Internal

@@ -61,9 +61,9 @@ held_by_always a = ContainerPart a.block.id.index ∷ []
 abbrev pub held_by_module : ModuleRecord → List Part
 held_by_module m = flat_map held_by_member m.members
 
--- The parts that stand anywhere in the file; its spare block stands in a place of its own.
+-- The parts that stand anywhere in the file; its detached block stands in a place of its own.
 abbrev pub held : Bench → List Part
-held b = flat_map held_by_container b.nests ++ (flat_map held_by_function b.functions ++ (flat_map held_by_always b.always_blocks ++ (flat_map held_by_module b.modules ++ held_by_block b.spare)))
+held b = flat_map held_by_container b.nests ++ (flat_map held_by_function b.functions ++ (flat_map held_by_always b.always_blocks ++ (flat_map held_by_module b.modules ++ held_by_block b.detached)))
 
 -- In how many places a part stands.
 abbrev pub places : Part → List Part → ℕ

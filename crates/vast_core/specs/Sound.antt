@@ -197,10 +197,10 @@ pub record KindsSound (modules : List ModuleRecord) (functions : List FunctionRe
   pub locals : Each HasLocalKinds functions
   pub values : Each GivesValues instances
 
--- What records, lists and the spare block name is the file's; names are distinct, parents single, kinds as the grammar has them.
+-- What records, lists and the detached block name is the file's; names are distinct, parents single, kinds as the grammar has them.
 pub record FileSound (b : Bench) : Type 0 where
   pub records : RecordsSound b
-  pub spare : IfSome b.spare (OwnsBlock b)
+  pub detached : IfSome b.detached (OwnsBlock b)
   pub names : NamesAreSound b
   pub parents : HasOneParent b
   pub kinds : KindsSound b.modules b.functions b.instances

@@ -52,7 +52,7 @@ base_is_signed _ = false
 abbrev pub is_signed : TypeTree → Bool
 is_signed t = base_is_signed (base_of t)
 
--- What an expression keeps of itself: the text of a literal is one literal token, perhaps behind a minus, and that of a
+-- What an expression keeps of itself: the text of a literal is one literal token, perhaps after a minus, and that of a
 -- string one string token; a part select has a bit at least, and a cast is to no array.
 abbrev pub ExprFits : ExprTree → Type 0
 ExprFits (LiteralTree text value) = IsTrue (is_literal_text text)

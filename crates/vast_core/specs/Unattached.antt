@@ -10,6 +10,6 @@ use Rattle.vast_core.specs.Bench.{Bench}
 abbrev pub always_over : AlwaysKind → List Expr → VastStatementBlock → AlwaysRecord
 always_over kind events block = record { kind = kind; events = events; block = block }
 
--- An always block more, over the file's spare block, which is none any more.
+-- An always block more, over the file's detached block, which is none any more.
 abbrev pub with_always_over : AlwaysKind → List Expr → VastStatementBlock → Bench → Bench
-with_always_over kind events block b = record b { always_blocks = b.always_blocks ++ always_over kind events block ∷ []; spare = None }
+with_always_over kind events block b = record b { always_blocks = b.always_blocks ++ always_over kind events block ∷ []; detached = None }

@@ -1,13 +1,13 @@
 -- What a file holds, read off its arenas.
 use Rattle.std.specs.Prelude.{map}
-use Rattle.vast_core.specs.Raw.{Raw}
+use Rattle.vast_core.specs.ArenaState.{ArenaState}
 use Rattle.vast_core.specs.Nodes.{no_nodes, built}
 use Rattle.vast_core.specs.Records.{module_record, instance_record}
 use Rattle.vast_core.specs.Nests.{nest_record, function_record, always_record}
 use Rattle.vast_core.specs.Bench.{Bench}
 
 -- The bench of what an `Ast` holds.
-unfoldable pub bench : Raw → Bench
+unfoldable pub bench : ArenaState → Bench
 bench a =
     record {
       file_type = a.file_type;
@@ -22,5 +22,5 @@ bench a =
       instances = map instance_record a.instances;
       always_blocks = map always_record a.always_blocks;
       items = a.items;
-      spare = a.spare;
+      detached = a.detached;
     }

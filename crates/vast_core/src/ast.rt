@@ -21,11 +21,13 @@ mod bit_count;
 mod blocks;
 mod branches;
 mod decimal;
+mod detached;
 mod events;
 mod expressions;
 mod functions;
 mod growth;
 mod hoisting;
+pub(crate) mod insertion_point;
 mod inspect;
 mod laws;
 mod loops;
@@ -38,8 +40,6 @@ mod parameters;
 mod places;
 mod ports;
 pub(crate) mod scope;
-mod spare;
-pub(crate) mod spot;
 mod terms;
 mod types;
 mod variables;
@@ -65,13 +65,13 @@ pub struct Ast {
     always_blocks: Vec<AlwaysBlock>,
     items: Vec<FileItem>,
     /// A block that nothing holds yet, for an always block to take.
-    spare: Option<VastStatementBlock>,
+    detached: Option<VastStatementBlock>,
 }
 
 impl Model for Ast {
-    ghost use Rattle.vast_core.specs.Raw.{Raw};
+    ghost use Rattle.vast_core.specs.ArenaState.{ArenaState};
 
-    ghost Value = { Raw };
+    ghost Value = { ArenaState };
 
     ghost use Rattle.vast_core.specs.Internal.Arenas.{arenas};
     ghost use Rattle.vast_core.specs.Internal.Sound.{IsSound};
@@ -99,7 +99,7 @@ impl Drop for Ast {
             instances: _instances,
             always_blocks: _always_blocks,
             items: _items,
-            spare: _,
+            detached: _,
         } = self;
     }
 }
@@ -124,7 +124,7 @@ impl Ast {
             instances: Vec::new(alloc),
             always_blocks: Vec::new(alloc),
             items: Vec::new(alloc),
-            spare: None,
+            detached: None,
         }
     }
 

@@ -12,9 +12,9 @@ mod node;
 mod shape;
 
 pub use ast::Ast;
+pub use ast::insertion_point::InsertionPoint;
 pub use ast::owns::Handle;
 pub use ast::scope::Scope;
-pub use ast::spot::Spot;
 pub use bits::{BitCountFault, WidthFault};
 pub use file_ids::{FileIds, IdsSpent};
 pub use handle::{

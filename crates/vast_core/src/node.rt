@@ -48,7 +48,7 @@ pub enum ExprNode {
     MacroCall(String, Vec<Expr>),
     /// The call of a function.
     Call(String, Vec<Expr>),
-    /// A data type, which is no expression: [`crate::Ast::expr`] never answers it.
+    /// A data type, which is no expression: [`crate::Ast::expr`] never returns it.
     DataType(TypeNode),
 }
 

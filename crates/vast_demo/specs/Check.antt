@@ -18,7 +18,7 @@ IsDerived bytes = IsUtf8 bytes × IsDerivedText bytes
 abbrev pub IsAnswer : Option (List ℕ) → Option (List ℕ) → Bool → Type 0
 IsAnswer before after answer = (bytes : List ℕ) × GivesAll before after bytes × (IsTrue answer ↔ IsDerived bytes)
 
--- the line that answers
+-- the line that is written
 abbrev pub answer_line : (derived : Bool) → List ℕ
 answer_line true = codes "derived\n"
 answer_line false = codes "not derived\n"

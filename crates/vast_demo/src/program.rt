@@ -14,16 +14,16 @@ use vast_shell::{Failure, InputFault, WriteFault, print, tell, write_whole};
 /// The line that tells of other words.
 const UNKNOWN: &str = "unknown design\n";
 
-/// Prints the design that the one word names to `out`, or checks `input`, and answers the status.
+/// Prints the design that the one word names to `out`, or checks `input`, and returns the status.
 ///
-/// `passthrough`, `cases` and `registers` are printed with status 0. A fault or want of memory prints its text to
+/// `passthrough`, `cases` and `registers` are printed with status 0. A fault or out of memory prints its text to
 /// `err`, status 1; a failed write prints `write fault` there, status 1. No word, another word or more than one prints
-/// `unknown design` there, status 2. Every text on `err` has a line break behind it; a failed write there changes no
+/// `unknown design` there, status 2. Every text on `err` has a line break after it; a failed write there changes no
 /// status. No design reads `input`.
 ///
 /// `check` reads `input` to its end and prints `derived`, status 0, where that is the UTF-8 of a text that the grammar
 /// derives, and `not derived`, status 1, where it isn't; where a write failed, a front of that line. A failed read, more
-/// than 16,777,216 bytes or no end after 16,777,217 reads prints `read fault` to `err`, status 1, and want of memory its
+/// than 16,777,216 bytes or no end after 16,777,217 reads prints `read fault` to `err`, status 1, and out of memory its
 /// text: no more than 16,777,217 bytes are read then, and nothing is written to `out`. An interrupted read or write is
 /// tried again; such a read counts as one. A text on `err` may lack its end where a write to it failed.
 pub fn run<R: Read, W: Write, E: Write>(
@@ -96,7 +96,7 @@ fn print_answer<R: Read, W: Write, E: Write>(
     }
 }
 
-/// The line that answers.
+/// The line that is written.
 fn answer_line(is_derived: bool) -> &'static str
     ensures { result.now ≡ answer_line is_derived }
 {

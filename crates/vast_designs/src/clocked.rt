@@ -43,9 +43,6 @@ struct Values {
 }
 
 /// The text of the registers.
-///
-/// # Errors
-/// Want of memory.
 pub fn registers(alloc: Global) -> Result<String, VastFault>
     ensures { IfOk result (λ text. string_bytes text ≡ registers_text) }
 {

@@ -45,9 +45,6 @@ fn cases_steps(alloc: Global) -> Result<Vec<Step>, AllocError>
 }
 
 /// The text of the encoder.
-///
-/// # Errors
-/// Want of memory.
 pub fn cases(alloc: Global) -> Result<String, DesignFault>
     ensures { IfOk result (λ text. string_bytes text ≡ cases_text) }
 {

@@ -37,7 +37,7 @@ pub enum DesignFault {
 /// The text of the file that the steps build.
 ///
 /// # Errors
-/// The first step at fault, a refused text, or want of memory.
+/// The first step at fault, a refused text, or out of memory.
 fn design_text(alloc: Global, steps: &[Step]) -> Result<String, DesignFault>
     ensures { IfOk result (λ text. string_bytes text ≡ calls_text (map call_of steps.now)) }
 {

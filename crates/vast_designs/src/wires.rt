@@ -24,9 +24,6 @@ fn passthrough_steps(alloc: Global) -> Result<Vec<Step>, AllocError>
 }
 
 /// The text of a module whose output is its input.
-///
-/// # Errors
-/// Want of memory.
 pub fn passthrough(alloc: Global) -> Result<String, DesignFault>
     ensures { IfOk result (λ text. string_bytes text ≡ passthrough_text) }
 {

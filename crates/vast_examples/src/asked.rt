@@ -18,7 +18,7 @@ pub(crate) enum Net {
 /// Declares a port or a wire of this name.
 ///
 /// # Errors
-/// `Taken` where the name is taken; want of memory.
+/// `Taken` where the name is taken; out of memory.
 pub(crate) fn declare(
     net: Net,
     owner: VastModule,
@@ -42,9 +42,6 @@ pub(crate) fn declare(
 }
 
 /// The signal is assigned the value at all times.
-///
-/// # Errors
-/// Want of memory.
 pub(crate) fn drive(
     owner: VastModule,
     signal: Expr,
@@ -62,9 +59,6 @@ pub(crate) fn drive(
 }
 
 /// The type of one bit.
-///
-/// # Errors
-/// Want of memory.
 pub(crate) fn make_bit(file: &mut VastFile) -> Result<VastDataType, ExampleFault>
     ensures answer { IfOk result (λ t. OwnsType file.new t) }
     ensures kept { Keeps file.old file.new }
@@ -75,7 +69,7 @@ pub(crate) fn make_bit(file: &mut VastFile) -> Result<VastDataType, ExampleFault
 /// Declares a variable of this name.
 ///
 /// # Errors
-/// `Refused` where the name is taken; want of memory.
+/// `Refused` where the name is taken; out of memory.
 pub(crate) fn declare_logic(
     owner: VastModule,
     name: &str,
@@ -93,7 +87,7 @@ pub(crate) fn declare_logic(
 /// The literal of this text.
 ///
 /// # Errors
-/// `Refused` where the text is no literal; want of memory.
+/// `Refused` where the text is no literal; out of memory.
 pub(crate) fn make_literal(
     text: &str,
     format: &LiteralFormat,

@@ -6,7 +6,7 @@ use xlsynth_vast::{Expr, VastFile, VastModule, VastStatementBlock};
 /// The block of an `always_ff` of the clock's rising edge.
 ///
 /// # Errors
-/// `Foreign` where a handle is another file's; want of memory.
+/// `Foreign` where a handle is another file's; out of memory.
 pub(crate) fn add_clocked(
     module: VastModule,
     clock: Expr,

@@ -29,7 +29,7 @@ struct Counted {
 /// Adds the counter: one more at each edge of the clock, 0 at a reset.
 ///
 /// # Errors
-/// `Taken` where a name is taken; want of memory.
+/// `Taken` where a name is taken; out of memory.
 pub(crate) fn add_counter(file: &mut VastFile) -> Result<(), ExampleFault> {
     let signals = add_signals(file)?;
     drive(signals.owner, signals.count, signals.value, file)?;

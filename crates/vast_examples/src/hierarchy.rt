@@ -29,7 +29,7 @@ struct Top {
 /// Adds the two modules.
 ///
 /// # Errors
-/// `Taken` where a name is taken; want of memory.
+/// `Taken` where a name is taken; out of memory.
 pub(crate) fn add_hierarchy(file: &mut VastFile) -> Result<(), ExampleFault> {
     add_lane(file)?;
     allow_in_lint(file)?;

@@ -30,7 +30,7 @@ use xlsynth_vast::{FileIds, VastFile, VastFileType};
 /// The contract says that it is a file's text, the printed layout of a tree; which tree is tested, not proved.
 ///
 /// # Errors
-/// `Unknown` where no example has the name; a refusal of a call; want of memory.
+/// `Unknown` where no example has the name; a refusal of a call; out of memory.
 #[tactic(auto, using(xlsynth_vast::proofs::Callers::emitted_text))]
 pub fn example(alloc: Global, name: &str) -> Result<String, ExampleFault>
     ensures { IfOk result (λ text. IsFileText (string_bytes text)) }

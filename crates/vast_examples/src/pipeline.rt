@@ -8,7 +8,7 @@ use xlsynth_vast::{Expr, VastDataType, VastFile, VastModule, VastStatementBlock}
 /// Adds a pipeline of `count` stages.
 ///
 /// # Errors
-/// `Taken` where a name is taken; want of memory.
+/// `Taken` where a name is taken; out of memory.
 pub(crate) fn add_pipeline(count: usize, file: &mut VastFile) -> Result<(), ExampleFault> {
     let module = file.add_module("pipeline")?;
     let bit = file.make_scalar_type()?;
@@ -38,7 +38,7 @@ fn add_stages(
     Ok(stages)
 }
 
-/// Each stage takes what the one before it holds; answers the last signal.
+/// Each stage takes what the one before it holds; returns the last signal.
 fn connect(
     body: VastStatementBlock,
     first: Expr,

@@ -24,7 +24,7 @@ struct Map {
 /// Adds the register map.
 ///
 /// # Errors
-/// `Taken` where a name is taken; want of memory.
+/// `Taken` where a name is taken; out of memory.
 pub(crate) fn add_register_map(file: &mut VastFile) -> Result<(), ExampleFault> {
     let map = add_map(file)?;
     let control = add_register(&map, "control", "control_write", "bits[8]:0x1", file)?;

@@ -14,7 +14,7 @@ pub(crate) enum Signal {
 /// Declares a signal of this name.
 ///
 /// # Errors
-/// `Foreign` where a handle is another file's, `Taken` where the name is taken; want of memory.
+/// `Foreign` where a handle is another file's, `Taken` where the name is taken; out of memory.
 pub(crate) fn declare(
     signal: Signal,
     module: VastModule,
@@ -39,7 +39,7 @@ pub(crate) fn declare(
 /// The signal is assigned the value at all times.
 ///
 /// # Errors
-/// `Foreign` where a handle is another file's; want of memory.
+/// `Foreign` where a handle is another file's; out of memory.
 pub(crate) fn drive(
     module: VastModule,
     signal: Expr,

@@ -23,7 +23,7 @@ struct Machine {
 /// Adds the machine: idle until `go`, and then three states in a row; idle at a reset.
 ///
 /// # Errors
-/// `Taken` where a name is taken; want of memory.
+/// `Taken` where a name is taken; out of memory.
 pub(crate) fn add_states(file: &mut VastFile) -> Result<(), ExampleFault> {
     let machine = add_machine(file)?;
     let states = make_states(file)?;

@@ -24,10 +24,10 @@ use pointers::add_pointers;
 use signals::{Ports, State, add_ports, add_state};
 use xlsynth_vast::{VastFile, VastModule};
 
-/// Adds the module `fifo`, a queue of words of `width` bits, and answers it.
+/// Adds the module `fifo`, a queue of words of `width` bits, and returns it.
 ///
 /// # Errors
-/// `Width` where the width is below 1, `Depth` where the depth is no power of two above 1; want of memory.
+/// `Width` where the width is below 1, `Depth` where the depth is no power of two above 1; out of memory.
 pub fn add_fifo(file: &mut VastFile, width: i64, depth: i64) -> Result<VastModule, FifoFault>
     ensures answer { IfOk result (λ m. OwnsModule file.new m) }
     ensures kept { Keeps file.old file.new }

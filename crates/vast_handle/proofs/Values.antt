@@ -66,7 +66,7 @@ module _ (R Z : RattleType) (L : Laws Z) (g : Ghosts Z.Denot) where
         nothing t $ move t (2 ∷ 0 ∷ []) $ fjoin t $ feq_i t (List Val) (vptr b o ∷ []) (vptr b o ∷ []) refl $ fjoin t $ feq_i t (List Val) (v ∷ []) (v ∷ []) refl $ fjoin t $
         fpack t (Valss (RawPtr ∷ Z ∷ [])) (within (shape (owned_pointer.the_type R Z g)) (block_ptr b o, (a, tt)) (v ∷ [])) (vptr b o ∷ [], (h ∷ [], tt)) $ fjoin t $ s)
 
-    -- a pointer and a handle, as `Box::into_raw_with_allocator` answers them
+    -- a pointer and a handle, as `Box::into_raw_with_allocator` returns them
     pub pair_out : K → (r : Ptr × Z.Denot) (vs : List Val)
         → ((h : Val) → vs ≡ both (ptr_val r.0) h ∷ [] → Good (layout Z) h → Seq K 𝓛 (‵ (Z.own_val r.1 (h ∷ [])) ∷ Γ) G)
         → Seq K 𝓛 (‵ ((Tuple (RawPtr ∷ param 1 Z ∷ [])).own_val r vs) ∷ Γ) G

@@ -8,7 +8,7 @@ use Rattle.vast_lint.specs.declared.notes.Note.{Note}
 use Rattle.vast_lint.specs.Notes.{notes, noted}
 use Rattle.vast_lint.specs.Laws.{NotesEach, notes_left, EndTellsUnmended}
 
--- The notes behind a list are those of its answers, one after another.
+-- The notes after a list are those of its answers, one after another.
 notes-after : (old new : Lint) (steps : List (Option Step)) → NotesEach old new steps → notes new.answers.items ≡ fold noted (notes old.answers.items) steps
 notes-after old new [] h = ap (λ (l : Lint). notes l.answers.items) h
 notes-after old new (step ∷ steps) h = notes-after h.0 new steps h.2 ∙ ap (λ (ns : List Note). fold noted ns steps) h.1.notes
@@ -24,7 +24,7 @@ end_tells_unmended dialect steps first last same none each =
     notes-after first last steps each ∙ ap (λ answers. fold noted (notes answers) steps) none in
     rw (spoken, left)
 
--- Nothing is changed behind the end of a list.
+-- Nothing is changed after the end of a list.
 pub changed-past : {A B : Type 0} (v : A → B) (f : B → B) (xs : List A) (i : ℕ) → length xs ≤ i → map v xs ≡ changed_at i f (map v xs)
 changed-past v f [] i past = refl
 changed-past v f (x ∷ xs) zero past = absurd (omega arith)

@@ -58,7 +58,7 @@ mended _ = Nothing
 abbrev pub all_mended : List Note → List ℕ → List Note
 all_mended notes numbers = fold (λ left number. changed_at number mended left) notes numbers
 
--- The notes behind one answer more: that of a step (`Some`), or of what is no step.
+-- The notes after one answer more: that of a step (`Some`), or of what is no step.
 abbrev pub noted : List Note → Option Step → List Note
 noted notes (Some step) = all_mended (notes ++ opened notes step ∷ []) (mends step)
 noted notes None = notes ++ Nothing ∷ []

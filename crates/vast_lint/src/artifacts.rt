@@ -5,7 +5,7 @@ use crate::expressions::operand;
 use crate::facts::{Fact, Known};
 use crate::rule::Rule;
 use crate::sides::assignment;
-use crate::warning::Told;
+use crate::warning::StepFindings;
 use crate::words::{comment_rule, name_rule};
 use std::alloc::{AllocError, Global};
 use std::collections::BTreeSet;
@@ -16,7 +16,7 @@ pub(crate) fn artifact(
     known: Known<'_>,
     declared: &mut Declared,
     step: &ArtifactStep,
-    told: &mut Told,
+    told: &mut StepFindings,
 ) -> Result<Fact, AllocError> {
     match step {
         ArtifactStep::MakeDef(name, kind, data_type) => match known.type_form(*data_type) {
@@ -77,7 +77,7 @@ pub(crate) fn add_instance(
     declared: &mut Declared,
     owner: usize,
     instance: usize,
-    told: &mut Told,
+    told: &mut StepFindings,
 ) -> Result<(), AllocError> {
     match known.fact(instance) {
         Some(Fact::Instance(name)) => declare_instance(declared, owner, name, told),

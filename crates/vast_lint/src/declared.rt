@@ -2,7 +2,7 @@
 
 use crate::facts::Known;
 use crate::rule::Rule;
-use crate::warning::Told;
+use crate::warning::StepFindings;
 use crate::words::name_rule;
 use std::alloc::{AllocError, Global};
 use std::collections::BTreeSet;
@@ -42,7 +42,7 @@ pub(crate) fn declare_module(
     known: Known<'_>,
     declared: &mut Declared,
     name: &str,
-    told: &mut Told,
+    told: &mut StepFindings,
 ) -> Result<(), AllocError> {
     told.tell_any(name_rule(known.dialect, name))?;
     let is_new = declared.enter_module(name)?;
@@ -55,7 +55,7 @@ pub(crate) fn declare(
     declared: &mut Declared,
     owner: usize,
     name: &str,
-    told: &mut Told,
+    told: &mut StepFindings,
 ) -> Result<(), AllocError> {
     told.tell_any(name_rule(known.dialect, name))?;
     let is_new = declared.enter(owner, name)?;
@@ -67,7 +67,7 @@ pub(crate) fn declare_instance(
     declared: &mut Declared,
     owner: usize,
     name: &str,
-    told: &mut Told,
+    told: &mut StepFindings,
 ) -> Result<(), AllocError> {
     let is_new = declared.enter(owner, name)?;
     told.tell_if(!is_new, Rule::InstanceTwice)
@@ -77,7 +77,7 @@ pub(crate) fn declare_instance(
 pub(crate) fn declare_default(
     declared: &mut Declared,
     owner: usize,
-    told: &mut Told,
+    told: &mut StepFindings,
 ) -> Result<(), AllocError> {
     let is_new = declared.enter(owner, "default")?;
     told.tell_if(!is_new, Rule::TwoDefaults)

@@ -3,7 +3,7 @@
 use crate::facts::{Fact, Known};
 use crate::forms::{Base, Form, TypeForm};
 use crate::rule::Rule;
-use crate::warning::Told;
+use crate::warning::StepFindings;
 use crate::words::{is_directive, is_keyword};
 use std::alloc::AllocError;
 use vast_script::{ExpressionStep, OperatorStep};
@@ -15,7 +15,11 @@ const MOST_LITERAL_BITS: usize = 65536;
 pub(crate) const MOST_BITS: i64 = 2147483647;
 
 /// Tells an edge that stands as an operand.
-pub(crate) fn operand(known: Known<'_>, number: usize, told: &mut Told) -> Result<(), AllocError> {
+pub(crate) fn operand(
+    known: Known<'_>,
+    number: usize,
+    told: &mut StepFindings,
+) -> Result<(), AllocError> {
     if known.form(number) == Form::Edge {
         told.show_other(Some(Rule::EdgeInExpression), number)?;
     }
@@ -26,7 +30,7 @@ pub(crate) fn operand(known: Known<'_>, number: usize, told: &mut Told) -> Resul
 pub(crate) fn operands(
     known: Known<'_>,
     numbers: &[usize],
-    told: &mut Told,
+    told: &mut StepFindings,
 ) -> Result<(), AllocError> {
     for number in numbers {
         operand(known, *number, told)?;
@@ -39,7 +43,7 @@ pub(crate) fn operands(
 pub(crate) fn operator(
     known: Known<'_>,
     step: &OperatorStep,
-    told: &mut Told,
+    told: &mut StepFindings,
 ) -> Result<Fact, AllocError> {
     match step {
         OperatorStep::MakeNot(one)
@@ -84,7 +88,7 @@ pub(crate) fn operator(
 pub(crate) fn expression(
     known: Known<'_>,
     step: &ExpressionStep,
-    told: &mut Told,
+    told: &mut StepFindings,
 ) -> Result<Fact, AllocError> {
     let form = match step {
         ExpressionStep::MakeLiteral(text, format) => literal(text, *format, told)?,
@@ -119,7 +123,7 @@ pub(crate) fn expression(
 }
 
 /// What the literal of this text is.
-fn literal(text: &str, format: LiteralFormat, told: &mut Told) -> Result<Form, AllocError> {
+fn literal(text: &str, format: LiteralFormat, told: &mut StepFindings) -> Result<Form, AllocError> {
     told.tell_if(is_wide(text), Rule::WideLiteral)?;
     match format {
         LiteralFormat::UnsizedBinary | LiteralFormat::UnsizedDecimal | LiteralFormat::UnsizedHex =>
@@ -142,7 +146,11 @@ fn is_wide(text: &str) -> bool {
 }
 
 /// What a select is.
-fn select(known: Known<'_>, step: &ExpressionStep, told: &mut Told) -> Result<Form, AllocError> {
+fn select(
+    known: Known<'_>,
+    step: &ExpressionStep,
+    told: &mut StepFindings,
+) -> Result<Form, AllocError> {
     match step {
         ExpressionStep::MakeIndexableExpression(subject) => Ok(known.form(*subject)),
         ExpressionStep::MakeSlice(subject, _, _) => part_of(known.form(*subject), told),
@@ -167,18 +175,22 @@ fn select(known: Known<'_>, step: &ExpressionStep, told: &mut Told) -> Result<Fo
     }
 }
 
-fn part_of(subject: Form, told: &mut Told) -> Result<Form, AllocError> {
+fn part_of(subject: Form, told: &mut StepFindings) -> Result<Form, AllocError> {
     told.show_any(subject.select_rule())?;
     Ok(subject.part())
 }
 
-fn element_of(subject: Form, told: &mut Told) -> Result<Form, AllocError> {
+fn element_of(subject: Form, told: &mut StepFindings) -> Result<Form, AllocError> {
     told.show_any(subject.select_rule())?;
     Ok(subject.element())
 }
 
 /// What a list between braces is.
-fn list(known: Known<'_>, step: &ExpressionStep, told: &mut Told) -> Result<Form, AllocError> {
+fn list(
+    known: Known<'_>,
+    step: &ExpressionStep,
+    told: &mut StepFindings,
+) -> Result<Form, AllocError> {
     match step {
         ExpressionStep::MakeConcat(parts) => {
             told.show_if(parts.is_empty(), Rule::EmptyConcat)?;
@@ -212,14 +224,22 @@ fn pattern_rule(known: Known<'_>, parts: &[usize]) -> Rule {
     }
 }
 
-fn replication(known: Known<'_>, parts: &[usize], told: &mut Told) -> Result<Form, AllocError> {
+fn replication(
+    known: Known<'_>,
+    parts: &[usize],
+    told: &mut StepFindings,
+) -> Result<Form, AllocError> {
     told.show_if(parts.is_empty(), Rule::EmptyReplication)?;
     concat_parts(known, parts, told)?;
     Ok(Form::Computed)
 }
 
 /// Tells what can't stand among the parts of a concatenation.
-fn concat_parts(known: Known<'_>, parts: &[usize], told: &mut Told) -> Result<(), AllocError> {
+fn concat_parts(
+    known: Known<'_>,
+    parts: &[usize],
+    told: &mut StepFindings,
+) -> Result<(), AllocError> {
     for part in parts {
         told.show_any(known.form(*part).part_rule())?;
     }
@@ -234,7 +254,11 @@ fn are_left_sides(known: Known<'_>, parts: &[usize]) -> bool {
 }
 
 /// What a name, a call, a cast, an edge or a macro is.
-fn other(known: Known<'_>, step: &ExpressionStep, told: &mut Told) -> Result<Form, AllocError> {
+fn other(
+    known: Known<'_>,
+    step: &ExpressionStep,
+    told: &mut StepFindings,
+) -> Result<Form, AllocError> {
     match step {
         ExpressionStep::MakeName(name) => {
             told.show_if(is_keyword(known.dialect, name), Rule::Keyword)?;
@@ -270,7 +294,11 @@ fn other(known: Known<'_>, step: &ExpressionStep, told: &mut Told) -> Result<For
 }
 
 /// What the use of a macro is; no rule asks for the form of what is none of these.
-fn macro_use(known: Known<'_>, step: &ExpressionStep, told: &mut Told) -> Result<Form, AllocError> {
+fn macro_use(
+    known: Known<'_>,
+    step: &ExpressionStep,
+    told: &mut StepFindings,
+) -> Result<Form, AllocError> {
     match step {
         ExpressionStep::MakeMacroRef(name) => {
             told.show_if(is_directive(name), Rule::Directive)?;

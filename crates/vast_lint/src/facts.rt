@@ -28,7 +28,7 @@ pub(crate) enum Fact {
     Other,
 }
 
-/// What is known behind the steps so far.
+/// What is known after the steps so far.
 #[derive(Clone, Copy)]
 pub(crate) struct Known<'a> {
     pub(crate) alloc: Global,

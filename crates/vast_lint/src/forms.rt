@@ -137,7 +137,7 @@ pub(crate) struct TypeForm {
     pub(crate) is_unsigned: bool,
     /// How many packed dimensions stand before its base.
     pub(crate) packed: usize,
-    /// How many dimensions stand behind the name.
+    /// How many dimensions stand after the name.
     pub(crate) unpacked: usize,
 }
 

@@ -5,7 +5,7 @@ use crate::facts::{Fact, Known};
 use crate::forms::{Base, TypeForm};
 use crate::modules::{Word, variable_rule};
 use crate::rule::Rule;
-use crate::warning::Told;
+use crate::warning::StepFindings;
 use crate::words::name_rule;
 use std::alloc::AllocError;
 
@@ -16,7 +16,7 @@ pub(crate) fn function(
     owner: usize,
     name: &str,
     result_type: usize,
-    told: &mut Told,
+    told: &mut StepFindings,
 ) -> Result<Fact, AllocError> {
     declare(known, declared, owner, name, told)?;
     if let Some(form) = known.type_form(result_type) {
@@ -40,7 +40,7 @@ pub(crate) fn input(
     word: Word,
     name: &str,
     data_type: usize,
-    told: &mut Told,
+    told: &mut StepFindings,
 ) -> Result<Fact, AllocError> {
     told.tell_any(name_rule(known.dialect, name))?;
     if let Some(form) = known.type_form(data_type) {

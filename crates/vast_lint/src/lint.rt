@@ -13,7 +13,7 @@ use crate::modules::module;
 use crate::notes::{Note, mend, mends, opened};
 use crate::statements::statement;
 use crate::types::data_type;
-use crate::warning::{Told, Warning};
+use crate::warning::{StepFindings, Warning};
 use std::alloc::{AllocError, Global};
 use vast_script::Step;
 use xlsynth_vast::VastFileType;
@@ -59,7 +59,7 @@ impl Lint {
         ensures unchanged { OnErr result (self.new.answers.items ≡ self.old.answers.items) }
     {
         let number = self.answers.len();
-        let mut told = Told::new(self.alloc, number);
+        let mut told = StepFindings::new(self.alloc, number);
         let known = Known {
             alloc: self.alloc,
             dialect: self.dialect,
@@ -104,12 +104,12 @@ impl Lint {
     }
 }
 
-/// What the step answers, as far as a rule asks.
+/// What the step returns, as far as a rule asks.
 fn fact_of(
     known: Known<'_>,
     declared: &mut Declared,
     step: &Step,
-    told: &mut Told,
+    told: &mut StepFindings,
 ) -> Result<Fact, AllocError> {
     match step {
         Step::Operators(step) => operator(known, step, told),

@@ -9,7 +9,7 @@ use crate::parameters::{defined_parameter, parameter};
 use crate::rule::Rule;
 use crate::sides::assignment;
 use crate::statements::{always_at, always_comb, always_ff, generate_conditional};
-use crate::warning::Told;
+use crate::warning::StepFindings;
 use crate::words::name_rule;
 use std::alloc::AllocError;
 use vast_script::LoopStep;
@@ -19,7 +19,7 @@ pub(crate) fn generate(
     known: Known<'_>,
     declared: &mut Declared,
     step: &LoopStep,
-    told: &mut Told,
+    told: &mut StepFindings,
 ) -> Result<Fact, AllocError> {
     match step {
         LoopStep::AddGenerateLoop(owner, variable, start, limit, label)

@@ -6,7 +6,7 @@ use crate::facts::{Fact, Known};
 use crate::forms::TypeForm;
 use crate::parameters::{defined_parameter, parameter, typed_rule};
 use crate::rule::Rule;
-use crate::warning::Told;
+use crate::warning::StepFindings;
 use crate::words::comment_rule;
 use std::alloc::AllocError;
 use vast_script::ModuleStep;
@@ -24,7 +24,7 @@ pub(crate) fn module(
     known: Known<'_>,
     declared: &mut Declared,
     step: &ModuleStep,
-    told: &mut Told,
+    told: &mut StepFindings,
 ) -> Result<Fact, AllocError> {
     match step {
         ModuleStep::AddCommentText(text) => {
@@ -67,7 +67,7 @@ fn parameters(
     known: Known<'_>,
     declared: &mut Declared,
     step: &ModuleStep,
-    told: &mut Told,
+    told: &mut StepFindings,
 ) -> Result<Fact, AllocError> {
     match step {
         ModuleStep::AddParameterPort(owner, name, value)
@@ -102,7 +102,7 @@ fn port(
     known: Known<'_>,
     word: Word,
     data_type: usize,
-    told: &mut Told,
+    told: &mut StepFindings,
 ) -> Result<Fact, AllocError> {
     if let Some(form) = known.type_form(data_type) {
         told.tell_any(port_rule(known, word, form))?;
@@ -115,7 +115,7 @@ pub(crate) fn variable(
     known: Known<'_>,
     word: Word,
     data_type: usize,
-    told: &mut Told,
+    told: &mut StepFindings,
 ) -> Result<Fact, AllocError> {
     if let Some(form) = known.type_form(data_type) {
         told.tell_any(variable_rule(known, word, form))?;
@@ -138,7 +138,7 @@ fn port_rule(known: Known<'_>, word: Word, form: TypeForm) -> Option<Rule> {
     }
 }
 
-/// The rule that tells a net or a variable of this type behind the word.
+/// The rule that tells a net or a variable of this type after the word.
 pub(crate) fn variable_rule(known: Known<'_>, word: Word, form: TypeForm) -> Option<Rule> {
     match word {
         Word::Logic if known.is_verilog() => Some(Rule::VerilogLogic),

@@ -4,7 +4,7 @@ use crate::declared::{Declared, declare};
 use crate::facts::{Fact, Known};
 use crate::forms::{Base, Form, TypeForm};
 use crate::rule::Rule;
-use crate::warning::Told;
+use crate::warning::StepFindings;
 use std::alloc::AllocError;
 use xlsynth_vast::DataKind;
 
@@ -14,7 +14,7 @@ pub(crate) fn parameter(
     declared: &mut Declared,
     owner: usize,
     name: &str,
-    told: &mut Told,
+    told: &mut StepFindings,
 ) -> Result<Fact, AllocError> {
     declare(known, declared, owner, name, told)?;
     Ok(Fact::Expression(Form::Constant))
@@ -26,7 +26,7 @@ pub(crate) fn defined_parameter(
     declared: &mut Declared,
     owner: usize,
     definition: usize,
-    told: &mut Told,
+    told: &mut StepFindings,
 ) -> Result<Fact, AllocError> {
     if let Some(Fact::Definition(kind, form, name)) = known.fact(definition) {
         declare(known, declared, owner, name, told)?;

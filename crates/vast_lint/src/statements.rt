@@ -8,7 +8,7 @@ use crate::functions::{function, input};
 use crate::modules::{Word, variable};
 use crate::rule::Rule;
 use crate::sides::assignment;
-use crate::warning::Told;
+use crate::warning::StepFindings;
 use crate::words::{comment_rule, name_rule};
 use std::alloc::AllocError;
 use vast_script::StatementStep;
@@ -18,7 +18,7 @@ pub(crate) fn statement(
     known: Known<'_>,
     declared: &mut Declared,
     step: &StatementStep,
-    told: &mut Told,
+    told: &mut StepFindings,
 ) -> Result<Fact, AllocError> {
     match step {
         StatementStep::AddFunction(owner, name, result_type) => {
@@ -54,7 +54,7 @@ pub(crate) fn statement(
 pub(crate) fn always_ff(
     known: Known<'_>,
     events: &[usize],
-    told: &mut Told,
+    told: &mut StepFindings,
 ) -> Result<Fact, AllocError> {
     told.tell_if(known.is_verilog(), Rule::VerilogAlways)?;
     always_at(known, events, told)
@@ -64,7 +64,7 @@ pub(crate) fn always_ff(
 pub(crate) fn always_at(
     known: Known<'_>,
     events: &[usize],
-    told: &mut Told,
+    told: &mut StepFindings,
 ) -> Result<Fact, AllocError> {
     told.tell_if(events.is_empty(), Rule::NoEvents)?;
     let edges = events
@@ -76,7 +76,7 @@ pub(crate) fn always_at(
 }
 
 /// An `always_comb`.
-pub(crate) fn always_comb(known: Known<'_>, told: &mut Told) -> Result<Fact, AllocError> {
+pub(crate) fn always_comb(known: Known<'_>, told: &mut StepFindings) -> Result<Fact, AllocError> {
     told.tell_if(known.is_verilog(), Rule::VerilogAlways)?;
     Ok(Fact::Statements(false))
 }
@@ -85,14 +85,18 @@ pub(crate) fn always_comb(known: Known<'_>, told: &mut Told) -> Result<Fact, All
 pub(crate) fn generate_conditional(
     known: Known<'_>,
     condition: usize,
-    told: &mut Told,
+    told: &mut StepFindings,
 ) -> Result<Fact, AllocError> {
     operand(known, condition, told)?;
     Ok(Fact::Statements(true))
 }
 
 /// What the call makes in a block, or of a block.
-fn in_block(known: Known<'_>, step: &StatementStep, told: &mut Told) -> Result<Fact, AllocError> {
+fn in_block(
+    known: Known<'_>,
+    step: &StatementStep,
+    told: &mut StepFindings,
+) -> Result<Fact, AllocError> {
     match step {
         StatementStep::BlockAddBlockingAssignment(owner, left, right)
         | StatementStep::BlockAddNonblockingAssignment(owner, left, right) => {
@@ -128,7 +132,11 @@ fn in_block(known: Known<'_>, step: &StatementStep, told: &mut Told) -> Result<F
 }
 
 /// What the call makes of a case.
-fn of_case(known: Known<'_>, step: &StatementStep, told: &mut Told) -> Result<Fact, AllocError> {
+fn of_case(
+    known: Known<'_>,
+    step: &StatementStep,
+    told: &mut StepFindings,
+) -> Result<Fact, AllocError> {
     match step {
         StatementStep::BlockAddCase(owner, selector) => case(known, *owner, *selector, told),
         StatementStep::BlockAddCasez(owner, selector)
@@ -157,7 +165,7 @@ fn case(
     known: Known<'_>,
     owner: usize,
     selector: usize,
-    told: &mut Told,
+    told: &mut StepFindings,
 ) -> Result<Fact, AllocError> {
     operand(known, selector, told)?;
     Ok(Fact::Statements(known.is_generate(owner)))

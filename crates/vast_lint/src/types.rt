@@ -4,7 +4,7 @@ use crate::expressions::{MOST_BITS, operand};
 use crate::facts::{Fact, Known};
 use crate::forms::{Base, TypeForm};
 use crate::rule::Rule;
-use crate::warning::Told;
+use crate::warning::StepFindings;
 use std::alloc::AllocError;
 use vast_script::TypeStep;
 
@@ -12,7 +12,7 @@ use vast_script::TypeStep;
 pub(crate) fn data_type(
     known: Known<'_>,
     step: &TypeStep,
-    told: &mut Told,
+    told: &mut StepFindings,
 ) -> Result<Fact, AllocError> {
     match step {
         TypeStep::MakeScalarType => Ok(Fact::Type(TypeForm::of(Base::Scalar))),

@@ -24,15 +24,15 @@ struct Finding {
 
 /// What is told of one step.
 #[derive(Drop)]
-pub(crate) struct Told {
+pub(crate) struct StepFindings {
     /// The number of the step's answer.
     number: usize,
     findings: Vec<Finding>,
 }
 
-impl Told {
-    pub(crate) fn new(alloc: Global, number: usize) -> Told {
-        Told {
+impl StepFindings {
+    pub(crate) fn new(alloc: Global, number: usize) -> StepFindings {
+        StepFindings {
             number,
             findings: Vec::new(alloc),
         }

@@ -144,7 +144,7 @@ fn comment_line_rule(line: &str) -> Option<Rule> {
     None
 }
 
-/// The rule that tells a comment of this text, of which each line stands behind `//`: that of its first line which a tool
+/// The rule that tells a comment of this text, of which each line stands after `//`: that of its first line which a tool
 /// takes for an order.
 pub(crate) fn comment_rule(text: &str) -> Option<Rule> {
     text.split('\n').find_map(|line| comment_line_rule(line))

@@ -15,8 +15,8 @@ use Rattle.vast_list.specs.declared.fault.Fault.{Fault}
 use Rattle.vast_list.specs.declared.line.Call.{Call}
 use Rattle.vast_list.specs.declared.line.Call.TheVariants.{Step as StepCall}
 use Rattle.vast_list.specs.declared.questions.answered.Value.{Value}
-use Rattle.vast_list.specs.declared.session.Given.{Given}
-use Rattle.vast_list.specs.declared.session.Given.TheVariants.{Nothing, Step as StepGiven, Helper as HelperGiven, Answer as Answered}
+use Rattle.vast_list.specs.declared.session.LineResult.{LineResult}
+use Rattle.vast_list.specs.declared.session.LineResult.TheVariants.{Nothing, Step as StepGiven, Helper as HelperGiven, Answer as Answered}
 use Rattle.vast_list.specs.declared.session.Session.{Session}
 use Rattle.vast_list.specs.CallArguments.{call_pieces}
 use Rattle.vast_list.specs.CallNames.{call_name}
@@ -33,8 +33,8 @@ unused-more b c d h k = record {
   roots = h.roots ++ k.roots;
   assignments = h.assignments ++ k.assignments;
   containers = h.containers ++ k.containers;
-  spare = k.spare;
-  after = k.after ∙ (ap (λ (x : Bench). with_unused k.roots k.assignments k.containers k.spare x) h.after
+  detached = k.detached;
+  after = k.after ∙ (ap (λ (x : Bench). with_unused k.roots k.assignments k.containers k.detached x) h.after
       ∙ rw (append_assoc b.nodes.roots h.roots k.roots, append_assoc b.assignments h.assignments k.assignments, append_assoc b.nests h.containers k.containers) refl);
 }
 
@@ -103,7 +103,7 @@ record IsReadOn (calls : List Call) (old new : Session) (line : List ℕ) : Type
 as_kind : (kind : LineKind) (a b : Reading) (line : List ℕ) → line_kind line ≡ kind → ReadsLine kind a b line → ReadsLine (line_kind line) a b line
 as_kind kind a b line e h = subst (λ (k : LineKind). ReadsLine k a b line) (sym e) h
 
-gives_read : (calls : List Call) (old new : Session) (line : List ℕ) (given : Given) → old.skipped.items ≡ [] → Gives old new line given → IsGivenBy line given → IsReadOn calls old new line
+gives_read : (calls : List Call) (old new : Session) (line : List ℕ) (given : LineResult) → old.skipped.items ≡ [] → Gives old new line given → IsGivenBy line given → IsReadOn calls old new line
 gives_read calls old new line Nothing none gives is = record {
   more = calls;
   reads = as_kind Passed _ _ line is (λ i. record { calls = calls; file = gives.0.0 i; answers = gives.0.1 i; named = gives.1.0 i });
@@ -178,12 +178,12 @@ name-lines again a b (line ∷ lines) h =
 pub calls-named : (again : Bool) (dialect : VastFileType) (lines : List (List ℕ)) (read : Reading) → ReadsLines again (nothing_read dialect) read lines → map call_name read.calls ≡ call_words lines
 calls-named again dialect lines read h = name-lines again (nothing_read dialect) read lines h
 
-pub takes_once : (again : Bool) (old new : Session) (line : List ℕ) (r : Result Given Fault) → Takes old new line r → IfOk r (IsGivenBy line) → OnOk r (TakesLine again old new line)
+pub takes_once : (again : Bool) (old new : Session) (line : List ℕ) (r : Result LineResult Fault) → Takes old new line r → IfOk r (IsGivenBy line) → OnOk r (TakesLine again old new line)
 takes_once again old new line (Ok given) takes kind = record { between = old; file = between-same again old.file; answers = refl; known = (refl, refl); given = given; gives = takes; is = kind }
 takes_once again old new line (Err fault) takes kind = tt
 
 pub takes_again :
-    (old between new : Session) (line : List ℕ) (r : Result Given Fault) → HasUnused old.file between.file → between.answers.items ≡ old.answers.items → meaning between.names ≡ meaning old.names →
+    (old between new : Session) (line : List ℕ) (r : Result LineResult Fault) → HasUnused old.file between.file → between.answers.items ≡ old.answers.items → meaning between.names ≡ meaning old.names →
     between.skipped.items ≡ old.skipped.items → Takes between new line r → IfOk r (IsGivenBy line) → OnOk r (TakesLine true old new line)
 takes_again old between new line (Ok given) unused answers names skipped takes kind =
     record { between = between; file = unused; answers = answers; known = (names, skipped); given = given; gives = takes; is = kind }

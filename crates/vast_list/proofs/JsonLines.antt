@@ -16,7 +16,7 @@ use Rattle.vast_list.proofs.Outputs.{lines-next}
 use Rattle.vast_list.specs.Session.{IsTextOf}
 use Rattle.vast_list.specs.Written.{meaning}
 
--- the pieces of the end, one behind the other
+-- the pieces of the end, one after the other
 pub ends_with : (old named told line value : List ℕ) → named ≡ old ++ codes ",\"text\":" → told ≡ named ++ value → line ≡ told ++ codes "}\n" → EndsWithText value line
 ends_with old named told line value n t l = (old, l ∙ ap (λ (x : List ℕ). x ++ codes "}\n") (t ∙ ap (λ (x : List ℕ). x ++ value) n))
 

@@ -7,7 +7,7 @@ use Rattle.std.specs.Str.Pattern.{FindsChar, SplitsAroundMatch}
 use Rattle.vast_list.specs.Lines.{behind_first, first_word}
 use Rattle.vast_list.proofs.Words.{around}
 
--- What stands behind the first word, and its space.
+-- What stands after the first word, and its space.
 pub behind_some : (text word rest : List ℕ) → SplitsAroundMatch (FindsChar 32) text word rest → word ≡ first_word text → 32 ∷ rest ≡ behind_first text
 behind_some text word rest p w =
     sym (drop-append_seam word (32 ∷ rest))

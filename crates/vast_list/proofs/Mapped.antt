@@ -5,7 +5,7 @@ use Rattle.std.specs.declared.alloc.AllocError.{AllocError}
 use Rattle.vast_core.specs.FileTree.{tree}
 use Rattle.vast_literal.specs.Tree.{FileTree}
 use Rattle.vast_literal.specs.declared.kind.VastFileType.{VastFileType}
-use Rattle.vast_list.specs.declared.answering.Answering.{Answering}
+use Rattle.vast_list.specs.declared.answering.ListRun.{ListRun}
 use Rattle.vast_list.specs.declared.origins.Origins.{Origins}
 use Rattle.vast_list.specs.declared.origins.TextLine.{TextLine}
 use Rattle.vast_list.specs.declared.output.Verdict.{Verdict}
@@ -22,7 +22,7 @@ pub followed_text : (file : FileTree) (lines : List TextLine) (text bytes : List
 followed_text file lines text bytes t b l = subst (λ (xs : List ℕ). IsTextOf file xs) (sym (l ∙ b)) t
 
 pub mapped :
-    (lines behind : List (List ℕ)) (dialect : VastFileType) (answering : Answering) (found : Option Origins) (verdict : Verdict) → BeginsWithDialect lines dialect behind → IsAnswered Once dialect behind answering →
+    (lines behind : List (List ℕ)) (dialect : VastFileType) (answering : ListRun) (found : Option Origins) (verdict : Verdict) → BeginsWithDialect lines dialect behind → IsAnswered Once dialect behind answering →
     IsMapOfFile answering found verdict → IsMapped lines found verdict
 mapped lines behind dialect answering None verdict begun answered is = (tt, λ made. absurd (cc (sym is ∙ made)))
 mapped lines behind dialect answering (Some origins) verdict begun answered (is, same) = (
@@ -34,7 +34,7 @@ mapped lines behind dialect answering (Some origins) verdict begun answered (is,
 )
 
 pub mapped_list :
-    (lines behind : List (List ℕ)) (dialect : VastFileType) (answering : Answering) (r : Result (Option Origins × Verdict) AllocError) → BeginsWithDialect lines dialect behind → IsAnswered Once dialect behind answering →
+    (lines behind : List (List ℕ)) (dialect : VastFileType) (answering : ListRun) (r : Result (Option Origins × Verdict) AllocError) → BeginsWithDialect lines dialect behind → IsAnswered Once dialect behind answering →
     IfOk r (λ (made : Option Origins × Verdict). IsMapOfFile answering made.0 made.1) → IfOk r (λ (made : Option Origins × Verdict). IsMapped lines made.0 made.1)
 mapped_list lines behind dialect answering (Ok made) begun answered is = mapped lines behind dialect answering made.0 made.1 begun answered is
 mapped_list lines behind dialect answering (Err e) begun answered is = tt

@@ -4,7 +4,7 @@ use Rattle.std.proofs.lemmas.List.{map-append, take-append-drop, take_all, take_
 use Rattle.std.proofs.lemmas.List.Elements.{All-push}
 use Rattle.std.specs.Prelude.{IsTrue, is_some}
 use Rattle.vast_literal.specs.declared.kind.VastFileType.{VastFileType}
-use Rattle.vast_list.specs.declared.answering.Answering.{Answering}
+use Rattle.vast_list.specs.declared.answering.ListRun.{ListRun}
 use Rattle.vast_list.specs.declared.session.Session.{Session}
 use Rattle.vast_list.specs.declared.tries.Tries.{Tries}
 use Rattle.vast_core.specs.FileTree.{tree}
@@ -18,13 +18,13 @@ use Rattle.vast_list.specs.Output.{IsOutput, StopsAtFault, is_again, is_made}
 use Rattle.vast_list.specs.Internal.Output.{IsAnswered, IsDesign, IsFinished, IsReport, Prints, TakesOn}
 use Rattle.vast_list.specs.Written.{meaning}
 
--- The lines so far were taken, those behind the dialect's.
-pub record IsAnswering (tries : Tries) (dialect : VastFileType) (lines : List (List ℕ)) (answering : Answering) : Type 0 where
+-- The lines so far were taken, those after the dialect's.
+pub record IsAnswering (tries : Tries) (dialect : VastFileType) (lines : List (List ℕ)) (answering : ListRun) : Type 0 where
   pub trial : is_some answering.trial ≡ is_again tries
   pub stopped : StopsAtFault answering
   pub built : IsAnswered tries dialect lines answering
 
--- The lines of a list that stand behind the first that is no comment.
+-- The lines of a list that stand after the first that is no comment.
 pub begins :
     (lines first rest : List (ℕ × Bor (List ℕ))) (n : ℕ) (line : ℕ × Bor (List ℕ)) (behind : List (ℕ × Bor (List ℕ))) (dialect : VastFileType) → first ≡ lines → rest ≡ lines →
     All (λ (l : List ℕ). line_kind l ≡ Passed) (line_texts (take n first)) → take (length rest - n) (drop n rest) ≡ line ∷ behind → without_return line.1.now ≡ dialect_word dialect →
@@ -40,11 +40,11 @@ begins lines first rest n line behind dialect f r passed left word =
     )
 
 pub without_title :
-    (title : Option (Bor (List ℕ))) (answering : Answering) (verdict : Verdict) (output : List ℕ) → title ≡ None → IsDesign answering output → IsFinished title answering verdict output
+    (title : Option (Bor (List ℕ))) (answering : ListRun) (verdict : Verdict) (output : List ℕ) → title ≡ None → IsDesign answering output → IsFinished title answering verdict output
 without_title title answering verdict output e t = subst (λ (t : Option (Bor (List ℕ))). IsFinished t answering verdict output) (sym e) t
 
 pub with_title :
-    (title : Option (Bor (List ℕ))) (words : Bor (List ℕ)) (answering : Answering) (verdict : Verdict) (output : List ℕ) → title ≡ Some words → IsReport words.now answering verdict output →
+    (title : Option (Bor (List ℕ))) (words : Bor (List ℕ)) (answering : ListRun) (verdict : Verdict) (output : List ℕ) → title ≡ Some words → IsReport words.now answering verdict output →
     IsFinished title answering verdict output
 with_title title words answering verdict output e b = subst (λ (t : Option (Bor (List ℕ))). IsFinished t answering verdict output) (sym e) b
 
@@ -52,13 +52,13 @@ pub ruleset titles = (without_title, with_title)
 
 -- The file is what the list's lines build.
 pub list_text :
-    (tries : Tries) (lines behind : List (List ℕ)) (dialect : VastFileType) (answering : Answering) (text : List ℕ) → BeginsWithDialect lines dialect behind → IsAnswered tries dialect behind answering →
+    (tries : Tries) (lines behind : List (List ℕ)) (dialect : VastFileType) (answering : ListRun) (text : List ℕ) → BeginsWithDialect lines dialect behind → IsAnswered tries dialect behind answering →
     IsTrue (is_made answering.told.verdict) → IsTextOf (tree answering.session.file) text → IsListText (is_again tries) lines text
 list_text tries lines behind dialect answering text begun answered made is =
     (dialect, behind, begun, answering.session.file, answering.session.answers.items, meaning answering.session.names, (answered made).0, is)
 
 pub is_output :
-    (tries : Tries) (title : Option (Bor (List ℕ))) (lines behind : List (List ℕ)) (dialect : VastFileType) (answering : Answering) (verdict : Verdict) (output : List ℕ) → BeginsWithDialect lines dialect behind →
+    (tries : Tries) (title : Option (Bor (List ℕ))) (lines behind : List (List ℕ)) (dialect : VastFileType) (answering : ListRun) (verdict : Verdict) (output : List ℕ) → BeginsWithDialect lines dialect behind →
     IsAnswered tries dialect behind answering → IsFinished title answering verdict output → IsOutput tries title lines verdict output
 is_output tries (Some title) lines behind dialect answering verdict output begun answered (rest, is, ends) =
     (rest, is, λ made. let end = ends made in (end.1.0, end.1.1, list_text tries lines behind dialect answering end.1.1 begun answered end.0 end.1.2, end.1.3))
@@ -82,7 +82,7 @@ lines-next again dialect lines i line old new l at h takes = rw (texts-more line
 
 -- Of a list that is not at fault, one line more is taken.
 answered-next :
-    (tries : Tries) (dialect : VastFileType) (lines : List (ℕ × Bor (List ℕ))) (i : ℕ) (line : ℕ × Bor (List ℕ)) (old new : Answering) → i < length lines →
+    (tries : Tries) (dialect : VastFileType) (lines : List (ℕ × Bor (List ℕ))) (i : ℕ) (line : ℕ × Bor (List ℕ)) (old new : ListRun) → i < length lines →
     line ≡ get_or lines i line → is_some old.trial ≡ is_again tries → StopsAtFault old → IsAnswered tries dialect (line_texts (take i lines)) old → TakesOn old new line.1.now →
     IsAnswered tries dialect (line_texts (take (i + 1) lines)) new
 answered-next tries dialect lines i line old new l at trial stops built on made =
@@ -90,7 +90,7 @@ answered-next tries dialect lines i line old new l at trial stops built on made 
     lines-next (is_again tries) dialect lines i line old.session new.session l at (built (on.verdict made)) takes
 
 pub answering-next :
-    (tries : Tries) (dialect : VastFileType) (lines : List (ℕ × Bor (List ℕ))) (i : ℕ) (line : ℕ × Bor (List ℕ)) (old new : Answering) → i < length lines →
+    (tries : Tries) (dialect : VastFileType) (lines : List (ℕ × Bor (List ℕ))) (i : ℕ) (line : ℕ × Bor (List ℕ)) (old new : ListRun) → i < length lines →
     line ≡ get_or lines i line → IsAnswering tries dialect (line_texts (take i lines)) old → TakesOn old new line.1.now → IsAnswering tries dialect (line_texts (take (i + 1) lines)) new
 answering-next tries dialect lines i line old new l at so on = record {
   trial = on.trial ∙ so.trial;
@@ -99,11 +99,11 @@ answering-next tries dialect lines i line old new l at so on = record {
 }
 
 pub answering-none :
-    (tries : Tries) (dialect : VastFileType) (answering : Answering) → is_some answering.trial ≡ is_again tries → answering.is_stopped ≡ false → ((again : Bool) → HasBuilt again dialect [] answering.session) →
+    (tries : Tries) (dialect : VastFileType) (answering : ListRun) → is_some answering.trial ≡ is_again tries → answering.is_stopped ≡ false → ((again : Bool) → HasBuilt again dialect [] answering.session) →
     IsAnswering tries dialect [] answering
 answering-none tries dialect answering trial going built = record { trial = trial; stopped = λ stops. absurd (cc (sym going ∙ stops)); built = λ _. built (is_again tries) }
 
-pub next-printed : (old now new : Answering) → Prints old now → Prints now new → Prints old new
+pub next-printed : (old now new : ListRun) → Prints old now → Prints now new → Prints old new
 next-printed old now new p q = record { session = q.session ∙ p.session; trial = q.trial ∙ p.trial; report = q.report ∙ p.report; stopped = q.stopped ∙ p.stopped; verdict = λ made. p.verdict (q.verdict made) }
 
 pub ruleset printing = (next-printed)

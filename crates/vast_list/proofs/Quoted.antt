@@ -100,7 +100,7 @@ pub so_far_closing : (all rest after text : List ℕ) (c : ℕ) → IsSoFar all 
 so_far_closing all rest after text c h r q =
     (h.0, h.1, h.2 ∙ ap (λ (xs : List ℕ). h.0 ++ xs) (r ∙ ap (λ (xs : List ℕ). xs ++ after) (ap encode_utf8 q ∙ encoded_low 34 (lit< tt))))
 
--- Parts behind a backslash.
+-- Parts after a backslash.
 
 pub letter_part : (letter byte : ℕ) → byte < 128 → letter_meaning letter ≡ Some byte → IsPart (92 ∷ letter ∷ []) (encode_utf8 byte)
 letter_part letter byte h e = inr (inl (letter, byte, e, refl, encoded_low byte h))
@@ -113,12 +113,12 @@ pub pair_part :
     IsPart ((92 ∷ 117 ∷ first) ++ (92 ∷ 117 ∷ second)) (encode_utf8 (paired high low))
 pair_part first high second low a b c d = inr (inr (inr (first, high, second, low, a, b, c, d, refl, refl)))
 
--- A letter behind a backslash that means this character.
+-- A letter after a backslash that means this character.
 pub letter_front : (rest after : List ℕ) (letter c : ℕ) → rest ≡ encode_utf8 letter ++ after → IsMeaning letter c → IsPartFront (92 ∷ rest) c after
 letter_front rest after letter c e m =
     (92 ∷ letter ∷ [], letter_part letter c m.1 m.2, ap (λ (xs : List ℕ). 92 ∷ xs) (e ∙ ap (λ (xs : List ℕ). xs ++ after) (encoded_low letter m.0)))
 
--- And `u`, behind which a code stands.
+-- And `u`, after which a code stands.
 pub u_front : (rest after behind : List ℕ) (letter c : ℕ) → rest ≡ encode_utf8 letter ++ after → letter ≡ 117 → IsPartFront (92 ∷ 117 ∷ after) c behind → IsPartFront (92 ∷ rest) c behind
 u_front rest after behind letter c e k h =
     let same : 92 ∷ rest ≡ 92 ∷ 117 ∷ after = ap (λ (xs : List ℕ). 92 ∷ xs) (e ∙ ap (λ (xs : List ℕ). xs ++ after) (ap encode_utf8 k ∙ encoded_low 117 (lit< tt))) in
@@ -138,7 +138,7 @@ u_result rest after letter r e k h =
     if_ok (λ (x : ℕ × Bor (List ℕ)). IsPartFront (92 ∷ 117 ∷ after) x.0 x.1.now) (λ (x : ℕ × Bor (List ℕ)). IsPartFront (92 ∷ rest) x.0 x.1.now) r
     (λ x p. u_front rest after x.1.now letter x.0 e k p) h
 
--- A character that stands for itself, and a backslash, behind which a part stands.
+-- A character that stands for itself, and a backslash, after which a part stands.
 
 pub itself_front : (c : ℕ) (rest : List ℕ) → c ≢ 92 → c ≢ 34 → IsContentFront (encode_utf8 c ++ rest) c rest
 itself_front c rest b q = (encode_utf8 c, plain_char c q b, refl)

@@ -47,7 +47,7 @@ use Rattle.vast_literal.specs.declared.kind.VastFileType.TheVariants.{Verilog, S
 
 pub nodes-unused : (old new : Bench) → HasMoreNodes old new → HasUnused old new
 nodes-unused old new h =
-    record { roots = h.more; assignments = []; containers = []; spare = old.spare; after = h.after ∙ rw (append-nil old.assignments, append-nil old.nests) refl }
+    record { roots = h.more; assignments = []; containers = []; detached = old.detached; after = h.after ∙ rw (append-nil old.assignments, append-nil old.nests) refl }
 
 pub same-unused : (old new : Bench) → new ≡ old → HasUnused old new
 same-unused old new e = subst (λ (b : Bench). HasUnused old b) (sym e) (unused-none old)

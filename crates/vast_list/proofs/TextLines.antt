@@ -19,7 +19,7 @@ use Rattle.vast_list.specs.Internal.Origins.{ComesFrom, Follows, IsOriginIn}
 same : (xs bytes : List ℕ) → pointwise nat_eq xs bytes ≡ true → xs ≡ bytes
 same xs bytes h = (slice_eq-Decides Decides-eqb xs bytes true (sym h)).0 refl
 
--- What stands behind a prefix that was stripped.
+-- What stands after a prefix that was stripped.
 begins : (bytes rest more : List ℕ) → pointwise nat_eq (take (length bytes) rest) bytes ≡ true → more ≡ drop (length bytes) rest → rest ≡ bytes ++ more
 begins bytes rest more h m =
     sym (take-append-drop (length bytes) rest)

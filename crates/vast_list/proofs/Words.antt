@@ -32,11 +32,11 @@ around c s front back h p =
 pub around_space : (s front back : List ℕ) → SplitsAroundMatch (FindsChar 32) s front back → 32 ∷ s ≡ 32 ∷ (front ++ 32 ∷ back)
 around_space s front back p = ap (λ (xs : List ℕ). 32 ∷ xs) (around 32 s front back (lit< tt) p)
 
--- What stands behind a text that was stripped.
+-- What stands after a text that was stripped.
 pub behind_text : (n s x : List ℕ) → StripsPrefix (FindsTextPrefix n) s x → s ≡ n ++ x
 behind_text n s x p = rw p.2 (p.1.1)
 
--- And behind a character.
+-- And after a character.
 pub behind_char : (c : ℕ) (s x : List ℕ) → c < 128 → StripsPrefix (FindsCharPrefix c) s x → s ≡ c ∷ x
 behind_char c s x h p = p.1.split ∙ rw (encoded_low c h, ← p.2) refl
 
@@ -52,7 +52,7 @@ behind_minus s x p = behind_char 45 s x (lit< tt) p
 pub behind_question : (s x : List ℕ) → StripsPrefix (FindsCharPrefix 63) s x → s ≡ 63 ∷ x
 behind_question s x p = behind_char 63 s x (lit< tt) p
 
--- A sign, where nothing else is left and where a space stands behind it.
+-- A sign, where nothing else is left and where a space stands after it.
 
 pub sign_alone : (s sign x : List ℕ) → StripsPrefix (FindsTextPrefix sign) s x → length x ≡ 0 → 32 ∷ s ≡ 32 ∷ (sign ++ [])
 sign_alone s sign [] p e = ap (λ (xs : List ℕ). 32 ∷ xs) (behind_text sign s [] p)
@@ -66,7 +66,7 @@ last_word s = ap (λ (xs : List ℕ). 32 ∷ xs) (sym (append-nil s))
 
 pub ruleset words = (around_space, sign_alone, sign_behind, last_word)
 
--- Pieces behind one another.
+-- Pieces after one another.
 
 module _ (named : List ℕ → Option Named) (skipped : List ℕ) where
   append_written : (ps qs : List Piece) (a b : List ℕ) → AreWritten named skipped ps a → AreWritten named skipped qs b → AreWritten named skipped (ps ++ qs) (a ++ b)
@@ -173,7 +173,7 @@ minus_no_plus s x p e = absurd (omega (arith, ap (λ (xs : List ℕ). slice_inde
 
 pub ruleset numerals = (natural, integer, minus_no_plus, behind_question)
 
--- A text behind its opening quote.
+-- A text after its opening quote.
 pub goes_text :
     (a b : Arguments) (s quoted behind content : List ℕ) → b.known ≡ a.known → left a.rest ≡ 32 ∷ s → StripsPrefix (FindsCharPrefix 34) s quoted → IsTextFront quoted content behind → left b.rest ≡ behind →
     GoesText a b content

@@ -72,7 +72,7 @@ ReadsLines again old new (line ∷ lines) =
 abbrev pub nothing_read : VastFileType → Reading
 nothing_read dialect = record { calls = []; file = start dialect 1; answers = []; named = λ (name : List ℕ). None }
 
--- The lines' calls build this file of the dialect, these are their answers, and names stand for this behind them.
+-- The lines' calls build this file of the dialect, these are their answers, and names stand for this after them.
 abbrev pub LinesBuild : (again : Bool) → VastFileType → (lines : List (List ℕ)) → Bench → List Answer → (named : List ℕ → Option Named) → Type 0
 LinesBuild again dialect lines file answers named =
     (calls : List Call) × ReadsLines again (nothing_read dialect) (record { calls = calls; file = file; answers = answers; named = named }) lines

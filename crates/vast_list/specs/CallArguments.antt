@@ -1,4 +1,4 @@
--- The arguments of calls, in the order of the parameters, as the pieces that stand behind a call's name.
+-- The arguments of calls, in the order of the parameters, as the pieces that stand after a call's name.
 use Rattle.std.specs.Prelude.{ℕ, ℤ, Bool, true, false, List, [], ◌∷◌, ◌++◌, Option, Some, None, codes, String, string_bytes}
 use Rattle.std.specs.List.{flat_map}
 use Rattle.std.specs.declared.alloc.Global.{Global}

@@ -19,7 +19,7 @@ escaped = escaped_by code_escape
 unfoldable pub json_text : List ℕ → List ℕ
 json_text content = 34 ∷ (flat_map escaped content ++ 34 ∷ [])
 
--- How far an escape was read: not begun, the backslash, and the number of none to three digits behind `\u`.
+-- How far an escape was read: not begun, the backslash, and the number of none to three digits after `\u`.
 pub data Escape : Type 0 where
   Outside : Escape
   Backslash : Escape
@@ -28,7 +28,7 @@ pub data Escape : Type 0 where
   TwoDigits : ℕ → Escape
   ThreeDigits : ℕ → Escape
 
--- What reading a text from the front of a list gives: its content and what stands behind it.
+-- What reading a text from the front of a list gives: its content and what stands after it.
 pub data Reading : Type 0 where
   NoText : Reading
   TextThen : (content rest : List ℕ) → Reading
@@ -40,7 +40,7 @@ hex_value c = if nat_lt c 58 then c - 48 else (if nat_lt c 71 then c - 55 else c
 abbrev pub is_hex : ℕ → Bool
 is_hex c = (nat_le 48 c && nat_lt c 58) || ((nat_le 65 c && nat_lt c 71) || (nat_le 97 c && nat_lt c 103))
 
--- What a letter means behind a backslash.
+-- What a letter means after a backslash.
 abbrev pub letter_meaning : ℕ → Option ℕ
 letter_meaning c =
     if c == 34 then Some 34 else
@@ -57,7 +57,7 @@ abbrev pub behind : List ℕ → Reading → Reading
 behind bytes NoText = NoText
 behind bytes (TextThen content rest) = TextThen (bytes ++ content) rest
 
--- What a letter behind a backslash means comes before what is read; nothing is read where it means nothing.
+-- What a letter after a backslash means comes before what is read; nothing is read where it means nothing.
 abbrev pub meant : Option ℕ → Reading → Reading
 meant None reading = NoText
 meant (Some byte) reading = behind (byte ∷ []) reading

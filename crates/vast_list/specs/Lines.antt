@@ -26,7 +26,7 @@ abbrev pub begins_blank : List ℕ → Bool
 begins_blank [] = false
 begins_blank (byte ∷ bytes) = is_blank byte
 
--- What stands behind the blanks at the front.
+-- What stands after the blanks at the front.
 abbrev pub behind_blanks : List ℕ → List ℕ
 behind_blanks [] = []
 behind_blanks (byte ∷ bytes) = if is_blank byte then behind_blanks bytes else byte ∷ bytes
@@ -40,7 +40,7 @@ is_remark (byte ∷ bytes) = byte == 35
 abbrev pub is_passed : List ℕ → Bool
 is_passed text = is_remark (behind_blanks text)
 
--- The first word, which goes to the first space, and what stands behind that space.
+-- The first word, which goes to the first space, and what stands after that space.
 
 abbrev pub first_word : List ℕ → List ℕ
 first_word text = before_first (λ byte. byte == 32) text
@@ -51,11 +51,11 @@ behind_word text = after_first (λ byte. byte == 32) text
 abbrev pub is_equals_front : List ℕ → Bool
 is_equals_front text = starts_with (λ b c. b == c) text (codes "= ")
 
--- Whether the first word is the name of the line's answer: ` = ` stands behind it.
+-- Whether the first word is the name of the line's answer: ` = ` stands after it.
 abbrev pub is_named : List ℕ → Bool
 is_named text = is_equals_front (behind_word text)
 
--- The call's name, its sign included: the first word, or the first behind the name of the line's answer.
+-- The call's name, its sign included: the first word, or the first after the name of the line's answer.
 abbrev pub call_word : List ℕ → List ℕ
 call_word text = if is_named text then first_word (drop 2 (behind_word text)) else first_word text
 
@@ -63,7 +63,7 @@ call_word text = if is_named text then first_word (drop 2 (behind_word text)) el
 abbrev pub text_name : List ℕ → Option (List ℕ)
 text_name text = if is_named text then Some (first_word text) else None
 
--- What stands behind the call's name, its space included.
+-- What stands after the call's name, its space included.
 
 abbrev pub behind_first : List ℕ → List ℕ
 behind_first text = drop (length (first_word text)) text
@@ -94,7 +94,7 @@ line_word line = call_word (without_return line)
 abbrev pub line_name : List ℕ → Option (List ℕ)
 line_name line = text_name (without_return line)
 
--- What stands behind the call's name: the arguments, with a space before each.
+-- What stands after the call's name: the arguments, with a space before each.
 abbrev pub line_arguments : List ℕ → List ℕ
 line_arguments line = behind_call (without_return line)
 
@@ -125,7 +125,7 @@ dialect_word SystemVerilog = codes "systemverilog"
 abbrev pub NamesDialect : List ℕ → Type 0
 NamesDialect line = (dialect : VastFileType) × (without_return line ≡ dialect_word dialect)
 
--- The first line that is neither blank nor a comment names the dialect, and these stand behind it.
+-- The first line that is neither blank nor a comment names the dialect, and these stand after it.
 abbrev pub BeginsWithDialect : (lines : List (List ℕ)) → VastFileType → (behind : List (List ℕ)) → Type 0
 BeginsWithDialect lines dialect behind =
     (passed : List (List ℕ)) × (line : List ℕ) × All (λ l. line_kind l ≡ Passed) passed × (without_return line ≡ dialect_word dialect) × (lines ≡ passed ++ line ∷ behind)
@@ -139,7 +139,7 @@ abbrev pub longer : ℕ → List (List ℕ) → List (List ℕ)
 longer byte [] = (byte ∷ []) ∷ []
 longer byte (line ∷ lines) = (byte ∷ line) ∷ lines
 
--- Each line of a text is ended by a line feed, which the last one may lack; behind the last line feed no line begins.
+-- Each line of a text is ended by a line feed, which the last one may lack; after the last line feed no line begins.
 abbrev pub lines_of : List ℕ → List (List ℕ)
 lines_of [] = []
 lines_of (byte ∷ bytes) = cond (is_line_feed byte) ([] ∷ lines_of bytes) (longer byte (lines_of bytes))

@@ -13,7 +13,7 @@ use Rattle.vast_list.specs.Output.{is_made}
 abbrev pub text_of : List TextLine → List ℕ
 text_of lines = flat_map (λ (line : TextLine). line.bytes.items) lines
 
--- The lines, each behind the number of the line of the list whose call wrote it, and a tab.
+-- The lines, each after the number of the line of the list whose call wrote it, and a tab.
 abbrev pub numbered : List TextLine → List ℕ
 numbered lines = flat_map (λ (line : TextLine). decimal line.origin ++ 9 ∷ line.bytes.items) lines
 

@@ -1,7 +1,7 @@
 -- What is printed of a list.
 use Rattle.std.specs.Prelude.{◌≡◌, ℕ, Bool, true, false, List, ◌++◌, codes, Option, Some, None, IsTrue, is_some}
 use Rattle.std.specs.Borrow.{Bor}
-use Rattle.vast_list.specs.declared.answering.Answering.{Answering}
+use Rattle.vast_list.specs.declared.answering.ListRun.{ListRun}
 use Rattle.vast_list.specs.declared.output.ListOutput.{ListOutput}
 use Rattle.vast_list.specs.declared.output.Verdict.{Verdict}
 use Rattle.vast_list.specs.declared.output.Verdict.TheVariants.{Made, Refused, NotInForm}
@@ -25,14 +25,14 @@ is_made Refused = false
 is_made NotInForm = false
 
 -- where a call was refused, the list is at fault
-abbrev pub StopsAtFault : Answering → Type 0
+abbrev pub StopsAtFault : ListRun → Type 0
 StopsAtFault answering = IsTrue answering.is_stopped → is_made answering.told.verdict ≡ false
 
 -- the text that the list's lines build stands at the end
 abbrev pub EndsWithList : Tries → (lines : List (List ℕ)) → (output : List ℕ) → Type 0
 EndsWithList tries lines output = (front : List ℕ) × (text : List ℕ) × IsListText (is_again tries) lines text × (output ≡ front ++ text)
 
--- the output is the line before the list and what stands behind that; where nothing was at fault, the text that the list's
+-- the output is the line before the list and what stands after that; where nothing was at fault, the text that the list's
 -- lines build stands at the end of it
 abbrev pub IsTitled : Tries → (title : List ℕ) → (lines : List (List ℕ)) → Verdict → (output : List ℕ) → Type 0
 IsTitled tries title lines verdict output =

@@ -1,4 +1,4 @@
--- What a question is in a line, and what it answers: a fact that is read off the file, or why there is none.
+-- What a question is in a line, and what it returns: a fact that is read off the file, or why there is none.
 use Rattle.std.specs.Prelude.{◌≡◌, ℕ, ℤ, Bool, List, [], ◌++◌, codes, length, map, Option, Some, None, Result, Ok, Err, ok_or, option_and_then, option_map, slice_get, string_bytes}
 use Rattle.vast_literal.specs.Keyword.{is_keyword}
 use Rattle.vast_literal.specs.Literal.{and_then}

@@ -18,13 +18,13 @@ use Rattle.vast_list.specs.declared.fault.LineFault.{LineFault}
 use Rattle.vast_list.specs.declared.questions.answered.PortValue.{PortValue}
 use Rattle.vast_list.specs.declared.questions.answered.Value.{Value}
 use Rattle.vast_list.specs.declared.questions.answered.Value.TheVariants.{Text, Nothing, Truth, Number, Count, Ports}
-use Rattle.vast_list.specs.declared.session.Given.{Given}
-use Rattle.vast_list.specs.declared.session.Given.TheVariants.{Nothing as Blank, Step, Helper, Answer as Answered}
+use Rattle.vast_list.specs.declared.session.LineResult.{LineResult}
+use Rattle.vast_list.specs.declared.session.LineResult.TheVariants.{Nothing as Blank, Step, Helper, Answer as Answered}
 use Rattle.vast_list.specs.declared.session.Session.{Session}
 use Rattle.vast_list.specs.Json.{json_text}
 use Rattle.vast_list.specs.Written.{IsPlaceOf}
 
--- A member whose value is a text, behind its name as it stands in the object.
+-- A member whose value is a text, after its name as it stands in the object.
 abbrev pub text_member : (name content : List ℕ) → List ℕ
 text_member name content = name ++ json_text content
 
@@ -110,7 +110,7 @@ abbrev pub IsHelperJson : Session → (number : ℕ) → List ℕ → Type 0
 IsHelperJson session number value = (value ≡ codes "null") ⊎ ((text : String Global) × IsAnswerText session number text × (value ≡ json_text (string_bytes text)))
 
 -- What a line gave.
-abbrev pub IsGivenObject : Session → (line : ℕ) → Given → (object : List ℕ) → Type 0
+abbrev pub IsGivenObject : Session → (line : ℕ) → LineResult → (object : List ℕ) → Type 0
 IsGivenObject session line Blank object = object ≡ line_front line ++ codes "}"
 IsGivenObject session line (Step number call) object = object ≡ line_front line ++ call_members call.now (Some number) ++ codes "}"
 IsGivenObject session line (Helper number call) object =
@@ -118,5 +118,5 @@ IsGivenObject session line (Helper number call) object =
 IsGivenObject session line (Answered call value) object = object ≡ line_front line ++ call_members call.now None ++ codes ",\"answer\":" ++ value_json value ++ codes "}"
 
 -- The text grew by what the line gave.
-abbrev pub AddsGiven : Session → (old new : List ℕ) → (line : ℕ) → Given → Type 0
+abbrev pub AddsGiven : Session → (old new : List ℕ) → (line : ℕ) → LineResult → Type 0
 AddsGiven session old new line given = (object : List ℕ) × IsGivenObject session line given object × (new ≡ old ++ object)

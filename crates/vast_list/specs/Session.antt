@@ -19,8 +19,8 @@ use Rattle.vast_list.specs.declared.fault.Fault.{Fault}
 use Rattle.vast_list.specs.declared.fault.Fault.TheVariants.{Line, Memory}
 use Rattle.vast_list.specs.declared.line.Call.{Call}
 use Rattle.vast_list.specs.declared.line.Call.TheVariants.{Step as StepCall, Helper as HelperCall}
-use Rattle.vast_list.specs.declared.session.Given.{Given}
-use Rattle.vast_list.specs.declared.session.Given.TheVariants.{Nothing, Step, Helper, Answer as Answered}
+use Rattle.vast_list.specs.declared.session.LineResult.{LineResult}
+use Rattle.vast_list.specs.declared.session.LineResult.TheVariants.{Nothing, Step, Helper, Answer as Answered}
 use Rattle.vast_list.specs.declared.session.Session.{Session}
 use Rattle.vast_list.specs.declared.names.Named.{Named}
 use Rattle.vast_list.specs.declared.names.Named.TheVariants.{Handle, Skipped}
@@ -45,7 +45,7 @@ abbrev pub Calls : (old new : Bench) → List Answer → Result Answer StepFault
 Calls old new answers result (StepCall step) = Replays old new answers result (call_of step)
 Calls old new answers result (HelperCall helper) = Helps old new answers result helper
 
--- The call was made over the answers so far, and its answer stands behind them.
+-- The call was made over the answers so far, and its answer stands after them.
 abbrev pub IsMade : (old new : Session) → Call → Type 0
 IsMade old new call = (answer : Answer) × Calls old.file new.file old.answers.items (Ok answer) call × (new.answers.items ≡ old.answers.items ++ answer ∷ [])
 
@@ -115,21 +115,21 @@ abbrev pub GivesAnswer : (old new : Session) → (line : List ℕ) → Value →
 GivesAnswer old new line value = HasAsked old line (Ok value) × IsSameFile old new × Enters old new (line_name line) (value_named value)
 
 -- A step or a helper is a call that was made, a question is answered; a comment and a blank line change nothing.
-abbrev pub Gives : (old new : Session) → (line : List ℕ) → Given → Type 0
+abbrev pub Gives : (old new : Session) → (line : List ℕ) → LineResult → Type 0
 Gives old new line Nothing = IsSame old new
 Gives old new line (Step number name) = GivesCall old new name.now line
 Gives old new line (Helper number name) = GivesCall old new name.now line
 Gives old new line (Answered name value) = GivesAnswer old new line value
 
 -- The line is of the kind that gives this, under its call's name.
-abbrev pub IsGivenBy : (line : List ℕ) → Given → Type 0
+abbrev pub IsGivenBy : (line : List ℕ) → LineResult → Type 0
 IsGivenBy line Nothing = line_kind line ≡ Passed
 IsGivenBy line (Step number name) = (line_kind line ≡ Stepped) × (name.now ≡ line_word line)
 IsGivenBy line (Helper number name) = (line_kind line ≡ Helped) × (name.now ≡ line_word line)
 IsGivenBy line (Answered name value) = (line_kind line ≡ Asked) × (name.now ≡ line_word line)
 
 -- What a line does to a session.
-abbrev pub Takes : (old new : Session) → (line : List ℕ) → Result Given Fault → Type 0
+abbrev pub Takes : (old new : Session) → (line : List ℕ) → Result LineResult Fault → Type 0
 Takes old new line (Ok given) = Gives old new line given
 Takes old new line (Err fault) = IsLeft old new fault
 
@@ -143,7 +143,7 @@ told_number session line None = None
 told_number session line (Some cause) = if is_call_line line then Some (next_number session) else None
 
 -- A step or a helper has the next number, whether it was made or is at fault.
-abbrev pub IsNumbered : Session → (line : List ℕ) → Result Given Fault → Type 0
+abbrev pub IsNumbered : Session → (line : List ℕ) → Result LineResult Fault → Type 0
 IsNumbered session line (Ok Nothing) = ⊤
 IsNumbered session line (Ok (Step number name)) = number ≡ next_number session
 IsNumbered session line (Ok (Helper number name)) = number ≡ next_number session

@@ -1,7 +1,7 @@
 -- A list without a title whose lines are taken as they come.
 use Rattle.std.specs.Prelude.{◌≡◌, ℕ, List, [], ◌∷◌, ◌++◌, All, IfSome, IsTrue, false, is_some}
 use Rattle.vast_literal.specs.declared.kind.VastFileType.{VastFileType}
-use Rattle.vast_list.specs.declared.answering.Answering.{Answering}
+use Rattle.vast_list.specs.declared.answering.ListRun.{ListRun}
 use Rattle.vast_list.specs.declared.output.ListOutput.{ListOutput}
 use Rattle.vast_list.specs.declared.untitled.Stage.{Stage}
 use Rattle.vast_list.specs.declared.untitled.Stage.TheVariants.{Before, Behind, Astray}
@@ -10,13 +10,13 @@ use Rattle.vast_list.specs.Built.{HasBuilt, IsListText}
 use Rattle.vast_list.specs.Lines.{BeginsWithDialect, HasKind, NamesDialect, Passed, line_kind}
 use Rattle.vast_list.specs.Output.{StopsAtFault, is_made}
 
--- The lines name a dialect, and the session is what those behind it build.
-abbrev pub IsBuiltBy : (lines : List (List ℕ)) → Answering → Type 0
+-- The lines name a dialect, and the session is what those after it build.
+abbrev pub IsBuiltBy : (lines : List (List ℕ)) → ListRun → Type 0
 IsBuiltBy lines answering =
     (dialect : VastFileType) × (behind : List (List ℕ)) × BeginsWithDialect lines dialect behind × HasBuilt false dialect behind answering.session
 
 -- Lines are taken once, and where a call was refused they are at fault; where nothing of them was, they built the session.
-pub record HasAnswered (lines : List (List ℕ)) (answering : Answering) : Type 0 where
+pub record HasAnswered (lines : List (List ℕ)) (answering : ListRun) : Type 0 where
   pub trial : is_some answering.trial ≡ false
   pub stopped : StopsAtFault answering
   pub built : IsTrue (is_made answering.told.verdict) → IsBuiltBy lines answering

@@ -35,8 +35,8 @@ IsLow n = (56320 ≤ n) × (n < 57344)
 abbrev pub paired : (high low : ℕ) → ℕ
 paired high low = 65536 + (high - 55296) * 1024 + (low - 56320)
 
--- The parts of a text between its quotes: any byte but a quote and a backslash stands for itself; behind a backslash a letter
--- has a meaning, and behind `\u` the code of a character, or the first of two that are a surrogate pair.
+-- The parts of a text between its quotes: any byte but a quote and a backslash stands for itself; after a backslash a letter
+-- has a meaning, and after `\u` the code of a character, or the first of two that are a surrogate pair.
 
 abbrev pub IsPlain : (written meant : List ℕ) → Type 0
 IsPlain written meant = (byte : ℕ) × (byte ≢ 34) × (byte ≢ 92) × (written ≡ byte ∷ []) × (meant ≡ byte ∷ [])

@@ -1,12 +1,12 @@
 //! Lines that are taken once more where memory was refused, on a file that must be as it was.
 //!
-//! With one request refused, such a run gives what it gives without a refusal: that is how want of memory is tried.
+//! With one request refused, such a run gives what it gives without a refusal: that is how refused memory is tried.
 
 ghost use Rattle.std.specs.Prelude.{OnOk, true};
 ghost use Rattle.vast_list.specs.Internal.Built.{TakesLine};
 
 use crate::fault::Fault;
-use crate::session::{Given, Session};
+use crate::session::{LineResult, Session};
 use crate::tried;
 use crate::tries::Tries;
 use std::alloc::{AllocError, Global};
@@ -27,7 +27,7 @@ struct Sight {
 
 /// What a list's file is held against.
 #[derive(Drop)]
-pub(crate) struct Trial<'a> {
+pub(crate) struct Rerun<'a> {
     /// The texts of the list, which may be names.
     names: Vec<&'a str>,
     /// The text that a first run left which was refused memory; `None` where none was.
@@ -38,18 +38,18 @@ pub(crate) struct Trial<'a> {
     is_changed: bool,
 }
 
-impl<'a> Trial<'a> {
-    /// A trial of the lines behind the dialect's.
+impl<'a> Rerun<'a> {
+    /// A trial of the lines after the dialect's.
     ///
     /// # Errors
-    /// Want of memory, where it was refused twice.
+    /// Out of memory, where it was refused twice.
     pub(crate) fn new(
         alloc: Global,
         dialect: VastFileType,
         lines: &[(usize, &'a [u8])],
-    ) -> Result<Trial<'a>, AllocError> {
+    ) -> Result<Rerun<'a>, AllocError> {
         let stopped = stopped_text(alloc, dialect, lines)?;
-        Ok(Trial {
+        Ok(Rerun {
             names: tried!(Tries::Again, names_of(alloc, lines))?,
             stopped,
             is_prefix: false,
@@ -64,7 +64,7 @@ impl<'a> Trial<'a> {
         session: &mut Session,
         number: usize,
         line: &'l [u8],
-    ) -> Result<Given<'l>, Fault>
+    ) -> Result<LineResult<'l>, Fault>
         ensures { OnOk result (TakesLine true session.old session.new line.now) }
     {
         let before = self.sight(session)?;
@@ -91,7 +91,7 @@ impl<'a> Trial<'a> {
     /// Whether the first run left the text of some of the first lines.
     ///
     /// # Errors
-    /// Want of memory, where it was refused twice.
+    /// Out of memory, where it was refused twice.
     pub(crate) fn is_prefix(&self, session: &Session) -> Result<bool, AllocError> {
         let last = self.sight(session)?;
         Ok(self.is_prefix || is_left(&self.stopped, &last.text))
@@ -159,7 +159,7 @@ fn stopped_text(
     text
 }
 
-/// Makes the calls of the lines up to the first that is refused; whether that is for want of memory.
+/// Makes the calls of the lines up to the first that is refused; whether that is for lack of memory.
 fn is_refused_memory(session: &mut Session, lines: &[(usize, &[u8])]) -> bool {
     for (number, line) in lines {
         let taken = session.line(*number, line);

@@ -6,12 +6,12 @@ ghost use Rattle.vast_list.specs.Internal.Built.{TakesLine};
 ghost use Rattle.vast_list.specs.Output.{is_again, is_made};
 ghost use Rattle.vast_list.specs.Internal.Output.{Prints, TakesOn};
 
-use crate::again::Trial;
+use crate::again::Rerun;
 use crate::fault::{Fault, LineFault};
 use crate::line::is_step;
 use crate::output::{ListOutput, MOST_FAULTS, Verdict};
 use crate::questions::answered::Value;
-use crate::session::{Given, Session};
+use crate::session::{LineResult, Session};
 use crate::tried;
 use crate::tries::Tries;
 use std::alloc::{AllocError, Global};
@@ -20,31 +20,31 @@ use xlsynth_vast::VastFileType;
 
 /// A list whose lines are taken one by one.
 #[derive(Drop)]
-pub(crate) struct Answering<'a> {
+pub(crate) struct ListRun<'a> {
     pub(crate) session: Session,
     /// Of lines that are taken once more.
-    pub(crate) trial: Option<Trial<'a>>,
-    /// What is printed behind a header so far.
+    pub(crate) trial: Option<Rerun<'a>>,
+    /// What is printed after a header so far.
     pub(crate) report: Option<Vec<u8>>,
     /// Whether a step or a helper was refused.
     pub(crate) is_stopped: bool,
-    pub(crate) told: Told,
+    pub(crate) told: ListReport,
 }
 
 /// What is told of a list.
 #[derive(Drop)]
-pub(crate) struct Told {
+pub(crate) struct ListReport {
     pub(crate) verdict: Verdict,
     pub(crate) faults: Vec<LineFault>,
     /// How many faults there are beside those.
     pub(crate) more: usize,
 }
 
-impl Told {
-    pub(crate) fn new(alloc: Global) -> Told
+impl ListReport {
+    pub(crate) fn new(alloc: Global) -> ListReport
         ensures { result.verdict ≡ Verdict.Made }
     {
-        Told {
+        ListReport {
             verdict: Verdict::Made,
             faults: Vec::new(alloc),
             more: 0,
@@ -72,29 +72,29 @@ impl Told {
     }
 }
 
-impl<'a> Answering<'a> {
-    /// None of the lines behind the dialect's is taken yet. It takes no memory.
+impl<'a> ListRun<'a> {
+    /// None of the lines after the dialect's is taken yet. It takes no memory.
     pub(crate) fn new(
         alloc: Global,
         dialect: VastFileType,
-        trial: Option<Trial<'a>>,
+        trial: Option<Rerun<'a>>,
         report: Option<Vec<u8>>,
-    ) -> Answering<'a>
+    ) -> ListRun<'a>
         ensures trial { is_some result.trial ≡ is_some trial.entry }
         ensures going { result.is_stopped ≡ false }
         ensures built { (again : Bool) → HasBuilt again dialect [] result.session }
     {
-        Answering {
+        ListRun {
             session: Session::new(alloc, dialect),
             trial,
             report,
             is_stopped: false,
-            told: Told::new(alloc),
+            told: ListReport::new(alloc),
         }
     }
 }
 
-impl Answering<'_> {
+impl ListRun<'_> {
     fn tries(&self) -> Tries
         ensures { is_again result ≡ is_some self.now.trial }
     {
@@ -105,9 +105,6 @@ impl Answering<'_> {
     }
 
     /// Takes a line.
-    ///
-    /// # Errors
-    /// Want of memory.
     pub(crate) fn take(&mut self, number: usize, line: &[u8]) -> Result<(), AllocError>
         ensures { OnOk result (TakesOn self.old self.new line.now) }
     {
@@ -131,7 +128,7 @@ impl Answering<'_> {
 
     /// Takes a line, and prints nothing.
     #[tactic(auto, using(crate::proofs::Built::taking))]
-    fn taken<'l>(&mut self, number: usize, line: &'l [u8]) -> Result<Given<'l>, Fault>
+    fn taken<'l>(&mut self, number: usize, line: &'l [u8]) -> Result<LineResult<'l>, Fault>
         ensures line { OnOk result
             (TakesLine (is_some self.old.trial) self.old.session self.new.session line.now) }
         ensures trial { is_some self.new.trial ≡ is_some self.old.trial }
@@ -145,7 +142,7 @@ impl Answering<'_> {
         }
     }
 
-    /// Only reads a step behind one that was refused.
+    /// Only reads a step after one that was refused.
     fn pass_over(&mut self, number: usize, line: &[u8]) -> Result<(), AllocError>
         ensures trial { OnOk result (is_some self.new.trial ≡ is_some self.old.trial) }
         ensures stopped { self.new.is_stopped ≡ self.old.is_stopped }
@@ -165,13 +162,13 @@ impl Answering<'_> {
         }
     }
 
-    fn print(&mut self, given: &Given<'_>) -> Result<(), AllocError>
+    fn print(&mut self, given: &LineResult<'_>) -> Result<(), AllocError>
         ensures { OnOk result (Prints self.old self.new) }
     {
         match given {
-            Given::Nothing | Given::Step { number: _, call: _ } => Ok(()),
-            Given::Answer { call, value } => self.print_answer(call, value),
-            Given::Helper { number, call } => self.print_helper(*number, call),
+            LineResult::Nothing | LineResult::Step { number: _, call: _ } => Ok(()),
+            LineResult::Answer { call, value } => self.print_answer(call, value),
+            LineResult::Helper { number, call } => self.print_helper(*number, call),
         }
     }
 
@@ -186,7 +183,7 @@ impl Answering<'_> {
         self.print_words(call, ": ", &text)
     }
 
-    /// Behind a header the text of a helper's expression is printed.
+    /// After a header the text of a helper's expression is printed.
     #[tactic(auto, using(crate::proofs::Outputs::printing))]
     fn print_helper(&mut self, number: usize, call: &str) -> Result<(), AllocError>
         ensures { OnOk result (Prints self.old self.new) }
@@ -248,7 +245,7 @@ impl Answering<'_> {
         Ok(())
     }
 
-    /// Prints a line behind the header.
+    /// Prints a line after the header.
     #[tactic(auto, using(crate::proofs::Outputs::printing))]
     fn print_words(&mut self, first: &str, sign: &str, text: &str) -> Result<(), AllocError>
         ensures { OnOk result (Prints self.old self.new) }
@@ -259,7 +256,7 @@ impl Answering<'_> {
         Ok(())
     }
 
-    /// Prints a text behind the header.
+    /// Prints a text after the header.
     pub(crate) fn print_text(&mut self, text: &str) -> Result<(), AllocError>
         ensures { OnOk result (Prints self.old self.new) }
     {

@@ -19,7 +19,7 @@ pub(crate) struct Known<'a> {
     pub(crate) skipped: &'a [usize],
 }
 
-/// What is left of a line behind its call: arguments with a space between two.
+/// What is left of a line after its call: arguments with a space between two.
 #[derive(Clone, Copy)]
 pub(crate) struct Arguments<'a> {
     known: Known<'a>,
@@ -34,7 +34,7 @@ pub(crate) trait FromArguments: Sized + Drop {
     /// Takes it from the front.
     ///
     /// # Errors
-    /// Where something else stands there, and want of memory.
+    /// Where something else stands there, and out of memory.
     fn take(arguments: &mut Arguments<'_>) -> Result<Self, Misfit>
         ensures { IfOk result (λ value. Reads arguments.old arguments.new (pieces value)) };
 }
@@ -130,7 +130,7 @@ impl<'a> Arguments<'a> {
         }
     }
 
-    /// Takes the word if it is next, and answers whether it was.
+    /// Takes the word if it is next, and returns whether it was.
     #[tactic(auto, using(crate::proofs::Words::words))]
     pub(crate) fn skip(&mut self, sign: &str) -> bool
         ensures taken { IsTrue result → Goes self.old self.new sign.now }
@@ -367,7 +367,7 @@ impl<'a> Arguments<'a> {
     }
 }
 
-/// What stands behind a text and the space after it.
+/// What stands after a text and the space after it.
 #[tactic(auto, using(crate::proofs::Words::behind_space))]
 fn behind_text(rest: &str) -> Result<Option<&str>, Misfit>
     ensures { IfOk result (λ behind. left behind ≡ rest.now) }

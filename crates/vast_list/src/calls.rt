@@ -27,7 +27,7 @@ use vast_script::Step;
 /// The call of the name over the arguments.
 ///
 /// # Errors
-/// Where no call has the name or the arguments are not those of the call, and want of memory.
+/// Where no call has the name or the arguments are not those of the call, and out of memory.
 #[tactic(auto, using(crate::proofs::Words::left_same))]
 pub(crate) fn make_step(name: &str, arguments: &mut Arguments<'_>) -> Result<Step, Misfit>
     ensures named { IfOk result (λ step. step_name step ≡ name.now) }

@@ -200,7 +200,7 @@ fn usage(alloc: Global, call: &str) -> Result<String, AllocError> {
     Ok(usage)
 }
 
-/// Each parameter's name, behind a space.
+/// Each parameter's name, after a space.
 fn push_names(usage: &mut String, parameters: &[Parameter]) -> Result<(), AllocError> {
     for parameter in parameters {
         usage.push(' ')?;

@@ -30,7 +30,7 @@ pub(crate) enum Helper {
 /// The helper of the name, its sign included, over the arguments.
 ///
 /// # Errors
-/// Where no helper has the name or the arguments are not those of the helper, and want of memory.
+/// Where no helper has the name or the arguments are not those of the helper, and out of memory.
 pub(crate) fn make_helper(name: &str, arguments: &mut Arguments<'_>) -> Result<Helper, Misfit>
     ensures named { IfOk result (λ helper. helper_name helper ≡ name.now) }
     ensures written { IfOk result (λ helper. AreLeft arguments.old (helper_pieces helper)) }

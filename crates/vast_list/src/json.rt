@@ -47,9 +47,6 @@ fn push_escaped(text: &mut String, character: char) -> Result<(), AllocError>
 }
 
 /// Appends the text of JSON of this content: between quotes, with escapes for quotes, backslashes and control characters.
-///
-/// # Errors
-/// Want of memory.
 pub fn push_json_text(text: &mut String, content: &str) -> Result<(), AllocError>
     ensures { OnOk result (AddsJsonText (string_bytes text.old) (string_bytes text.new) content.now) }
 {

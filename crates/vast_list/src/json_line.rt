@@ -8,13 +8,13 @@ ghost use Rattle.vast_list.specs.Lines.{line_texts};
 ghost use Rattle.vast_list.specs.Output.{is_made};
 ghost use Rattle.vast_list.specs.Session.{IsTextOf};
 
-use crate::answering::Told;
+use crate::answering::ListReport;
 use crate::fault::{Fault, LineFault};
 use crate::json::push_json_text;
 use crate::lines::ListLines;
 use crate::output::{Verdict, dialect_line};
 use crate::reply::{push_fault, push_given};
-use crate::session::{Given, Session};
+use crate::session::{LineResult, Session};
 use crate::tries::Tries;
 use std::alloc::{AllocError, Global};
 use std::fmt::Write;
@@ -26,7 +26,7 @@ struct Answers {
     session: Session,
     /// What helpers and questions gave, with commas between.
     given: String,
-    told: Told,
+    told: ListReport,
 }
 
 /// The list as one line of JSON, and how it was taken:
@@ -34,10 +34,7 @@ struct Answers {
 ///
 /// `source` is where the list stands. The title is `null` where the list has none; what of it isn't UTF-8 is replaced.
 /// The answers are those of helpers and questions, in the order of their lines. The text is `null` where anything is
-/// refused or not in the form. Behind a fault the list is gone on with, so that all its faults are told.
-///
-/// # Errors
-/// Want of memory.
+/// refused or not in the form. After a fault the list is gone on with, so that all its faults are told.
 #[tactic(auto, using(crate::proofs::JsonLines::endings))]
 pub fn list_json(
     alloc: Global,
@@ -74,7 +71,7 @@ pub fn list_json(
 fn push_bad_dialect(alloc: Global, text: &mut String, fault: LineFault) -> Result<(), AllocError>
     ensures { OnOk result (EndsWithText (codes "null") (string_bytes text.new)) }
 {
-    let mut told = Told::new(alloc);
+    let mut told = ListReport::new(alloc);
     told.keep(Tries::Once, fault)?;
     text.push_str(",\"verdict\":\"not in form\",\"answers\":[]")?;
     push_told(text, &told)?;
@@ -92,7 +89,7 @@ fn answered(
     let mut answers = Answers {
         session: Session::new(alloc, dialect),
         given: String::new(alloc),
-        told: Told::new(alloc),
+        told: ListReport::new(alloc),
     };
     for (number, line) in lines {
         answers.take(*number, line)?;
@@ -115,11 +112,11 @@ impl Answers {
         }
     }
 
-    fn keep(&mut self, number: usize, given: &Given<'_>) -> Result<(), AllocError>
+    fn keep(&mut self, number: usize, given: &LineResult<'_>) -> Result<(), AllocError>
         ensures session { self.new.session ≡ self.old.session }
         ensures told { self.new.told ≡ self.old.told }
     {
-        if let Given::Nothing | Given::Step { number: _, call: _ } = given {
+        if let LineResult::Nothing | LineResult::Step { number: _, call: _ } = given {
             return Ok(());
         }
         if !self.given.is_empty() {
@@ -154,7 +151,7 @@ fn push_taken(text: &mut String, answers: &Answers) -> Result<(), AllocError> {
 
 /// The file's text; `None` where anything was at fault, as the text may be itself.
 #[tactic(auto, using(crate::proofs::Sessions::emitted))]
-fn printed(session: &Session, told: &mut Told) -> Result<Option<String>, AllocError>
+fn printed(session: &Session, told: &mut ListReport) -> Result<Option<String>, AllocError>
     ensures made { IfOk result (λ printed. IsTrue (is_made told.new.verdict) →
         IsTrue (is_made told.old.verdict)) }
     ensures text { IfOk result (λ printed. MatchOption printed (is_made told.new.verdict ≡ false)
@@ -188,7 +185,7 @@ fn push_printed(text: &mut String, printed: Option<String>) -> Result<(), AllocE
     text.push_str("}\n")
 }
 
-fn push_told(text: &mut String, told: &Told) -> Result<(), AllocError> {
+fn push_told(text: &mut String, told: &ListReport) -> Result<(), AllocError> {
     text.push_str(",\"faults\":[")?;
     let mut is_first = true;
     for fault in &told.faults {

@@ -1,6 +1,6 @@
 //! Lists of builder calls as text: a list is read, its calls are made, its questions are answered, its file is printed.
 //!
-//! `docs/use/LISTS.md` has the form. A [`Session`] takes the lines of a list one by one; [`list_output`] answers a whole list.
+//! `docs/use/LISTS.md` has the form. A [`Session`] takes the lines of a list one by one; [`list_output`] takes a whole list.
 #![tactic(auto)]
 
 mod again;
@@ -44,7 +44,7 @@ pub use output::{ListOutput, MOST_FAULTS, Verdict, dialect_line, list_output};
 pub use plainness::{Plainness, list_plainness};
 pub use questions::answered::{PortValue, Value};
 pub use reply::{push_fault, push_given};
-pub use session::{Given, Session};
+pub use session::{LineResult, Session};
 pub use table::json::calls_json;
 pub use table::text::calls_text;
 pub use tries::Tries;

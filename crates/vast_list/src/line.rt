@@ -84,7 +84,7 @@ pub(crate) fn is_empty(text: &str) -> bool
     true
 }
 
-/// The name of a line's answer, its call and what stands behind that.
+/// The name of a line's answer, its call and what stands after that.
 pub(crate) fn split_line(text: &str) -> (Option<&str>, &str, Option<&str>)
     ensures name { option_copied result.0 ≡ text_name text.now }
     ensures call { result.1.now ≡ call_word text.now }
@@ -103,7 +103,7 @@ pub(crate) fn split_line(text: &str) -> (Option<&str>, &str, Option<&str>)
 /// Reads a line that is neither blank nor a comment.
 ///
 /// # Errors
-/// Where the line is not in the form, and want of memory.
+/// Where the line is not in the form, and out of memory.
 pub(crate) fn read_line<'a>(known: Known<'_>, text: &'a str) -> Result<Line<'a>, Misread<'a>>
     ensures { MatchResult result
         (λ line. IsRead (meaning known.entry.names.now) known.entry.skipped.now text.now line)
@@ -161,7 +161,7 @@ fn check_begin(text: &str) -> Result<(), Misfit>
     }
 }
 
-/// The first word, and what stands behind the space after it.
+/// The first word, and what stands after the space after it.
 #[tactic(auto, using(crate::proofs::LineParts::firsts))]
 fn split_word(text: &str) -> (&str, Option<&str>)
     ensures word { result.0.now ≡ first_word text.now }
@@ -174,7 +174,7 @@ fn split_word(text: &str) -> (&str, Option<&str>)
     }
 }
 
-/// The call behind a name, where the name's `=` stands before it.
+/// The call after a name, where the name's `=` stands before it.
 fn named_call<'a>(rest: Option<&'a str>) -> Option<&'a str>
     ensures { MatchOption result (is_equals_front (rest_text rest.entry) ≡ false)
         (λ call. (is_equals_front (rest_text rest.entry) ≡ true)
@@ -223,7 +223,7 @@ fn read_action(known: Known<'_>, call: &str, rest: Option<&str>) -> Result<Actio
 /// The dialect that the line names.
 ///
 /// # Errors
-/// Where it names none, and want of memory.
+/// Where it names none, and out of memory.
 #[tactic(auto, using(crate::proofs::Sessions::dialects))]
 pub fn dialect_of(alloc: Global, number: usize, line: &[u8]) -> Result<VastFileType, Fault>
     ensures dialect { IfOk result (λ dialect. without_return line.now ≡ dialect_word dialect) }

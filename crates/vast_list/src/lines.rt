@@ -10,7 +10,7 @@ pub const HEADER: &[u8] = b"== ";
 /// The lines of one list.
 #[derive(Drop)]
 pub struct ListLines<'a> {
-    /// What stands behind `== ` in the line before the list.
+    /// What stands after `== ` in the line before the list.
     pub title: Option<&'a [u8]>,
     /// The number of that line, from 1; 1 where there is none.
     pub number: usize,
@@ -18,7 +18,7 @@ pub struct ListLines<'a> {
     pub lines: Vec<(usize, &'a [u8])>,
 }
 
-/// The first line of the bytes, where a line feed ends it, and what stands behind that; `None` where there is none.
+/// The first line of the bytes, where a line feed ends it, and what stands after that; `None` where there is none.
 pub fn ended_line(bytes: &[u8]) -> Option<(&[u8], &[u8])>
     ensures some { IfSome result (λ cut. IsEnded bytes.now cut.0.now cut.1.now) }
     ensures none { IsNone result → HasNoFeed bytes.now }
@@ -31,7 +31,7 @@ pub fn ended_line(bytes: &[u8]) -> Option<(&[u8], &[u8])>
     }
 }
 
-/// Where the first line feed stands, or behind the last byte.
+/// Where the first line feed stands, or after the last byte.
 fn line_end(bytes: &[u8]) -> usize
     ensures { result ≡ position_or_len is_line_feed bytes.now }
 {

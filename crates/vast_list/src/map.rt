@@ -6,7 +6,7 @@ ghost use Rattle.vast_list.specs.Origins.{IsMapped};
 ghost use Rattle.vast_list.specs.Internal.Output.{IsAnswered};
 ghost use Rattle.vast_list.specs.Internal.Origins.{IsMapOfFile};
 
-use crate::answering::Answering;
+use crate::answering::ListRun;
 use crate::fault::Fault;
 use crate::line::{split_line, text_of};
 use crate::lines::ListLines;
@@ -24,9 +24,6 @@ use xlsynth_vast::VastFileType;
 /// After each call the file is printed, and the text is compared with the one before, line by line: what both begin and
 /// end with keeps its numbers, and what is between has the call's. A line that the call only changes keeps its number, as
 /// `if (a) begin end` that becomes `if (a) begin`; and so do lines that are moved.
-///
-/// # Errors
-/// Want of memory.
 #[tactic(auto, using(crate::proofs::Mapped::maps))]
 pub fn list_origins(
     alloc: Global,
@@ -46,18 +43,18 @@ pub fn list_origins(
     }
 }
 
-/// Makes the calls of the lines, and numbers the text behind each.
+/// Makes the calls of the lines, and numbers the text after each.
 fn followed(
     alloc: Global,
     origins: &mut Origins,
     report: Option<Vec<u8>>,
     dialect: VastFileType,
     lines: &[(usize, &[u8])],
-) -> Result<Answering<'static>, AllocError>
+) -> Result<ListRun<'static>, AllocError>
     ensures { IfOk result (λ answering.
         IsAnswered Tries.Once dialect (line_texts lines.now) answering) }
 {
-    let mut answering = Answering::new(alloc, dialect, None, report);
+    let mut answering = ListRun::new(alloc, dialect, None, report);
     for (number, line) in lines {
         let before = answering.session.answers().len();
         answering.take(*number, line)?;
@@ -89,11 +86,11 @@ fn follow(origins: &mut Origins, session: &Session, number: usize) -> Result<(),
 #[tactic(auto, using(crate::proofs::Mapped::maps))]
 fn finished(
     mut origins: Origins,
-    answering: Answering<'_>,
+    answering: ListRun<'_>,
 ) -> Result<(Option<Origins>, Verdict), AllocError>
     ensures { IfOk result (λ made. IsMapOfFile answering.entry made.0 made.1) }
 {
-    let Answering {
+    let ListRun {
         session,
         mut told,
         ..
@@ -113,9 +110,6 @@ fn finished(
 
 /// The list's line of JSON with the map as its last member: `"map":[..]`, for each line of the text the number of the line
 /// of the list; `null` where the text is.
-///
-/// # Errors
-/// Want of memory.
 pub fn json_with_map(
     alloc: Global,
     list: &ListLines<'_>,

@@ -66,7 +66,7 @@ impl Names {
     /// The name stands for this from now on.
     ///
     /// # Errors
-    /// Want of memory; nothing changed.
+    /// Out of memory; nothing changed.
     pub(crate) fn insert(&mut self, name: &str, meant: Named) -> Result<(), AllocError>
         ensures ok { OnOk result
             (meaning self.new ≡ update bytes_eq (meaning self.old) name.now (Some meant)) }
@@ -93,7 +93,7 @@ impl Names {
     /// The name, where there is one, stands for this from now on.
     ///
     /// # Errors
-    /// Want of memory; nothing changed.
+    /// Out of memory; nothing changed.
     pub(crate) fn enter(&mut self, name: Option<&str>, stands_for: Named) -> Result<(), AllocError>
         ensures entered { OnOk result
             (meaning self.new ≡ entered (meaning self.old) (option_copied name.entry) stands_for) }

@@ -15,7 +15,7 @@ pub(crate) struct TextLine {
     origin: usize,
 }
 
-/// The first line, its break included, and what stands behind it.
+/// The first line, its break included, and what stands after it.
 fn next_line(text: &[u8]) -> (&[u8], &[u8])
     ensures whole { text.now ≡ result.0.now ++ result.1.now }
     ensures shorter { 0 < length text.now → length result.1.now < length text.now }
@@ -26,7 +26,7 @@ fn next_line(text: &[u8]) -> (&[u8], &[u8])
     }
 }
 
-/// How many of the lines the text begins with, and what stands behind them.
+/// How many of the lines the text begins with, and what stands after them.
 fn shared_begin<'t>(lines: &[TextLine], text: &'t [u8]) -> (usize, &'t [u8])
     ensures count { result.0 ≤ length lines.now }
     ensures text { text.now ≡ text_of (take result.0 lines.now) ++ result.1.now }
@@ -191,7 +191,7 @@ impl Origins {
     /// The call of this line has made the text another.
     ///
     /// # Errors
-    /// Want of memory; the lines are then as before.
+    /// Out of memory; the lines are then as before.
     pub(crate) fn follow(&mut self, call: usize, text: &[u8]) -> Result<(), AllocError>
         ensures text { OnOk result (text_of self.new.lines.items ≡ text.now) }
         ensures origins { OnOk result (Follows call self.old.lines.items self.new.lines.items) }
@@ -216,7 +216,7 @@ fn begin_in(lines: &[TextLine], output: &[u8]) -> usize
     begin
 }
 
-/// Appends the lines, each behind its number and a tab.
+/// Appends the lines, each after its number and a tab.
 fn push_numbered(alloc: Global, lines: &[TextLine], mapped: &mut Vec<u8>) -> Result<(), AllocError>
     ensures { OnOk result (mapped.new.items ≡ mapped.old.items ++ numbered lines.now) }
 {
@@ -229,10 +229,7 @@ fn push_numbered(alloc: Global, lines: &[TextLine], mapped: &mut Vec<u8>) -> Res
 }
 
 impl Origins {
-    /// The output, whose end is the text: each line of the text stands behind its number and a tab.
-    ///
-    /// # Errors
-    /// Want of memory.
+    /// The output, whose end is the text: each line of the text stands after its number and a tab.
     pub fn mapped(&self, output: &[u8]) -> Result<Vec<u8>, AllocError>
         ensures { IfOk result (λ mapped.
             EndsNumbered self.now.lines.items output.now mapped.items) }
@@ -244,9 +241,6 @@ impl Origins {
     }
 
     /// Appends the numbers as a list of JSON.
-    ///
-    /// # Errors
-    /// Want of memory.
     pub(crate) fn push_json(&self, text: &mut String) -> Result<(), AllocError> {
         text.push('[')?;
         let mut is_first = true;

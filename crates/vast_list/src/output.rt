@@ -7,8 +7,8 @@ ghost use Rattle.vast_list.specs.Output.{header_line, is_again, is_made, IsOutpu
 ghost use Rattle.vast_list.specs.Internal.Output.{EndsWithFile, IsAnswered, IsDesign, IsFinished, IsReport};
 ghost use Rattle.vast_list.specs.Session.{IsTextOf};
 
-use crate::again::Trial;
-use crate::answering::{Answering, Told, append};
+use crate::again::Rerun;
+use crate::answering::{ListReport, ListRun, append};
 use crate::fault::{Fault, LineFault};
 use crate::line::{dialect_missing, dialect_of, is_empty_line};
 use crate::lines::{HEADER, ListLines};
@@ -44,17 +44,14 @@ pub struct ListOutput {
 /// How many faults of a list are told.
 pub const MOST_FAULTS: usize = 20;
 
-/// What is printed of the list: behind a header the header and all that the list gives, else the file's text alone; and
+/// What is printed of the list: after a header the header and all that the list gives, else the file's text alone; and
 /// what is told of its faults.
 ///
-/// Where a line is not in the form, nothing is printed; without a header also where something is refused. Behind a header
-/// steps behind the first that is refused are not made, and questions and helpers are answered all the same.
+/// Where a line is not in the form, nothing is printed; without a header also where something is refused. After a header
+/// steps after the first that is refused are not made, and questions and helpers are answered all the same.
 ///
 /// With `Tries::Again` what was refused memory is made once more, and a refused call must have left the file as it was:
 /// where one request is refused, the output is that of a run without.
-///
-/// # Errors
-/// Want of memory.
 #[tactic(auto, using(crate::proofs::Outputs::outputs))]
 pub fn list_output(
     alloc: Global,
@@ -91,10 +88,10 @@ fn empty_lines(lines: &[(usize, &[u8])]) -> usize
     count
 }
 
-/// The dialect, and the lines behind the one that names it, which is the first that is neither blank nor a comment.
+/// The dialect, and the lines after the one that names it, which is the first that is neither blank nor a comment.
 ///
 /// # Errors
-/// Where that line names none or there is no such line, and want of memory.
+/// Where that line names none or there is no such line, and out of memory.
 pub fn dialect_line<'l, 'a>(
     alloc: Global,
     list: &'l ListLines<'a>,
@@ -130,12 +127,12 @@ fn trial_of<'a>(
     tries: Tries,
     dialect: VastFileType,
     lines: &[(usize, &'a [u8])],
-) -> Result<Option<Trial<'a>>, AllocError>
+) -> Result<Option<Rerun<'a>>, AllocError>
     ensures { IfOk result (λ trial. is_some trial ≡ is_again tries) }
 {
     match tries {
         Tries::Once => Ok(None),
-        Tries::Again => Ok(Some(Trial::new(alloc, dialect, lines)?)),
+        Tries::Again => Ok(Some(Rerun::new(alloc, dialect, lines)?)),
     }
 }
 
@@ -146,13 +143,13 @@ fn answered<'a>(
     title: Option<&[u8]>,
     dialect: VastFileType,
     lines: &[(usize, &'a [u8])],
-) -> Result<Answering<'a>, AllocError>
+) -> Result<ListRun<'a>, AllocError>
     ensures { IfOk result (λ answering.
         IsAnswered tries dialect (line_texts lines.now) answering) }
 {
     let trial = trial_of(alloc, tries, dialect, lines)?;
     let report = title.map(|_| Vec::new(alloc));
-    let mut answering = Answering::new(alloc, dialect, trial, report);
+    let mut answering = ListRun::new(alloc, dialect, trial, report);
     for (number, line) in lines {
         answering.take(*number, line)?;
     }
@@ -168,16 +165,16 @@ pub(crate) fn bad_dialect(
     ensures none { IfOk result (λ made. made.output ≡ None) }
     ensures fault { IfOk result (λ made. is_made made.verdict ≡ false) }
 {
-    let mut told = Told::new(alloc);
+    let mut told = ListReport::new(alloc);
     told.keep(tries, fault)?;
     Ok(output_of(None, told))
 }
 
-fn output_of(output: Option<Vec<u8>>, told: Told) -> ListOutput
+fn output_of(output: Option<Vec<u8>>, told: ListReport) -> ListOutput
     ensures output { result.output ≡ output }
     ensures verdict { result.verdict ≡ told.verdict }
 {
-    let Told {
+    let ListReport {
         verdict,
         faults,
         more,
@@ -196,7 +193,7 @@ pub(crate) fn finished(
     alloc: Global,
     tries: Tries,
     title: Option<&[u8]>,
-    answering: Answering<'_>,
+    answering: ListRun<'_>,
 ) -> Result<ListOutput, AllocError>
     ensures text { IfOk result (λ made. IfSome made.output
         (λ output. IsFinished title.entry answering.entry made.verdict output.items)) }
@@ -212,12 +209,12 @@ pub(crate) fn finished(
 }
 
 /// The file's text, where nothing was refused.
-fn design(tries: Tries, answering: Answering<'_>) -> Result<ListOutput, AllocError>
+fn design(tries: Tries, answering: ListRun<'_>) -> Result<ListOutput, AllocError>
     ensures text { IfOk result (λ made. IfSome made.output
         (λ output. IsDesign answering.entry output.items)) }
     ensures printed { IfOk result IsPrinted }
 {
-    let Answering {
+    let ListRun {
         mut session,
         told,
         ..
@@ -230,7 +227,7 @@ fn design(tries: Tries, answering: Answering<'_>) -> Result<ListOutput, AllocErr
 }
 
 /// The file's text, or its refusal.
-fn printed(tries: Tries, session: &Session, mut told: Told) -> Result<ListOutput, AllocError>
+fn printed(tries: Tries, session: &Session, mut told: ListReport) -> Result<ListOutput, AllocError>
     ensures text { IfOk result (λ made. IfSome made.output
         (λ output. IsTextOf (tree session.now.file) output.items)) }
     ensures printed { IfOk result IsPrinted }
@@ -255,19 +252,19 @@ fn text_again(tries: Tries, session: &Session) -> Result<String, Fault>
     }
 }
 
-/// The header, and behind it what the lines give and the file's text.
+/// The header, and after it what the lines give and the file's text.
 fn report(
     alloc: Global,
     tries: Tries,
     title: &[u8],
-    mut answering: Answering<'_>,
+    mut answering: ListRun<'_>,
 ) -> Result<ListOutput, AllocError>
     ensures text { IfOk result (λ made. IfSome made.output
         (λ output. IsReport title.now answering.entry made.verdict output.items)) }
     ensures printed { IfOk result IsPrinted }
 {
     answering.print_left()?;
-    let Answering {
+    let ListRun {
         session,
         report,
         mut told,
@@ -284,7 +281,7 @@ fn append_file(
     tries: Tries,
     session: &Session,
     body: &mut Vec<u8>,
-    told: &mut Told,
+    told: &mut ListReport,
 ) -> Result<(), AllocError>
     ensures { OnOk result (IsTrue (is_made told.new.verdict) →
         IsTrue (is_made told.old.verdict) × EndsWithFile session.now body.new.items) }
@@ -301,7 +298,7 @@ fn append_file(
     }
 }
 
-/// The header and what stands behind it.
+/// The header and what stands after it.
 fn titled(alloc: Global, title: &[u8], body: &[u8]) -> Result<Vec<u8>, AllocError>
     ensures { IfOk result (λ output. output.items ≡ header_line title.now ++ body.now) }
 {

@@ -8,7 +8,7 @@ ghost use Rattle.vast_list.specs.PlainLists.{PlainnessOf};
 ghost use Rattle.vast_list.specs.Untitled.{HasAnswered};
 ghost use Rattle.vast_list.specs.Internal.PlainLists.{IsToldNotPlain, IsToldPlain};
 
-use crate::answering::{Answering, Told};
+use crate::answering::{ListReport, ListRun};
 use crate::fault::{Fault, write_on_a_line};
 use crate::line::{split_line, text_of};
 use crate::lines::ListLines;
@@ -41,13 +41,10 @@ impl fmt::Display for Plainness {
     }
 }
 
-/// Whether the list's file is plain; else the first call behind which it is not. `None` where the list has no dialect, or
+/// Whether the list's file is plain; else the first call after which it is not. `None` where the list has no dialect, or
 /// something of it is at fault.
 ///
 /// The file is looked at after each call that may write, and at the end.
-///
-/// # Errors
-/// Out of memory.
 pub fn list_plainness(alloc: Global, list: &ListLines<'_>) -> Result<Option<Plainness>, AllocError>
     ensures { IfOk result (λ found. IfSome found
         (λ plainness. PlainnessOf plainness (line_texts list.now.lines.items))) }
@@ -59,7 +56,7 @@ pub fn list_plainness(alloc: Global, list: &ListLines<'_>) -> Result<Option<Plai
     }
 }
 
-/// What is told of a list of the dialect, behind whose line these stand.
+/// What is told of a list of the dialect, after whose line these stand.
 fn plainness_of(
     alloc: Global,
     title: Option<&[u8]>,
@@ -69,12 +66,12 @@ fn plainness_of(
     ensures { (list : List (List ℕ)) → BeginsWithDialect list dialect (line_texts lines.now) →
         IfOk result (λ found. IfSome found (λ plainness. PlainnessOf plainness list)) }
 {
-    let mut answering = Answering {
+    let mut answering = ListRun {
         session: Session::new(alloc, dialect),
         trial: None,
         report: title.map(|_| Vec::new(alloc)),
         is_stopped: false,
-        told: Told::new(alloc),
+        told: ListReport::new(alloc),
     };
     let found = plainness_behind(alloc, &mut answering, lines);
     drop(answering);
@@ -84,7 +81,7 @@ fn plainness_of(
 /// What is told once all of these lines are taken.
 fn plainness_behind(
     alloc: Global,
-    answering: &mut Answering<'_>,
+    answering: &mut ListRun<'_>,
     lines: &[(usize, &[u8])],
 ) -> Result<Option<Plainness>, AllocError>
     ensures { (before : List (List ℕ)) → HasAnswered before answering.old →
@@ -101,8 +98,8 @@ fn plainness_behind(
     plain(answering)
 }
 
-/// Whether the line's call may write, and the file is not plain behind it.
-fn is_spoiled(answering: &Answering<'_>, line: &[u8]) -> Result<bool, AllocError>
+/// Whether the line's call may write, and the file is not plain after it.
+fn is_spoiled(answering: &ListRun<'_>, line: &[u8]) -> Result<bool, AllocError>
     ensures { IfOk result (λ is_spoiled. is_spoiled ≡ true →
         is_plain_file (tree answering.now.session.file) ≡ false) }
 {
@@ -113,7 +110,7 @@ fn is_spoiled(answering: &Answering<'_>, line: &[u8]) -> Result<bool, AllocError
 }
 
 /// The file is plain, where nothing is at fault.
-fn plain(answering: &Answering<'_>) -> Result<Option<Plainness>, AllocError>
+fn plain(answering: &ListRun<'_>) -> Result<Option<Plainness>, AllocError>
     ensures { IfOk result (λ found. IfSome found (IsToldPlain answering.now)) }
 {
     if !matches!(answering.told.verdict, Verdict::Made) || !answering.session.file().is_plain()? {
@@ -122,10 +119,10 @@ fn plain(answering: &Answering<'_>) -> Result<Option<Plainness>, AllocError>
     Ok(Some(Plainness::Plain))
 }
 
-/// The file is not plain behind the line of this number, where nothing is at fault.
+/// The file is not plain after the line of this number, where nothing is at fault.
 fn not_plain(
     alloc: Global,
-    answering: &Answering<'_>,
+    answering: &ListRun<'_>,
     number: usize,
     line: &[u8],
 ) -> Result<Option<Plainness>, AllocError>

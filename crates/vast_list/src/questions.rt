@@ -28,7 +28,7 @@ pub(crate) enum Question {
 /// The question of the name, its sign included, over the arguments.
 ///
 /// # Errors
-/// Where no question has the name or the arguments are not those of the question, and want of memory.
+/// Where no question has the name or the arguments are not those of the question, and out of memory.
 #[tactic(auto, using(crate::proofs::Words::left_same))]
 pub(crate) fn make_question(name: &str, arguments: &mut Arguments<'_>) -> Result<Question, Misfit>
     ensures named { IfOk result (λ question. (question_words question).0 ≡ name.now) }

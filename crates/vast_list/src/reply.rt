@@ -8,34 +8,31 @@ ghost use Rattle.vast_list.specs.Internal.Replies.{AddsHelper, more_ports};
 use crate::fault::LineFault;
 use crate::json::push_json_text;
 use crate::questions::answered::{PortValue, Value};
-use crate::session::{Given, Session};
+use crate::session::{LineResult, Session};
 use std::alloc::AllocError;
 use std::fmt::Write;
 use vast_script::StepFault;
 
 /// Appends what the line gave: `{"line":4,"call":"AddInput","step":3}`, and `"answer"` of a helper or a question.
-///
-/// # Errors
-/// Want of memory.
 pub fn push_given(
     text: &mut String,
     session: &Session,
     line: usize,
-    given: &Given<'_>,
+    given: &LineResult<'_>,
 ) -> Result<(), AllocError>
     ensures { OnOk result
         (AddsGiven session.now (string_bytes text.old) (string_bytes text.new) line given.now) }
 {
     write!(text, "{{\"line\":{line}")?;
     match given {
-        Given::Nothing => {}
-        Given::Step { number, call } => push_call(text, call, Some(*number))?,
-        Given::Helper { number, call } => {
+        LineResult::Nothing => {}
+        LineResult::Step { number, call } => push_call(text, call, Some(*number))?,
+        LineResult::Helper { number, call } => {
             push_call(text, call, Some(*number))?;
             text.push_str(",\"answer\":")?;
             push_helper_text(text, session, *number)?;
         }
-        Given::Answer { call, value } => {
+        LineResult::Answer { call, value } => {
             push_call(text, call, None)?;
             text.push_str(",\"answer\":")?;
             push_value(text, value)?;
@@ -46,9 +43,6 @@ pub fn push_given(
 
 /// Appends the fault: `{"line":12,"call":"AddInput","step":9,"cause":"condition","words":"the name \"clk\" is taken"}`,
 /// `"column"` of a line that is not in the form. A fault of the file's text has no call.
-///
-/// # Errors
-/// Want of memory.
 pub fn push_fault(text: &mut String, fault: &LineFault) -> Result<(), AllocError>
     ensures { OnOk result
         (string_bytes text.new ≡ string_bytes text.old ++ fault_object fault.now) }
@@ -111,7 +105,7 @@ fn push_call(text: &mut String, call: &str, step: Option<usize>) -> Result<(), A
     Ok(())
 }
 
-/// The text of the helper's expression; `null` where it is refused or the helper answers nothing.
+/// The text of the helper's expression; `null` where it is refused or the helper returns nothing.
 fn push_helper_text(text: &mut String, session: &Session, number: usize) -> Result<(), AllocError>
     ensures { OnOk result
         (AddsHelper session.now number (string_bytes text.old) (string_bytes text.new)) }
@@ -158,7 +152,7 @@ fn push_ports(text: &mut String, ports: &[PortValue]) -> Result<(), AllocError>
     text.push(']')
 }
 
-/// Appends ports behind the first.
+/// Appends ports after the first.
 #[tactic(auto, using(crate::proofs::Replied::ports))]
 fn push_more_ports(text: &mut String, ports: &[PortValue]) -> Result<(), AllocError>
     ensures { OnOk result

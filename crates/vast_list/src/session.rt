@@ -42,7 +42,7 @@ pub struct Session {
 
 /// What a line gave. `call` is the call's name as it stands in the line, its sign included.
 #[derive(Drop)]
-pub enum Given<'a> {
+pub enum LineResult<'a> {
     /// The line is blank or a comment.
     Nothing,
     /// A step of this number.
@@ -92,12 +92,12 @@ impl Session {
         }
     }
 
-    /// Takes a line of a list, behind the dialect's, without its line feed; its number in the input is `number`.
+    /// Takes a line of a list, after the dialect's, without its line feed; its number in the input is `number`.
     ///
     /// # Errors
     /// The line's fault. The file, the answers and the names are then as before, and the line is not counted.
     #[tactic(auto, using(crate::proofs::Sessions::lines))]
-    pub fn line<'a>(&mut self, number: usize, line: &'a [u8]) -> Result<Given<'a>, Fault>
+    pub fn line<'a>(&mut self, number: usize, line: &'a [u8]) -> Result<LineResult<'a>, Fault>
         ensures takes { Takes self.old self.new line.now result }
         ensures given { IfOk result (IsGivenBy line.now) }
         ensures unseen { IfErr result (λ fault. HasUnused self.old.file self.new.file) }
@@ -109,21 +109,21 @@ impl Session {
     {
         let text = self.text_of(number, line)?;
         if is_empty(text) {
-            return Ok(Given::Nothing);
+            return Ok(LineResult::Nothing);
         }
         let Line { name, call, action } = self.read(number, text)?;
         match &action {
             Action::Ask(question) => {
                 let value = self.ask(number, text, call, question)?;
                 self.names.enter(name, named(&value))?;
-                Ok(Given::Answer { call, value })
+                Ok(LineResult::Answer { call, value })
             }
             Action::Call(made) => {
                 let step = self.counted();
                 self.make(number, text, name, call, made)?;
                 match made {
-                    Call::Step(_) => Ok(Given::Step { number: step, call }),
-                    Call::Helper(_) => Ok(Given::Helper { number: step, call }),
+                    Call::Step(_) => Ok(LineResult::Step { number: step, call }),
+                    Call::Helper(_) => Ok(LineResult::Helper { number: step, call }),
                 }
             }
         }
@@ -132,7 +132,7 @@ impl Session {
     /// Whether the line is in the form; nothing is made of it.
     ///
     /// # Errors
-    /// Where it is not in the form, and want of memory.
+    /// Where it is not in the form, and out of memory.
     #[tactic(auto, using(crate::proofs::Sessions::reading))]
     pub fn check(&self, number: usize, line: &[u8]) -> Result<(), Fault>
         ensures form { OnOk result (IsInForm self.now line.now) }
@@ -147,10 +147,10 @@ impl Session {
     }
 
     /// Passes the line over, be it in the form or not: a step or a helper is counted, so that later numbers stand for what
-    /// they would behind it, and its name is taken. Who uses its answer is told `no such answer`.
+    /// they would after it, and its name is taken. Who uses its answer is told `no such answer`.
     ///
     /// # Errors
-    /// Want of memory; nothing is then passed over.
+    /// Out of memory; nothing is then passed over.
     #[tactic(auto, using(crate::proofs::Skipped::skips))]
     pub fn skip(&mut self, line: &[u8]) -> Result<(), AllocError>
         ensures skipped { OnOk result (Skips self.old self.new line.now) }
@@ -193,10 +193,10 @@ impl Session {
         }
     }
 
-    /// The text of the expression that the helper of this number answered, or `ok` where it answers nothing.
+    /// The text of the expression that the helper of this number answered, or `ok` where it returns nothing.
     ///
     /// # Errors
-    /// A refusal of the text, and want of memory. `no such answer` where no step or helper has the number.
+    /// A refusal of the text, and out of memory. `no such answer` where no step or helper has the number.
     pub fn helper_text(&self, number: usize) -> Result<String, StepFault>
         ensures { IfOk result (IsAnswerText self.now number) }
     {
@@ -213,7 +213,7 @@ impl Session {
     /// The file's text.
     ///
     /// # Errors
-    /// A refusal names the line whose call made what is refused. Want of memory.
+    /// A refusal names the line whose call made what is refused. Out of memory.
     #[tactic(auto, using(crate::proofs::Sessions::emitted))]
     pub fn text(&self) -> Result<String, Fault>
         ensures text { IfOk result (λ text. IsTextOf (tree self.now.file) (string_bytes text)) }
@@ -262,9 +262,6 @@ impl Session {
     }
 
     /// The step that the line makes; `None` where it makes none, or is not in the form.
-    ///
-    /// # Errors
-    /// Want of memory.
     #[tactic(auto, using(crate::proofs::Sessions::reading))]
     pub fn step_of(&self, line: &[u8]) -> Result<Option<Step>, AllocError>
         ensures { IfOk result (λ made. IfSome made (λ step. IsStepIn self.now step line.now)) }

@@ -1,4 +1,4 @@
-//! The table of calls: each by its name in lists, with what its arguments are and what it answers.
+//! The table of calls: each by its name in lists, with what its arguments are and what it returns.
 
 ghost use Rattle.std.specs.Prelude.{◌≡◌, IfSome};
 
@@ -17,7 +17,7 @@ mod statements;
 pub(crate) mod text;
 mod types;
 
-/// A call as lists name it: a row of the table, with its name, its parameters in order, and what it answers.
+/// A call as lists name it: a row of the table, with its name, its parameters in order, and what it returns.
 #[derive(Clone, Copy)]
 pub(crate) struct CallRow(&'static str, &'static [Parameter], Kind);
 
@@ -34,7 +34,7 @@ impl CallRow {
         self.1
     }
 
-    /// What it answers.
+    /// What it returns.
     pub(crate) fn answer(&self) -> Kind {
         self.2
     }
@@ -56,7 +56,7 @@ impl Parameter {
     }
 }
 
-/// What stands in the place of an argument, or what a call answers.
+/// What stands in the place of an argument, or what a call returns.
 #[derive(Clone, Copy)]
 pub(crate) enum Kind {
     /// One of these.

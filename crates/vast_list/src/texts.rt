@@ -7,10 +7,10 @@ ghost use Rattle.vast_list.specs.Internal.Written.{IsCodeFront, IsContentFront, 
 use crate::problem::{Misfit, Problem};
 use std::alloc::Global;
 
-/// A text up to its closing quote, and what stands behind that. `quoted` stands behind the opening quote.
+/// A text up to its closing quote, and what stands after that. `quoted` stands after the opening quote.
 ///
 /// # Errors
-/// Where the text isn't in the form, and want of memory.
+/// Where the text isn't in the form, and out of memory.
 #[tactic(auto, using(crate::proofs::Quoted::texts))]
 pub(crate) fn unquoted<'a>(alloc: Global, quoted: &'a str) -> Result<(String, &'a str), Misfit>
     ensures { IfOk result (λ read. IsTextFront quoted.now (string_bytes read.0) read.1.now) }
@@ -44,7 +44,7 @@ fn escaped<'a>(alloc: Global, quoted: &'a str) -> Result<(String, &'a str), Misf
     Err(misfit(quoted, Problem::OpenText))
 }
 
-/// The first character, and what stands behind it.
+/// The first character, and what stands after it.
 fn first_char(text: &str) -> Option<(char, &str)>
     ensures { IfSome result (λ read. text.now ≡ encode_utf8 read.0 ++ read.1.now) }
 {
@@ -53,7 +53,7 @@ fn first_char(text: &str) -> Option<(char, &str)>
     Some((c, chars.as_str()))
 }
 
-/// What the character at the front means, and what stands behind that. `at` begins with it, `rest` stands behind it.
+/// What the character at the front means, and what stands after that. `at` begins with it, `rest` stands after it.
 #[tactic(auto, using(crate::proofs::Quoted::fronts))]
 fn meant<'a>(at: &str, c: char, rest: &'a str) -> Result<(char, &'a str), Misfit>
     ensures { IfOk result
@@ -70,7 +70,7 @@ fn misfit(rest: &str, problem: Problem) -> Misfit {
     Misfit { left, problem }
 }
 
-/// What an escape stands for, and what stands behind it. `at` begins with its backslash, `rest` stands behind that.
+/// What an escape stands for, and what stands after it. `at` begins with its backslash, `rest` stands after that.
 #[tactic(auto, using(crate::proofs::Quoted::parts))]
 fn unescaped<'a>(at: &str, rest: &'a str) -> Result<(char, &'a str), Misfit>
     ensures { IfOk result (λ read. IsPartFront (92 ∷ rest.now) read.0 read.1.now) }
@@ -87,7 +87,7 @@ fn unescaped<'a>(at: &str, rest: &'a str) -> Result<(char, &'a str), Misfit>
     }
 }
 
-/// What the letter means behind a backslash.
+/// What the letter means after a backslash.
 fn meaning(letter: char) -> Option<char>
     ensures { IfSome result (λ c. IsMeaning letter c) }
 {
@@ -135,7 +135,7 @@ fn paired(high: u32, low: u32) -> Option<char>
     }
 }
 
-/// The number of four hexadecimal digits, and what stands behind them.
+/// The number of four hexadecimal digits, and what stands after them.
 #[tactic(auto, using(crate::proofs::Quoted::hexes))]
 fn hex<'a>(at: &str, rest: &'a str) -> Result<(u32, &'a str), Misfit>
     ensures { IfOk result (λ read. IsCodeFront rest.now read.0 read.1.now) }

@@ -10,7 +10,7 @@ pub enum Tries {
 }
 
 /// What is made; where that fails and the tries allow it, what is made the second time. `$memory` is the pattern of the
-/// failures that are want of memory; without it each is.
+/// failures that are refusals of memory; without it each is.
 #[macro_export]
 macro_rules! tried {
     ($tries:expr, $made:expr) => {

@@ -6,7 +6,7 @@ ghost use Rattle.vast_list.specs.Output.{IsPrinted};
 ghost use Rattle.vast_list.specs.Untitled.{GoesOnTo, HasTaken, IsPrintedOf};
 ghost use Rattle.vast_list.specs.Internal.Untitled.{LeadsTo};
 
-use crate::answering::Answering;
+use crate::answering::ListRun;
 use crate::fault::{Fault, LineFault};
 use crate::line::{dialect_missing, dialect_of, is_empty_line};
 use crate::output::{ListOutput, bad_dialect, finished};
@@ -27,7 +27,7 @@ enum Stage {
     /// All are blank or comments.
     Before,
     /// One named the dialect.
-    Behind(Answering<'static>),
+    Behind(ListRun<'static>),
     /// The first that is neither blank nor a comment names no dialect.
     Astray(LineFault),
 }
@@ -46,7 +46,7 @@ impl UntitledList {
     /// Takes the next line, without its line feed; its number in the input is `number`.
     ///
     /// # Errors
-    /// Want of memory. The list is then of no more use.
+    /// Out of memory. The list is then of no more use.
     #[tactic(auto, using(crate::proofs::UntitledLists::untitled))]
     pub fn take(&mut self, number: usize, line: &[u8]) -> Result<(), AllocError>
         ensures { OnOk result (GoesOnTo self.old self.new line.now) }
@@ -63,9 +63,6 @@ impl UntitledList {
     }
 
     /// What is printed of the list, and told of its faults.
-    ///
-    /// # Errors
-    /// Want of memory.
     #[tactic(auto, using(crate::proofs::UntitledLists::untitled))]
     pub fn finish(self) -> Result<ListOutput, AllocError>
         ensures text { IfOk result (IsPrintedOf self) }
@@ -89,7 +86,7 @@ fn first_stage(alloc: Global, number: usize, line: &[u8]) -> Result<Stage, Alloc
     ensures { (HasKind line.now Passed → ⊥) → IfOk result (LeadsTo line.now) }
 {
     match dialect_of(alloc, number, line) {
-        Ok(dialect) => Ok(Stage::Behind(Answering::new(alloc, dialect, None, None))),
+        Ok(dialect) => Ok(Stage::Behind(ListRun::new(alloc, dialect, None, None))),
         Err(Fault::Memory) => Err(AllocError),
         Err(Fault::Line(fault)) => Ok(Stage::Astray(fault)),
     }

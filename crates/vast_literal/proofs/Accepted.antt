@@ -18,7 +18,7 @@ use Rattle.vast_literal.specs.Denotes.IsSign.{NoSign, PlusSign, MinusSign}
 use Rattle.vast_literal.specs.Denotes.IsRadixMark.{NoMark}
 use Rattle.vast_literal.proofs.Parts.{starts_not}
 
--- the width has no bracket, so the text is cut behind it
+-- the width has no bracket, so the text is cut after it
 no_bracket : (c : ℕ) → is_ascii_digit c ≡ true → c ≢ 93
 no_bracket c h e = grind (arith, nat_tests)
 

@@ -14,7 +14,7 @@ use Rattle.vast_literal.specs.NormalTree.{kind_key, package_of, type_name_of, si
 use Rattle.vast_literal.proofs.FileTokens.{maybe_tokens, type_name_tokens, number_tokens, zero_tokens, highest_index_tokens, vector_tokens, packed_tokens, unpacked_dimension_tokens, unpacked_tokens, declaration_tokens, declared_tokens, port_declaration_tokens}
 use Rattle.vast_literal.specs.PlainFile.{is_left_side, is_plain_declaration, is_plain_declared}
 use Rattle.vast_literal.proofs.ScanLaws.{and_left, and_right}
-use Rattle.vast_literal.proofs.Sound.{lower}
+use Rattle.vast_literal.proofs.Levels.{lower}
 use Rattle.vast_literal.proofs.Precedence.{literal_level, spelled_level, literal_bound, level_bound, highest_index_bound}
 use Rattle.vast_literal.proofs.Spelled.{wrapped_spells, literal_spells, low, spelled}
 

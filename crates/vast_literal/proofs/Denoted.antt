@@ -131,7 +131,7 @@ fitted_facts text n negative m v h =
     let f = fits_facts n negative m a.0 in
     (f, subst (IsModulo n negative m) e (is_modulo n negative m f), subst (λ k. k < 2 ^ 128) e (ltb-true _ (2 ^ 128) b.0))
 
--- each step of the reading, where it answers
+-- each step of the reading, where it returns
 followed : {A B : Type 0} (r : Result A (List ℕ)) (next : A → Result B (List ℕ)) (y : B) → and_then r next ≡ Ok y → (x : A) × (r ≡ Ok x) × (next x ≡ Ok y)
 followed (Ok x) next y h = (x, refl, h)
 followed (Err t) next y h = cc

@@ -24,7 +24,7 @@ abbrev pub wrapped_tokens : (wrapped : Bool) → List Token → List Token
 wrapped_tokens true ts = Mark OpenParen ∷ (ts ++ (Mark CloseParen ∷ []))
 wrapped_tokens false ts = ts
 
--- The operand of a cast, behind its head.
+-- The operand of a cast, after its head.
 abbrev pub cast_operand : List Token → List Token
 cast_operand ts = Mark Apostrophe ∷ (Mark OpenParen ∷ (ts ++ (Mark CloseParen ∷ [])))
 

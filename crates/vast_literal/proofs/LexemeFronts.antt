@@ -6,7 +6,7 @@ use Rattle.vast_literal.specs.LiteralToken.{is_done}
 use Rattle.vast_literal.specs.Lexemes.{IsLexeme}
 
 -- The scan stands in the state `s` before the text t, with the bytes w read; g tests what may follow them in one lexeme.
--- The lexeme ends behind `more`, the longest that passes, and the scan goes on behind it.
+-- The lexeme ends after `more`, the longest that passes, and the scan goes on after it.
 pub record Ahead (g : List ℕ → Bool) (w : List ℕ) (s : State) (t : List ℕ) : Type 0 where
   pub more : List ℕ
   pub rest : List ℕ

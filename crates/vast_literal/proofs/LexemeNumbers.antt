@@ -13,7 +13,7 @@ use Rattle.vast_literal.proofs.LexemeShapes.{radix_signed, digit_goes}
 use Rattle.vast_literal.proofs.LexemeFronts.{Ahead, Lost, Ends, here, extend, nowhere, lost, ends_on, add_none, scan_follow}
 use Rattle.vast_literal.proofs.LexemeRuns.{based_on}
 
--- digits behind a base
+-- digits after a base
 radix_by : (size base : List ℕ) (c : ℕ) (cs : List ℕ) → every is_digit size ≡ true → IsBase base → (b : Bool) → is_based_digit c ≡ b →
     Ends is_based_number (size ++ (39 ∷ base)) (InRadix (size ++ (39 ∷ base))) (c ∷ cs)
 unfolding scan
@@ -28,7 +28,7 @@ unfolding scan
 radix_ends size base [] g h = inr (lost is_based_number (InRadix (size ++ (39 ∷ base))) [] refl tt refl)
 radix_ends size base (c ∷ cs) g h = radix_by size base c cs g h (is_based_digit c) refl
 
--- a radix behind `s`
+-- a radix after `s`
 signed_by : (size : List ℕ) (c : ℕ) (cs : List ℕ) → every is_digit size ≡ true → (b : Bool) → is_radix c ≡ b →
     Ends is_radix_tail (size ++ (39 ∷ 115 ∷ [])) (InSigned (size ++ (39 ∷ 115 ∷ []))) (c ∷ cs)
 unfolding scan
@@ -43,7 +43,7 @@ unfolding scan
 signed_ends size [] g = inr (lost is_radix_tail (InSigned (size ++ (39 ∷ 115 ∷ []))) [] refl tt refl)
 signed_ends size (c ∷ cs) g = signed_by size c cs g (is_radix c) refl
 
--- Behind digits and an apostrophe: a based literal, or the digits are a lexeme and the apostrophe begins another.
+-- After digits and an apostrophe: a based literal, or the digits are a lexeme and the apostrophe begins another.
 pub record Parted (d t : List ℕ) : Type 0 where
   pub nothing : (v behind : List ℕ) → t ≡ v ++ behind → is_based_tail v ≡ true → ⊥
   pub scanned : scan (AfterTick d) t ≡ add_tokens (before_tick d) (scan (AfterTick []) t)
@@ -124,7 +124,7 @@ number_push : (d : List ℕ) (c : ℕ) → is_number d ≡ true → is_digit c �
 number_push [] c h k = cc
 number_push (x ∷ d) c h k = every_push is_digit (x ∷ d) c h k
 
--- the digits are the longest lexeme, where no based literal stands behind them
+-- the digits are the longest lexeme, where no based literal stands after them
 number_apart : (cs : List ℕ) → ((v behind : List ℕ) → cs ≡ v ++ behind → is_based_tail v ≡ true → ⊥) → (v behind : List ℕ) → 39 ∷ cs ≡ v ++ behind → digit_goes v ≡ true → length v ≤ 0
 number_apart cs n [] behind e k = omega arith
 number_apart cs n (c ∷ v) behind e k =

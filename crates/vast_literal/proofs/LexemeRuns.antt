@@ -59,7 +59,7 @@ in_line c h = line_by (eqb c 10) h
 pub comment_on : (t : List ℕ) → Ahead (every is_in_line) (47 ∷ 47 ∷ []) InComment t
 comment_on = run is_in_line (λ v. InComment) (λ v. 47 ∷ 47 ∷ v) (λ v. []) (λ v c. refl) (λ v c e. in_line c e) (λ v c e. line_end c e) (λ v. refl) (λ v k. comment k) [] refl
 
--- the digits of a based literal, behind the first
+-- the digits of a based literal, after the first
 abbrev based_text : (size base : List ℕ) (x : ℕ) (v : List ℕ) → List ℕ
 based_text size base x v = size ++ (39 ∷ (base ++ (x ∷ v)))
 
@@ -72,7 +72,7 @@ based_on size base x g b h =
     run is_based_digit (λ v. InBased (based_text size base x v)) (based_text size base x) (λ v. Based (based_text size base x v) ∷ []) (based_push size base x)
     (λ v c e. rw e (ap (λ w. keep (InBased w)) (based_push size base x v c))) (λ v c e. rw e) (λ v. refl) (λ v k. based size base (x ∷ v) g b (rw h k)) [] refl
 
--- Strings: v is what stands behind the first quote; `after` says that a backslash stands before the text.
+-- Strings: v is what stands after the first quote; `after` says that a backslash stands before the text.
 
 more_characters : (cs ds : List ℕ) → AreCharacters cs → AreCharacters ds → AreCharacters (cs ++ ds)
 more_characters cs ds no_character k = k
@@ -90,7 +90,7 @@ string_state false v = InString (34 ∷ v)
 abbrev StringEnds : (after : Bool) (v t : List ℕ) → Type 0
 StringEnds after v t = Ends (is_string_rest after) (string_text after v) (string_state after v) t
 
--- the byte behind a backslash
+-- the byte after a backslash
 escape_by : (v : List ℕ) (c : ℕ) (cs : List ℕ) → AreCharacters v → (b : Bool) → eqb c 10 ≡ b → (AreCharacters (v ++ (92 ∷ c ∷ [])) → StringEnds false (v ++ (92 ∷ c ∷ [])) cs) → StringEnds true v (c ∷ cs)
 unfolding scan
 escape_by v c cs h true e f = inr (lost (is_string_rest true) (InEscape (34 ∷ v)) (c ∷ cs) refl (λ u. rw e) (rw e))

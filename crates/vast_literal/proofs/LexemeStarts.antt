@@ -119,6 +119,6 @@ start_by b t true d el ed = inl (extend one (every is_word_byte) [] Gap (InWord 
 start_by b t false true el ed = inl (extend one digit_goes [] Gap (InNumber (b ∷ [])) b t (rw (el, ed)) (λ v k. rw (el, ed) at k) (number_on b ed t))
 start_by b t false false el ed = other_by b t el ed (is_space b) (eqb b 36) (eqb b 96) (eqb b 34) (eqb b 39) refl refl refl refl refl
 
--- A text begins with a longest lexeme, and the scan goes on behind it; or no lexeme begins it, and the scan has no tokens.
+-- A text begins with a longest lexeme, and the scan goes on after it; or no lexeme begins it, and the scan has no tokens.
 pub front : (b : ℕ) (t : List ℕ) → Ends one [] Gap (b ∷ t)
 front b t = start_by b t (is_letter b) (is_digit b) refl refl

@@ -55,7 +55,7 @@ add_some : (us vs : List Token) → add_tokens us (Some vs) ≡ Some (us ++ vs)
 add_some [] vs = refl
 add_some (u ∷ us) vs = ap (cons_token u) (add_some us vs)
 
--- the tokens behind the first lexeme's
+-- the tokens after the first lexeme's
 pub record Behind (us ts : List Token) (o : Option (List Token)) : Type 0 where
   pub others : List Token
   pub some : o ≡ Some others

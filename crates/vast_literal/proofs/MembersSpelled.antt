@@ -15,7 +15,7 @@ use Rattle.vast_literal.proofs.FileTokens.{declared_tokens, assignment_tokens, s
 use Rattle.vast_literal.specs.PlainFile.{is_plain_maybe, is_left_side, is_plain_declaration, is_plain_declared, are_plain_statements, are_plain_alternates, is_plain_event, are_plain_events, are_plain_awaited, is_plain_parameter_name, are_plain_connections, is_plain_instance, is_plain_function, is_plain_label, is_plain_member, are_plain_members}
 use Rattle.vast_literal.specs.WellFormedFile.{is_well_formed_maybe, is_own_kind, is_local_word, is_macro, are_well_formed_statements, are_well_formed_alternates, is_well_formed_event, are_well_formed_events, is_well_formed_parameter_name, are_well_formed_connections, is_given, are_given, are_well_formed_inputs, are_well_formed_locals, is_well_formed_function, is_well_formed_member, are_well_formed_members}
 use Rattle.vast_literal.proofs.ScanLaws.{and_left, and_right}
-use Rattle.vast_literal.proofs.Sound.{lower}
+use Rattle.vast_literal.proofs.Levels.{lower}
 use Rattle.vast_literal.proofs.Precedence.{spelled_level, level_bound, right_bound}
 use Rattle.vast_literal.proofs.Spelled.{wrapped_spells, list_spells, spelled, each_spelled}
 use Rattle.vast_literal.proofs.DeclarationSpelled.{value_spelled, left_spelled, declared_spelled, port_declaration_spelled, named_spelled}

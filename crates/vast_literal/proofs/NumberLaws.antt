@@ -1,4 +1,4 @@
--- A written number is a number, perhaps behind a minus.
+-- A written number is a number, perhaps after a minus.
 use Rattle.std.proofs.Common.{◌≡◌, ℕ, zero, suc, ◌+◌, ◌/◌, ◌%◌, ◌<◌, ℤ, pos, negsuc, List, [], ◌∷◌, Bool, true, false, ◌||◌, eqb, refl, arith, mod-lt, lit<}
 use Rattle.std.proofs.lemmas.Bool.{and_from}
 use Rattle.std.proofs.lemmas.Bool.Decides.{nat_tests}

@@ -69,7 +69,7 @@ one_digit old new all radix place low n d s e k h =
     let j : characters (lowest_digits radix place n) ≡ digit_char d ∷ rest = rw (s, lowest_digits-suc radix low n) (ap (λ x. digit_char x ∷ rest) (sym e)) in
     ap (λ t. t ++ rest) k ∙ append_assoc old (digit_char d ∷ []) rest ∙ ap (λ t. old ++ t) (sym j) ∙ h
 
--- the same with the underscore behind it
+-- the same with the underscore after it
 pub one_separated : (old new all : List ℕ) (radix place low n d : ℕ) → place ≡ low + 1 → d ≡ n / radix ^ low % radix → new ≡ old ++ (digit_char d ∷ separator low)
     → old ++ grouped (lowest_digits radix place n) ≡ all → new ++ grouped (lowest_digits radix low n) ≡ all
 one_separated old new all radix place low n d s e k h =

@@ -6,7 +6,7 @@ use Rattle.vast_literal.specs.Tree.{BinaryOp, AddOp, ExprTree, LiteralTree, Unar
 use Rattle.vast_literal.specs.Shape.{binary_precedence, precedence, starts_with_minus, is_reduction, is_width_cast, is_negative_literal, unary_wraps, left_child_wraps, right_child_wraps, ternary_wraps, select_wraps, highest_index_wraps}
 use Rattle.vast_literal.specs.NormalExpr.{binary_operator_token}
 use Rattle.vast_literal.proofs.ScanLaws.{or_left, or_right}
-use Rattle.vast_literal.proofs.Sound.{level_small}
+use Rattle.vast_literal.proofs.Levels.{level_small}
 
 -- A literal with a minus is a minus and a literal.
 abbrev pub literal_level : List ℕ → ℕ

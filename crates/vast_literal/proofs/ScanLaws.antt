@@ -151,7 +151,7 @@ quote_step w [] rest c true e h f = rw (eqb-true c 34 e) refl
 quote_step w (x ∷ t) rest c true e h f = cc
 quote_step w t rest c false e h f = f h e
 
--- the bytes behind a string's first quote: `escaped` says that a backslash stands before them
+-- the bytes after a string's first quote: `escaped` says that a backslash stands before them
 scan_string_rest : (escaped : Bool) (w t rest : List ℕ) → is_string_rest escaped t ≡ true → scan (cond escaped (InEscape w) (InString w)) (t ++ rest) ≡ cons_token (Quoted (w ++ cond escaped (92 ∷ t) t)) (scan Gap rest)
 unfolding scan
 scan_string_rest true w [] rest h = cc

@@ -13,7 +13,7 @@ use Rattle.vast_literal.proofs.ExprTokens.{is_bare_head, wrapped_tokens, cast_op
 use Rattle.vast_literal.specs.WellFormed.{is_positive, is_cast_type, is_well_formed, is_well_formed_type, are_well_formed}
 use Rattle.vast_literal.proofs.ScanLaws.{and_left, and_right}
 use Rattle.vast_literal.proofs.NumberLaws.{no_minus}
-use Rattle.vast_literal.proofs.Sound.{level_small, lower}
+use Rattle.vast_literal.proofs.Levels.{level_small, lower}
 use Rattle.vast_literal.proofs.Precedence.{literal_level, spelled_level, positive, level_bound, left_bound, right_bound, operand_bound, subject_bound, ternary_bound}
 
 pub wrapped_spells : (b : Bool) (m k : ℕ) (ts : List Token) (t : NormalExpr) → m ≤ 14 → k ≤ 14 → (b ≡ false → k ≤ m) → Spells m ts t → Spells k (wrapped_tokens b ts) t

@@ -43,7 +43,7 @@ abbrev pub characters : List ℕ → List ℕ
 characters [] = []
 characters (d ∷ ds) = digit_char d ∷ characters ds
 
--- What separates a digit with so many digits behind it from the next: an underscore between groups of four.
+-- What separates a digit with so many digits after it from the next: an underscore between groups of four.
 unfoldable pub separator : ℕ → List ℕ
 separator count = if nat_lt 0 count && (count % 4 == 0) then 95 ∷ [] else []
 

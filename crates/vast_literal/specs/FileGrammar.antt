@@ -9,7 +9,7 @@ use Rattle.vast_literal.specs.Grammar.{Spells, SpellsList}
 
 -- Lists.
 
--- Any number of items, one behind the other.
+-- Any number of items, one after the other.
 pub data IsMany {A : Type 0} (P : List Token → A → Type 0) : List Token → List A → Type 0 where
   no_items : IsMany P [] []
   more_items : {ts us : List Token} {x : A} {xs : List A} → P ts x → IsMany P us xs → IsMany P (ts ++ us) (x ∷ xs)
@@ -63,7 +63,7 @@ mutual
     assigns : {ls rs : List Token} {l r : NormalExpr} (b : Bool) → Spells 13 ls l → Spells 0 rs r →
         IsAssign (ls ++ (arrow b ∷ (rs ++ (Mark Semicolon ∷ [])))) (assignment b l r)
 
-  -- Statements, and the `end` behind them.
+  -- Statements, and the `end` after them.
   pub data IsStatements : List Token → NormalStatements → Type 0 where
     done : IsStatements (Reserved EndKey ∷ []) Done
     then : {ts us : List Token} {s : NormalStatement} {ss : NormalStatements} → IsStatement ts s → IsStatements us ss → IsStatements (ts ++ us) (Then s ss)
@@ -79,7 +79,7 @@ mutual
     or : {cs bs ys : List Token} {c : NormalExpr} {b : NormalStatements} {a : Arms} → Spells 0 cs c → IsStatements bs b → IsChoice ys a →
         IsChoice (Reserved IfKey ∷ (Mark OpenParen ∷ (cs ++ (Mark CloseParen ∷ (Reserved BeginKey ∷ (bs ++ (Reserved ElseKey ∷ ys))))))) (Or c b a)
 
-  -- Arms, and the `endcase` behind them.
+  -- Arms, and the `endcase` after them.
   pub data IsLabels : Bool → List Token → Labels → Type 0 where
     no_labels : {z : Bool} → IsLabels z (Reserved EndCaseKey ∷ []) NoLabels
     label : {z : Bool} {xs bs ys : List Token} {x : NormalExpr} {b : NormalStatements} {a : Labels} → Spells 0 xs x → IsBody z bs b → IsLabels z ys a →
@@ -215,7 +215,7 @@ mutual
     loop : {xs cs ls ms : List Token} {x e : NormalExpr} {l : Option (List ℕ)} {m : NormalMembers} (i : List ℕ) → Spells 0 xs x → Spells 0 cs (Binary Less (Name i) e) → IsLabel ls l → IsMembers EndKey ms m →
         IsMember (Reserved ForKey ∷ (Mark OpenParen ∷ (Reserved GenvarKey ∷ (Word i ∷ (Mark Assign ∷ (xs ++ (Mark Semicolon ∷ (cs ++ (Mark Semicolon ∷ (Word i ∷ (Mark Assign ∷ (Word i ∷ (Operator Plus ∷ (Number (codes "1") ∷ (Mark CloseParen ∷ (Reserved BeginKey ∷ (ls ++ ms))))))))))))))))) (LoopPart i x e l m)
 
-  -- Members, and the word behind them.
+  -- Members, and the word after them.
   pub data IsMembers : Key → List Token → NormalMembers → Type 0 where
     closed : (k : Key) → IsMembers k (Reserved k ∷ []) NoParts
     and_member : {k : Key} {ts us : List Token} {m : NormalMember} {ms : NormalMembers} → IsMember ts m → IsMembers k us ms → IsMembers k (ts ++ us) (MoreParts m ms)

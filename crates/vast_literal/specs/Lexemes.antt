@@ -50,7 +50,7 @@ pub data IsBase : List ℕ → Type 0 where
 -- A lexeme and its tokens; white space and comments have none.
 pub data IsLexeme : List ℕ → List Token → Type 0 where
   space : {c : ℕ} → IsTrue (is_space c) → IsLexeme (c ∷ []) []
-  -- two slashes and what stands behind them in their line
+  -- two slashes and what stands after them in their line
   comment : {line : List ℕ} → IsTrue (every is_in_line line) → IsLexeme (codes "//" ++ line) []
   -- a keyword or a name
   word : {w : List ℕ} → IsTrue (is_identifier w) → IsLexeme w (word_token w ∷ [])

@@ -32,7 +32,7 @@ unfoldable pub has_minus : List ℕ → Bool
 has_minus [] = false
 has_minus (c ∷ cs) = c == 45
 
--- The radix of a letter behind a zero: 16 for x, 2 for b, 8 for o, in either case.
+-- The radix of a letter after a zero: 16 for x, 2 for b, 8 for o, in either case.
 abbrev pub marked_radix : ℕ → Option ℕ
 marked_radix c =
     if c == 120 || c == 88 then Some 16 else
@@ -44,7 +44,7 @@ abbrev pub radix_or_ten : Option ℕ → ℕ
 radix_or_ten None = 10
 radix_or_ten (Some radix) = radix
 
--- The digits behind a mark, and all without one.
+-- The digits after a mark, and all without one.
 abbrev pub digits_or_all : Option ℕ → List ℕ → List ℕ → List ℕ
 digits_or_all None all digits = all
 digits_or_all (Some radix) all digits = digits

@@ -22,12 +22,12 @@ abbrev pub is_radix_tail : List ℕ → Bool
 is_radix_tail [] = false
 is_radix_tail (c ∷ cs) = is_radix c && is_based_number cs
 
--- What stands behind the apostrophe: a radix, or `s` and a radix, and digits.
+-- What stands after the apostrophe: a radix, or `s` and a radix, and digits.
 abbrev pub is_based_tail : List ℕ → Bool
 is_based_tail [] = false
 is_based_tail (c ∷ cs) = cond (eqb c 115) (is_radix_tail cs) (is_radix_tail (c ∷ cs))
 
--- A size or none, an apostrophe, and what stands behind it.
+-- A size or none, an apostrophe, and what stands after it.
 abbrev pub is_based : List ℕ → Bool
 is_based [] = false
 is_based (c ∷ cs) = cond (eqb c 39) (is_based_tail cs) (is_digit c && is_based cs)
@@ -51,7 +51,7 @@ abbrev pub is_done : List ℕ → Bool
 is_done [] = true
 is_done _ = false
 
--- Behind the opening quote stand bytes other than quote, backslash and line break, or a backslash with any but a line
+-- After the opening quote stand bytes other than quote, backslash and line break, or a backslash with any but a line
 -- break, up to the quote that ends the text; `escaped` says that a backslash stands before.
 abbrev pub is_string_rest : (escaped : Bool) → List ℕ → Bool
 is_string_rest escaped [] = false

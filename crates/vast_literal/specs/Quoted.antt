@@ -32,7 +32,7 @@ pub data Escape : Type 0 where
   OneDigit : ℕ → Escape
   TwoDigits : ℕ → Escape
 
--- What a letter means behind a backslash.
+-- What a letter means after a backslash.
 abbrev pub letter_meaning : ℕ → ℕ
 letter_meaning c = if c == 110 then 10 else (if c == 114 then 13 else (if c == 116 then 9 else c))
 

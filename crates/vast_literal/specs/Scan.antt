@@ -28,7 +28,7 @@ is_based_digit c = is_digit c || is_within 97 102 c || eqb c 95 || eqb c 63
 abbrev pub is_radix : ℕ → Bool
 is_radix c = eqb c 98 || eqb c 100 || eqb c 104
 
--- What fills all bits behind an apostrophe: `0`, `1` or `X`.
+-- What fills all bits after an apostrophe: `0`, `1` or `X`.
 abbrev pub is_filler : ℕ → Bool
 is_filler c = eqb c 48 || eqb c 49 || eqb c 88
 
@@ -53,7 +53,7 @@ abbrev pub add_tokens : List Token → Option (List Token) → Option (List Toke
 add_tokens [] rest = rest
 add_tokens (t ∷ ts) rest = cons_token t (add_tokens ts rest)
 
--- The tokens of two texts one behind the other, where both have some.
+-- The tokens of two texts one after the other, where both have some.
 abbrev pub join_tokens : Option (List Token) → Option (List Token) → Option (List Token)
 join_tokens None rest = None
 join_tokens (Some ts) rest = add_tokens ts rest
@@ -138,7 +138,7 @@ abbrev pub grow_or : Option Step → Step → Step
 grow_or (Some longer) other = longer
 grow_or None other = other
 
--- Behind `$` and behind a backtick a letter must come; `token` is made of the letters.
+-- After `$` and after a backtick a letter must come; `token` is made of the letters.
 abbrev pub named : (List ℕ → State) → (List ℕ → Token) → List ℕ → ℕ → Step
 named more token [] c = cond (is_letter c) (keep (more (c ∷ []))) fail
 named more token (b ∷ w) c = cond (is_word_byte c) (keep (more ((b ∷ w) ++ (c ∷ [])))) (follow (token (b ∷ w) ∷ []) (start c))
@@ -152,7 +152,7 @@ abbrev pub before_tick : List ℕ → List Token
 before_tick [] = []
 before_tick (d ∷ ds) = Number (d ∷ ds) ∷ []
 
--- A byte behind an apostrophe: a radix, a sign, a filler, or what a cast or a pattern opens with.
+-- A byte after an apostrophe: a radix, a sign, a filler, or what a cast or a pattern opens with.
 abbrev pub after_tick : List ℕ → ℕ → Step
 after_tick d c =
     cond (is_radix c) (keep (InRadix (d ++ (39 ∷ c ∷ []))))

@@ -47,7 +47,7 @@ format_radix UnsizedBinary = 2
 format_radix UnsizedHex = 16
 format_radix _ = 10
 
--- What stands before the digits, behind a minus.
+-- What stands before the digits, after a minus.
 abbrev pub format_head : LiteralFormat → ℕ → List ℕ
 format_head Binary n = decimal n ++ codes "'b"
 format_head Hex n = decimal n ++ codes "'h"

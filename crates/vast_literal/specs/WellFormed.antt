@@ -18,7 +18,7 @@ is_cast_type MissingType = false
 is_cast_type _ = true
 
 abbrev mutual
-  -- Each literal is one literal token, perhaps behind a minus, each string one string token, each width of a part select at
+  -- Each literal is one literal token, perhaps after a minus, each string one string token, each width of a part select at
   -- least 1, and no cast is to an array.
   pub is_well_formed : ExprTree → Bool
   is_well_formed (NameTree name type) = true

@@ -1,4 +1,4 @@
-//! Why a call answers no result: it was refused by name, or memory was.
+//! Why a call returns no result: it was refused by name, or memory was.
 
 ghost use Rattle.std.specs.Prelude.{◌≡◌, IfOk, string_bytes, alloc_error};
 ghost use Rattle.vast_literal.specs.declared.error.VastFault.TheVariants.{Memory};
@@ -12,7 +12,7 @@ use thiserror::Error;
 pub struct VastError(pub String);
 
 impl VastError {
-    /// A copy of the refusal. In Rust this is `Clone`, which can't answer want of memory.
+    /// A copy of the refusal. In Rust this is `Clone`, which can't say that memory was refused.
     ///
     /// # Errors
     /// `AllocError` where the text's memory was refused.
@@ -23,7 +23,7 @@ impl VastError {
     }
 }
 
-/// What a call answers that both may be refused by name and takes memory.
+/// What a call returns that both may be refused by name and takes memory.
 #[derive(Debug, Drop, Error)]
 pub enum VastFault {
     /// The call was refused; the text says why.

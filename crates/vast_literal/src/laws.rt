@@ -2,12 +2,6 @@
 
 ghost use Rattle.vast_literal.specs.Lexemes.{TakesLongest};
 ghost use Rattle.vast_literal.specs.WorkedLiterals.{WorkedLiterals};
-ghost use Rattle.vast_literal.specs.WorkedTexts.{WorkedTexts};
-
-/// What some texts derive, and the normal forms of some trees.
-pub fn worked_texts()
-    ensures { WorkedTexts }
-{}
 
 /// What some texts denote, and how some numbers, patterns and strings are written: worked statements on the definitions.
 pub fn worked_literals()

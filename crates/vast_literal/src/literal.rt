@@ -81,7 +81,7 @@ impl Literal {
     /// # Errors
     /// `Refused` with the text of the first check that fails.
     pub fn parse(alloc: Global, text: &str) -> Result<Literal, VastFault>
-        // The literal, or the text of the first check that fails; memory is wanted for that text alone.
+        // The literal, or the text of the first check that fails; memory is taken for that text alone.
         ensures answer { MatchResult result (λ literal. literal_of text.now ≡ Ok literal)
             (OnlyRefusedBy (literal_of text.now)) }
 

@@ -23,7 +23,7 @@ pub reaches-none : (links : List ℕ) (cursor to : ℕ) → cursor ≡ 0 → Rea
 reaches-none links cursor to z (here _ _ e) = omega arith
 reaches-none links cursor to z (further _ _ some known rest) = omega arith
 
--- A link more, behind the others.
+-- A link more, after the others.
 pub reaches-push : (links : List ℕ) (x cursor to : ℕ) → Reaches links cursor to → Reaches (links ++ x ∷ []) cursor to
 reaches-push links x cursor to (here _ _ e) = here cursor to e
 reaches-push links x cursor to (further _ _ some known rest) =

@@ -1,6 +1,6 @@
 //! Words, of which the short ones take no memory, texts, and a table of names in one buffer.
 //!
-//! Whoever chooses the names can't make it slow: a chain of names in one slot has a bound, behind which names lie in a
+//! Whoever chooses the names can't make it slow: a chain of names in one slot has a bound, after which names lie in a
 //! tree.
 #![tactic(auto)]
 

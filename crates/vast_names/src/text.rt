@@ -24,9 +24,6 @@ impl Model for Text {
 
 impl Text {
     /// This text, in memory of its own.
-    ///
-    /// # Errors
-    /// Want of memory.
     pub fn new(alloc: Global, text: &str) -> Result<Text, AllocError>
         ensures { IfOk result (λ t. t ≡ text.now) }
     {

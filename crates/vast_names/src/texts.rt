@@ -1,4 +1,4 @@
-//! Texts that lie behind one another in one buffer.
+//! Texts that lie after one another in one buffer.
 
 ghost use Rattle.std.specs.Prelude.{◌≡◌, ◌+◌, ◌<◌, ◌≤◌, ◌∷◌, [], ◌++◌, length, IfOk, OnOk, slice_index, slice_index_or, vec_len, vec_capacity};
 ghost use Rattle.vast_names.specs.Internal.Texts.{texts_of, IsCut};
@@ -55,7 +55,7 @@ impl Texts {
         &self.bytes[start..end]
     }
 
-    /// Makes room for one more text of that many bytes, and answers where it will end.
+    /// Makes room for one more text of that many bytes, and returns where it will end.
     #[tactic(auto, using(crate::proofs::Cut::cuts))]
     pub(crate) fn make_room(&mut self, count: usize) -> Result<u32, AllocError>
         requires { IsCut self.old }
@@ -76,7 +76,7 @@ impl Texts {
         Ok(end as u32)
     }
 
-    /// Puts a text behind the others, where room was made for it.
+    /// Puts a text after the others, where room was made for it.
     pub(crate) fn push(&mut self, text: &[u8], end: u32)
         requires cut { IsCut self.old }
         requires end { end ≡ vec_len self.old.bytes + length text.now }

@@ -21,7 +21,7 @@ every-all p (x ∷ xs) = ap (λ r. p x && r) (every-all p xs)
 
 pub ruleset bytes = (every-all)
 
--- what is left of a list: its next element, and what is behind it
+-- what is left of a list: its next element, and what is after it
 
 pub all-left : {A : Type 0} (one : A → Bool) (all : List A → Bool) → ((x : A) (xs : List A) → all (x ∷ xs) ≡ (one x && all xs)) → (xs : List A) (i : ℕ) (x : A) → i < length xs → x ≡ get_or xs i x → all (drop i xs) ≡ (one x && all (drop (i + 1) xs))
 all-left one all step [] i x h e = absurd (omega arith)

@@ -23,7 +23,7 @@ use Rattle.vast_core.specs.FileTree.{Family, BlockFamily, ConditionalFamily, Cas
 use Rattle.vast_print.specs.Internal.Bodies.{assignment_of, bare_assignment}
 use Rattle.vast_print.specs.Printed.{plain_text, ◌⊕◌}
 use Rattle.vast_print.specs.Page.{written}
-use Rattle.vast_print.specs.Ink.{Ink, word, next, hang, pour}
+use Rattle.vast_print.specs.Output.{Output, word, next, indented, inline}
 use Rattle.vast_print.specs.Text.{expr_text}
 use Rattle.vast_print.specs.Internal.Words.{separator}
 use Rattle.vast_print.specs.Statements.{assignment_operator, unique_word, case_word, label_text, statement_page, statements_page, block_page, alternates_page, arms_page}
@@ -31,98 +31,98 @@ use Rattle.vast_print.specs.Internal.Statements.{arm_page, arm_body_page}
 use Rattle.vast_print.specs.Members.{input_text, local_page, locals_page, loop_text, member_page, members_page}
 use Rattle.vast_literal.specs.Shape.{is_one_casez}
 use Rattle.vast_print.proofs.Lines.{word-nothing, word-word}
-use Rattle.vast_print.proofs.InkLaws.{pour-word, hang-blank, hang-written, pour-line, pour-then, pour-above-none}
-use Rattle.vast_print.proofs.StatementLaws.{hang-assign, pour-assign, hang-arm, hang-comment, hang-blank-statement, hang-inline, hang-conditional, hang-case, pour-no-else, pour-else, pour-block-none, pour-block, pour-arm-block}
+use Rattle.vast_print.proofs.OutputLaws.{inline-word, indented-blank, indented-written, inline-line, inline-then, inline-above-none}
+use Rattle.vast_print.proofs.StatementLaws.{indented-assign, inline-assign, indented-arm, indented-comment, indented-blank-statement, indented-inline, indented-conditional, indented-case, inline-no-else, inline-else, inline-block-none, inline-block, inline-arm-block}
 use Rattle.vast_print.proofs.ListLaws.{statements-end, statements-step, locals-end, locals-step, alternates-end, alternates-step, arms-end, arms-step}
 use Rattle.vast_print.proofs.SeparatedLaws.{rest_events, events-end, events-step, rest_inputs, inputs-end, inputs-step}
-use Rattle.vast_print.proofs.MemberLaws.{hang-always, pour-always-ff, pour-always-at, pour-always-comb, hang-declaration, hang-comment-member, hang-blank-member, hang-inline-member, hang-macro, hang-local, hang-function, hang-function-member, hang-body-block, hang-body-casez, hang-loop, pour-loop, pour-label-text, pour-no-label, pour-input-text}
+use Rattle.vast_print.proofs.MemberLaws.{indented-always, inline-always-ff, inline-always-at, inline-always-comb, indented-declaration, indented-comment-member, indented-blank-member, indented-inline-member, indented-macro, indented-local, indented-function, indented-function-member, indented-body-block, indented-body-casez, indented-loop, inline-loop, inline-label-text, inline-no-label, inline-input-text}
 use Rattle.vast_print.proofs.ArenaLaws.{stops, declarations}
 
 -- assignments
 
-pub pour-assigned : (d : ℕ) (k : Ink) (nonblocking : Bool) (l r : ExprTree) →
-    pour d k (statement_page (AssignTree (form_of nonblocking) l r))
-    ≡ word (pour d (word (pour d k (written (expr_text l))) (assignment_operator (form_of nonblocking))) (written (expr_text r))) (codes ";")
-pour-assigned d k true l r = rw (word-nothing k) at (pour-assign d k Nonblocking l r)
-pour-assigned d k false l r = rw (word-nothing k) at (pour-assign d k Blocking l r)
+pub inline-assigned : (d : ℕ) (k : Output) (nonblocking : Bool) (l r : ExprTree) →
+    inline d k (statement_page (AssignTree (form_of nonblocking) l r))
+    ≡ word (inline d (word (inline d k (written (expr_text l))) (assignment_operator (form_of nonblocking))) (written (expr_text r))) (codes ";")
+inline-assigned d k true l r = rw (word-nothing k) at (inline-assign d k Nonblocking l r)
+inline-assigned d k false l r = rw (word-nothing k) at (inline-assign d k Blocking l r)
 
-pub hang-assigned : (b : Bench) (d : ℕ) (k : Ink) (o : Option Assignment) → hang d k (statement_page (assigned_tree b o)) ≡ pour d (next d k) (statement_page (assigned_tree b o))
+pub indented-assigned : (b : Bench) (d : ℕ) (k : Output) (o : Option Assignment) → indented d k (statement_page (assigned_tree b o)) ≡ inline d (next d k) (statement_page (assigned_tree b o))
 unfolding statement_page
-hang-assigned b d k None = hang-blank d k ∙ sym (pour-line d (next d k) [] ∙ word-nothing (next d k))
-hang-assigned b d k (Some a) = hang-written d k _
+indented-assigned b d k None = indented-blank d k ∙ sym (inline-line d (next d k) [] ∙ word-nothing (next d k))
+indented-assigned b d k (Some a) = indented-written d k _
 
 -- an assignment of a module is one of a block
-pub hang-assign-same : (d : ℕ) (k : Ink) (dialect : Dialect) (l r : ExprTree) → hang d k (member_page dialect (AssignMember l r)) ≡ hang d k (statement_page (AssignTree Continuous l r))
+pub indented-assign-same : (d : ℕ) (k : Output) (dialect : Dialect) (l r : ExprTree) → indented d k (member_page dialect (AssignMember l r)) ≡ indented d k (statement_page (AssignTree Continuous l r))
 unfolding member_page statement_page
-hang-assign-same d k dialect l r = refl
+indented-assign-same d k dialect l r = refl
 
-pub ruleset assignments = (hang-assign, stops)
+pub ruleset assignments = (indented-assign, stops)
 
 -- blocks
 
-pub pour-block-empty : (b : Bench) (d : ℕ) (k : Ink) (xs : List Statement) → length xs ≡ 0 → pour d k (block_page (statements_tree b xs)) ≡ word k (codes "begin end")
-pour-block-empty b d k [] h = pour-block-none d k
-pour-block-empty b d k (x ∷ xs) h = absurd (omega arith)
+pub inline-block-empty : (b : Bench) (d : ℕ) (k : Output) (xs : List Statement) → length xs ≡ 0 → inline d k (block_page (statements_tree b xs)) ≡ word k (codes "begin end")
+inline-block-empty b d k [] h = inline-block-none d k
+inline-block-empty b d k (x ∷ xs) h = absurd (omega arith)
 
-pub pour-block-full : (b : Bench) (d : ℕ) (k : Ink) (xs : List Statement) → 0 < length xs →
-    pour d k (block_page (statements_tree b xs)) ≡ word (next d (hang (d + 1) (word k (codes "begin")) (statements_page (statements_tree b xs)))) (codes "end")
-pour-block-full b d k [] h = absurd (omega arith)
-pour-block-full b d k (x ∷ xs) h = pour-block d k (statement_in b (families b) x) (statements_tree b xs)
+pub inline-block-full : (b : Bench) (d : ℕ) (k : Output) (xs : List Statement) → 0 < length xs →
+    inline d k (block_page (statements_tree b xs)) ≡ word (next d (indented (d + 1) (word k (codes "begin")) (statements_page (statements_tree b xs)))) (codes "end")
+inline-block-full b d k [] h = absurd (omega arith)
+inline-block-full b d k (x ∷ xs) h = inline-block d k (statement_in b (families b) x) (statements_tree b xs)
 
-pub ruleset blocks = (pour-block-empty, pour-block-full, stops)
+pub ruleset blocks = (inline-block-empty, inline-block-full, stops)
 
-pub ruleset statements = (hang-assigned, hang-comment, hang-blank-statement, hang-inline, stops)
+pub ruleset statements = (indented-assigned, indented-comment, indented-blank-statement, indented-inline, stops)
 
 -- what is left of a block
-pub block-step : (b : Bench) (d : ℕ) (k : Ink) (xs : List Statement) (i : ℕ) (x : Statement) → i < length xs → x ≡ get_or xs i x →
-    hang d k (statements_page (statements_tree b (drop i xs)))
-    ≡ hang d (hang d k (statement_page (statement_in b (families b) x))) (statements_page (statements_tree b (drop (i + 1) xs)))
+pub block-step : (b : Bench) (d : ℕ) (k : Output) (xs : List Statement) (i : ℕ) (x : Statement) → i < length xs → x ≡ get_or xs i x →
+    indented d k (statements_page (statements_tree b (drop i xs)))
+    ≡ indented d (indented d k (statement_page (statement_in b (families b) x))) (statements_page (statements_tree b (drop (i + 1) xs)))
 block-step b d k xs i x h e = statements-step (statements_tree b) (statement_in b (families b)) (λ y ys. refl) d k xs i x h e
 
-pub block-end : (b : Bench) (d : ℕ) (k : Ink) (xs : List Statement) (i : ℕ) → length xs ≤ i → hang d k (statements_page (statements_tree b (drop i xs))) ≡ k
+pub block-end : (b : Bench) (d : ℕ) (k : Output) (xs : List Statement) (i : ℕ) → length xs ≤ i → indented d k (statements_page (statements_tree b (drop i xs))) ≡ k
 block-end b d k xs i h = statements-end (statements_tree b) refl d k xs i h
 
 -- conditionals
 
-pub else-ifs-step : (b : Bench) (otherwise : Option VastStatementBlock) (d : ℕ) (k : Ink) (xs : List ElseIf) (i : ℕ) (x : ElseIf) → i < length xs → x ≡ get_or xs i x →
-    pour d k (alternates_page (alternates_tree b (drop i xs) otherwise))
-    ≡ pour d (pour d (word (pour d (word k (codes " else if (")) (written (expr_text (tree_of b x.condition)))) (codes ") ")) (block_page (block_tree b x.block))) (alternates_page (alternates_tree b (drop (i + 1) xs) otherwise))
+pub else-ifs-step : (b : Bench) (otherwise : Option VastStatementBlock) (d : ℕ) (k : Output) (xs : List ElseIf) (i : ℕ) (x : ElseIf) → i < length xs → x ≡ get_or xs i x →
+    inline d k (alternates_page (alternates_tree b (drop i xs) otherwise))
+    ≡ inline d (inline d (word (inline d (word k (codes " else if (")) (written (expr_text (tree_of b x.condition)))) (codes ") ")) (block_page (block_tree b x.block))) (alternates_page (alternates_tree b (drop (i + 1) xs) otherwise))
 else-ifs-step b otherwise d k xs i x h e =
     alternates-step (λ ys. alternates_tree b ys otherwise) (λ y. tree_of b y.condition) (λ y. block_tree b y.block) (λ y ys. refl) d k xs i x h e
 
-pub else-ifs-end : (b : Bench) (otherwise : Option VastStatementBlock) (d : ℕ) (k : Ink) (xs : List ElseIf) (i : ℕ) → length xs ≤ i →
-    pour d k (alternates_page (alternates_tree b (drop i xs) otherwise)) ≡ pour d k (alternates_page (alternates_tree b [] otherwise))
+pub else-ifs-end : (b : Bench) (otherwise : Option VastStatementBlock) (d : ℕ) (k : Output) (xs : List ElseIf) (i : ℕ) → length xs ≤ i →
+    inline d k (alternates_page (alternates_tree b (drop i xs) otherwise)) ≡ inline d k (alternates_page (alternates_tree b [] otherwise))
 else-ifs-end b otherwise d k xs i h = alternates-end (λ ys. alternates_tree b ys otherwise) d k xs i h
 
-pub hang-held-conditional : (b : Bench) (d : ℕ) (k : Ink) (i : ℕ) (c : ExprTree) (s : Statements) (rest : Alternates) → families b i ≡ ConditionalFamily c s rest →
-    hang d k (statement_page (conditional_statement (families b i)))
-    ≡ pour d (pour d (word (pour d (word (next d k) (codes "if (")) (written (expr_text c))) (codes ") ")) (block_page s)) (alternates_page rest)
-hang-held-conditional b d k i c s rest e = rw e (hang-conditional d k c s rest)
+pub indented-held-conditional : (b : Bench) (d : ℕ) (k : Output) (i : ℕ) (c : ExprTree) (s : Statements) (rest : Alternates) → families b i ≡ ConditionalFamily c s rest →
+    indented d k (statement_page (conditional_statement (families b i)))
+    ≡ inline d (inline d (word (inline d (word (next d k) (codes "if (")) (written (expr_text c))) (codes ") ")) (block_page s)) (alternates_page rest)
+indented-held-conditional b d k i c s rest e = rw e (indented-conditional d k c s rest)
 
-pub ruleset conditionals = (pour-no-else, pour-else, stops)
+pub ruleset conditionals = (inline-no-else, inline-else, stops)
 
 -- cases
 
-pub arms-left : (b : Bench) (w : CaseWord) (d : ℕ) (k : Ink) (xs : List CaseArm) (i : ℕ) (x : CaseArm) → i < length xs → x ≡ get_or xs i x →
-    hang d k (arms_page w (case_arms_tree b (drop i xs)))
-    ≡ hang d (hang d k (arm_page w (maybe_tree_of b x.label) (block_tree b x.block))) (arms_page w (case_arms_tree b (drop (i + 1) xs)))
+pub arms-left : (b : Bench) (w : CaseWord) (d : ℕ) (k : Output) (xs : List CaseArm) (i : ℕ) (x : CaseArm) → i < length xs → x ≡ get_or xs i x →
+    indented d k (arms_page w (case_arms_tree b (drop i xs)))
+    ≡ indented d (indented d k (arm_page w (maybe_tree_of b x.label) (block_tree b x.block))) (arms_page w (case_arms_tree b (drop (i + 1) xs)))
 arms-left b w d k xs i x h e = arms-step w (λ ys. case_arms_tree b ys) (λ y. maybe_tree_of b y.label) (λ y. block_tree b y.block) (λ y ys. refl) d k xs i x h e
 
-pub no-arms-left : (b : Bench) (w : CaseWord) (d : ℕ) (k : Ink) (xs : List CaseArm) (i : ℕ) → length xs ≤ i → hang d k (arms_page w (case_arms_tree b (drop i xs))) ≡ k
+pub no-arms-left : (b : Bench) (w : CaseWord) (d : ℕ) (k : Output) (xs : List CaseArm) (i : ℕ) → length xs ≤ i → indented d k (arms_page w (case_arms_tree b (drop i xs))) ≡ k
 no-arms-left b w d k xs i h = arms-end w (λ ys. case_arms_tree b ys) refl d k xs i h
 
-pub pour-label : (d : ℕ) (k : Ink) (e : ExprTree) → pour d k (written (label_text (SomeExpr e) ⊕ plain_text (codes ": "))) ≡ word (pour d k (written (expr_text e))) (codes ": ")
-pour-label d k e = simp (pour-then, pour-word)
+pub inline-label : (d : ℕ) (k : Output) (e : ExprTree) → inline d k (written (label_text (SomeExpr e) ⊕ plain_text (codes ": "))) ≡ word (inline d k (written (expr_text e))) (codes ": ")
+inline-label d k e = simp (inline-then, inline-word)
 
-pub pour-default : (d : ℕ) (k : Ink) → pour d k (written (label_text NoExpr ⊕ plain_text (codes ": "))) ≡ word k (codes "default: ")
-pour-default d k = simp (pour-then, pour-word, word-word)
+pub inline-default : (d : ℕ) (k : Output) → inline d k (written (label_text NoExpr ⊕ plain_text (codes ": "))) ≡ word k (codes "default: ")
+inline-default d k = simp (inline-then, inline-word, word-word)
 
-pub ruleset labels = (pour-label, pour-default, stops)
+pub ruleset labels = (inline-label, inline-default, stops)
 
-pub hang-held-case : (b : Bench) (d : ℕ) (k : Ink) (i : ℕ) (unique : Bool) (w : CaseWord) (e : ExprTree) (arms : CaseArms) → families b i ≡ CaseFamily (CaseTree unique w e arms) →
-    hang d k (statement_page (case_statement (families b i)))
-    ≡ word (next d (hang (d + 1) (word (pour d (word (word (next d k) (unique_word unique)) (case_word w)) (written (expr_text e))) (codes ")")) (arms_page w arms))) (codes "endcase")
-hang-held-case b d k i unique w e arms h = rw h (hang-case d k unique w e arms)
+pub indented-held-case : (b : Bench) (d : ℕ) (k : Output) (i : ℕ) (unique : Bool) (w : CaseWord) (e : ExprTree) (arms : CaseArms) → families b i ≡ CaseFamily (CaseTree unique w e arms) →
+    indented d k (statement_page (case_statement (families b i)))
+    ≡ word (next d (indented (d + 1) (word (inline d (word (word (next d k) (unique_word unique)) (case_word w)) (written (expr_text e))) (codes ")")) (arms_page w arms))) (codes "endcase")
+indented-held-case b d k i unique w e arms h = rw h (indented-case d k unique w e arms)
 
 -- arms of one assignment
 
@@ -134,31 +134,31 @@ there-at (y ∷ xs) (suc i) h = there-at xs i (omega arith)
 assigned-there : (b : Bench) (s : VastStatement) → OwnsStatement b s → (a : Assignment) × (slice_get b.assignments s.id.index ≡ Some a)
 assigned-there b s h = there-at b.assignments s.id.index (below-of s.id.index (length b.assignments) h.of_kind)
 
-pour-bare : (d : ℕ) (k : Ink) (nonblocking : Bool) (l r : ExprTree) →
-    pour d k (arm_body_page CaseZ (MoreStatements (AssignTree (form_of nonblocking) l r) NoStatements)) ≡ pour d k (statement_page (AssignTree (form_of nonblocking) l r))
+inline-bare : (d : ℕ) (k : Output) (nonblocking : Bool) (l r : ExprTree) →
+    inline d k (arm_body_page CaseZ (MoreStatements (AssignTree (form_of nonblocking) l r) NoStatements)) ≡ inline d k (statement_page (AssignTree (form_of nonblocking) l r))
 unfolding arm_body_page statements_page statement_page
-pour-bare d k true l r = pour-above-none d k _
-pour-bare d k false l r = pour-above-none d k _
+inline-bare d k true l r = inline-above-none d k _
+inline-bare d k false l r = inline-above-none d k _
 
-pour-bare-assigned : (b : Bench) (d : ℕ) (k : Ink) (s : VastStatement) → OwnsStatement b s →
-    pour d k (arm_body_page CaseZ (MoreStatements (assigned_tree b (slice_get b.assignments s.id.index)) NoStatements))
-    ≡ pour d k (statement_page (assigned_tree b (slice_get b.assignments s.id.index)))
-pour-bare-assigned b d k s h =
-    let t = assigned-there b s h in rw t.1 (pour-bare d k t.0.nonblocking (tree_of b t.0.lhs) (tree_of b t.0.rhs))
+inline-bare-assigned : (b : Bench) (d : ℕ) (k : Output) (s : VastStatement) → OwnsStatement b s →
+    inline d k (arm_body_page CaseZ (MoreStatements (assigned_tree b (slice_get b.assignments s.id.index)) NoStatements))
+    ≡ inline d k (statement_page (assigned_tree b (slice_get b.assignments s.id.index)))
+inline-bare-assigned b d k s h =
+    let t = assigned-there b s h in rw t.1 (inline-bare d k t.0.nonblocking (tree_of b t.0.lhs) (tree_of b t.0.rhs))
 
-pour-bare-entry : (b : Bench) (i d : ℕ) (k : Ink) (e : Statement) (s : VastStatement) → Some s ≡ assignment_of e → StatementSound b i e →
-    pour d k (arm_body_page CaseZ (MoreStatements (statement_in b (families b) e) NoStatements))
-    ≡ pour d k (statement_page (assigned_tree b (slice_get b.assignments s.id.index)))
-pour-bare-entry b i d k (AssignStatement t) s h own = let same : s ≡ t = cc in rw same (pour-bare-assigned b d k t own)
-pour-bare-entry b i d k _ s h own = cc
+inline-bare-entry : (b : Bench) (i d : ℕ) (k : Output) (e : Statement) (s : VastStatement) → Some s ≡ assignment_of e → StatementSound b i e →
+    inline d k (arm_body_page CaseZ (MoreStatements (statement_in b (families b) e) NoStatements))
+    ≡ inline d k (statement_page (assigned_tree b (slice_get b.assignments s.id.index)))
+inline-bare-entry b i d k (AssignStatement t) s h own = let same : s ≡ t = cc in rw same (inline-bare-assigned b d k t own)
+inline-bare-entry b i d k _ s h own = cc
 
-pub pour-arm-bare : (b : Bench) (i d : ℕ) (k : Ink) (w : CaseWord) (xs : List Statement) (s : VastStatement) → Some s ≡ bare_assignment w xs → All (StatementSound b i) xs →
-    pour d k (arm_body_page w (statements_tree b xs)) ≡ pour d k (statement_page (assigned_tree b (slice_get b.assignments s.id.index)))
-pour-arm-bare b i d k CaseExact xs s h sound = cc
-pour-arm-bare b i d k CaseZ [] s h sound = cc
-pour-arm-bare b i d k CaseZ (x ∷ []) s h sound = pour-bare-entry b i d k x s h (sound 0 x (omega arith))
-pour-arm-bare b i d k CaseZ (x ∷ y ∷ xs) s h sound = cc
-pour-arm-bare b i d k CaseX xs s h sound = cc
+pub inline-arm-bare : (b : Bench) (i d : ℕ) (k : Output) (w : CaseWord) (xs : List Statement) (s : VastStatement) → Some s ≡ bare_assignment w xs → All (StatementSound b i) xs →
+    inline d k (arm_body_page w (statements_tree b xs)) ≡ inline d k (statement_page (assigned_tree b (slice_get b.assignments s.id.index)))
+inline-arm-bare b i d k CaseExact xs s h sound = cc
+inline-arm-bare b i d k CaseZ [] s h sound = cc
+inline-arm-bare b i d k CaseZ (x ∷ []) s h sound = inline-bare-entry b i d k x s h (sound 0 x (omega arith))
+inline-arm-bare b i d k CaseZ (x ∷ y ∷ xs) s h sound = cc
+inline-arm-bare b i d k CaseX xs s h sound = cc
 
 -- a statement that is no assignment
 abbrev IsOther : StatementTree → Type 0
@@ -211,45 +211,45 @@ not-bare b CaseZ (e ∷ g ∷ es) h = more (statement_in b (families b) e)
     more (CaseTree unique u x arms) = refl
 not-bare b CaseX es h = refl
 
-pub pour-arm-full : (b : Bench) (d : ℕ) (k : Ink) (w : CaseWord) (xs : List Statement) → None ≡ bare_assignment w xs →
-    pour d k (arm_body_page w (statements_tree b xs)) ≡ pour d k (block_page (statements_tree b xs))
-pour-arm-full b d k w xs h = pour-arm-block d k w (statements_tree b xs) (not-bare b w xs h)
+pub inline-arm-full : (b : Bench) (d : ℕ) (k : Output) (w : CaseWord) (xs : List Statement) → None ≡ bare_assignment w xs →
+    inline d k (arm_body_page w (statements_tree b xs)) ≡ inline d k (block_page (statements_tree b xs))
+inline-arm-full b d k w xs h = inline-arm-block d k w (statements_tree b xs) (not-bare b w xs h)
 
-pub ruleset cases = (hang-arm, stops)
+pub ruleset cases = (indented-arm, stops)
 
 -- always blocks
 
-pub events-left : (b : Bench) (d : ℕ) (k : Ink) (xs : List Expr) (i : ℕ) (x : Expr) → i < length xs → x ≡ get_or xs i x →
-    pour d k (written (rest_events i (trees_of b (drop i xs)))) ≡ pour d (pour d (word k (separator i (codes " or "))) (written (expr_text (tree_of b x)))) (written (rest_events (i + 1) (trees_of b (drop (i + 1) xs))))
+pub events-left : (b : Bench) (d : ℕ) (k : Output) (xs : List Expr) (i : ℕ) (x : Expr) → i < length xs → x ≡ get_or xs i x →
+    inline d k (written (rest_events i (trees_of b (drop i xs)))) ≡ inline d (inline d (word k (separator i (codes " or "))) (written (expr_text (tree_of b x)))) (written (rest_events (i + 1) (trees_of b (drop (i + 1) xs))))
 events-left b d k xs i x h e = events-step (trees_of b) (tree_of b) (λ y ys. refl) d k xs i x h e
 
-pub no-events-left : (b : Bench) (d : ℕ) (k : Ink) (xs : List Expr) (i : ℕ) → length xs ≤ i → pour d k (written (rest_events i (trees_of b (drop i xs)))) ≡ k
+pub no-events-left : (b : Bench) (d : ℕ) (k : Output) (xs : List Expr) (i : ℕ) → length xs ≤ i → inline d k (written (rest_events i (trees_of b (drop i xs)))) ≡ k
 no-events-left b d k xs i h = events-end (trees_of b) refl d k xs i h
 
-pub ruleset always = (hang-always, pour-always-ff, pour-always-at, pour-always-comb, stops)
+pub ruleset always = (indented-always, inline-always-ff, inline-always-at, inline-always-comb, stops)
 
 -- functions
 
 pub variables-step :
-    (dialect : Dialect) (b : Bench) (d : ℕ) (k : Ink) (xs : List FunctionVariable) (i : ℕ) (x : FunctionVariable) → i < length xs → x ≡ get_or xs i x →
-    pour d k (written (rest_inputs i dialect (map (variable_tree b) (drop i xs))))
-    ≡ pour d (pour d (word k (separator i (codes ", "))) (written (input_text dialect (variable_tree b x)))) (written (rest_inputs (i + 1) dialect (map (variable_tree b) (drop (i + 1) xs))))
+    (dialect : Dialect) (b : Bench) (d : ℕ) (k : Output) (xs : List FunctionVariable) (i : ℕ) (x : FunctionVariable) → i < length xs → x ≡ get_or xs i x →
+    inline d k (written (rest_inputs i dialect (map (variable_tree b) (drop i xs))))
+    ≡ inline d (inline d (word k (separator i (codes ", "))) (written (input_text dialect (variable_tree b x)))) (written (rest_inputs (i + 1) dialect (map (variable_tree b) (drop (i + 1) xs))))
 variables-step dialect b d k xs i x h e = inputs-step dialect (variable_tree b) d k xs i x h e
 
 pub variables-end :
-    (dialect : Dialect) (b : Bench) (d : ℕ) (k : Ink) (xs : List FunctionVariable) (i : ℕ) → length xs ≤ i →
-    pour d k (written (rest_inputs i dialect (map (variable_tree b) (drop i xs)))) ≡ k
+    (dialect : Dialect) (b : Bench) (d : ℕ) (k : Output) (xs : List FunctionVariable) (i : ℕ) → length xs ≤ i →
+    inline d k (written (rest_inputs i dialect (map (variable_tree b) (drop i xs)))) ≡ k
 variables-end dialect b d k xs i h = inputs-end dialect (variable_tree b) d k xs i h
 
 pub locals-left :
-    (dialect : Dialect) (b : Bench) (d : ℕ) (k : Ink) (xs : List FunctionVariable) (i : ℕ) (x : FunctionVariable) → i < length xs → x ≡ get_or xs i x →
-    hang d k (locals_page dialect (map (variable_tree b) (drop i xs)))
-    ≡ hang d (hang d k (local_page dialect (variable_tree b x))) (locals_page dialect (map (variable_tree b) (drop (i + 1) xs)))
+    (dialect : Dialect) (b : Bench) (d : ℕ) (k : Output) (xs : List FunctionVariable) (i : ℕ) (x : FunctionVariable) → i < length xs → x ≡ get_or xs i x →
+    indented d k (locals_page dialect (map (variable_tree b) (drop i xs)))
+    ≡ indented d (indented d k (local_page dialect (variable_tree b x))) (locals_page dialect (map (variable_tree b) (drop (i + 1) xs)))
 locals-left dialect b d k xs i x h e = locals-step dialect (variable_tree b) d k xs i x h e
 
 pub no-locals-left :
-    (dialect : Dialect) (b : Bench) (d : ℕ) (k : Ink) (xs : List FunctionVariable) (i : ℕ) → length xs ≤ i →
-    hang d k (locals_page dialect (map (variable_tree b) (drop i xs))) ≡ k
+    (dialect : Dialect) (b : Bench) (d : ℕ) (k : Output) (xs : List FunctionVariable) (i : ℕ) → length xs ≤ i →
+    indented d k (locals_page dialect (map (variable_tree b) (drop i xs))) ≡ k
 no-locals-left dialect b d k xs i h = locals-end dialect (variable_tree b) d k xs i h
 
 -- blocks that are one casez
@@ -259,23 +259,23 @@ casez-among b [] h = refl
 casez-among b (y ∷ []) h = absurd (h refl)
 casez-among b (y ∷ z ∷ xs) h = refl
 
-pub ruleset functions = (hang-function-member, hang-function, hang-local, hang-body-block, hang-body-casez, pour-input-text, declarations)
+pub ruleset functions = (indented-function-member, indented-function, indented-local, indented-body-block, indented-body-casez, inline-input-text, declarations)
 
 -- loops
 
-pub ruleset headers = (pour-loop, pour-label-text, pour-no-label, stops)
+pub ruleset headers = (inline-loop, inline-label-text, inline-no-label, stops)
 
-pub hang-held-loop : (b : Bench) (d : ℕ) (k : Ink) (dialect : Dialect) (i : ℕ) (genvar : List ℕ) (start end : ExprTree) (label : Option (List ℕ)) (ms : Members) → families b i ≡ LoopFamily (LoopMember genvar start end label ms) →
-    hang d k (member_page dialect (loop_member (families b i)))
-    ≡ word (next d (hang (d + 1) (pour d (next d k) (written (loop_text genvar start end label))) (members_page dialect ms))) (codes "end")
-hang-held-loop b d k dialect i genvar start end label ms e = rw e (hang-loop d k dialect genvar start end label ms)
+pub indented-held-loop : (b : Bench) (d : ℕ) (k : Output) (dialect : Dialect) (i : ℕ) (genvar : List ℕ) (start end : ExprTree) (label : Option (List ℕ)) (ms : Members) → families b i ≡ LoopFamily (LoopMember genvar start end label ms) →
+    indented d k (member_page dialect (loop_member (families b i)))
+    ≡ word (next d (indented (d + 1) (inline d (next d k) (written (loop_text genvar start end label))) (members_page dialect ms))) (codes "end")
+indented-held-loop b d k dialect i genvar start end label ms e = rw e (indented-loop d k dialect genvar start end label ms)
 
 -- members
 
 -- a conditional of a module is one of a block
-pub hang-held-conditional-same : (d : ℕ) (k : Ink) (dialect : Dialect) (f : Family) → hang d k (member_page dialect (conditional_member f)) ≡ hang d k (statement_page (conditional_statement f))
+pub indented-held-conditional-same : (d : ℕ) (k : Output) (dialect : Dialect) (f : Family) → indented d k (member_page dialect (conditional_member f)) ≡ indented d k (statement_page (conditional_statement f))
 unfolding member_page statement_page
-hang-held-conditional-same d k dialect (BlockFamily held) = refl
-hang-held-conditional-same d k dialect _ = refl
+indented-held-conditional-same d k dialect (BlockFamily held) = refl
+indented-held-conditional-same d k dialect _ = refl
 
-pub ruleset members = (hang-declaration, hang-assign-same, hang-comment-member, hang-blank-member, hang-inline-member, hang-macro, hang-held-conditional-same, stops)
+pub ruleset members = (indented-declaration, indented-assign-same, indented-comment-member, indented-blank-member, indented-inline-member, indented-macro, indented-held-conditional-same, stops)

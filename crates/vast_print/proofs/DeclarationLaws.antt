@@ -11,12 +11,12 @@ use Rattle.vast_literal.specs.declared.kind.ModulePortDirection.TheVariants.{Inp
 use Rattle.vast_literal.specs.Shape.{base_kind, base_of, unpacked_dimensions, highest_index_wraps}
 use Rattle.vast_print.specs.Printed.{Printed, plain_text, ◌⊕◌, gapped, spaced, wrapped}
 use Rattle.vast_print.specs.Page.{written, written_lines, beside_lines}
-use Rattle.vast_print.specs.Ink.{Ink, word, pour, pour_lines, hang_lines, stop}
+use Rattle.vast_print.specs.Output.{Output, word, inline, inline_lines, indented_lines, stop}
 use Rattle.vast_print.specs.Text.{expr_text, package_text}
 use Rattle.vast_print.specs.Declaration.{unpacked_text, highest_index_text, signed_word, unsigned_word, with_dimensions, type_text, name_text, kind_word, declaration_text, port_declaration_text}
 use Rattle.vast_print.specs.Layout.{port_text, parameter_port_text, direction_word}
 use Rattle.vast_print.specs.Internal.Words.{has_text, kind_opening, signed_opening, unsigned_opening}
-use Rattle.vast_print.proofs.InkLaws.{pour-then, pour-empty, pour-word}
+use Rattle.vast_print.proofs.OutputLaws.{inline-then, inline-empty, inline-word}
 
 pub plain-append : (a b : List ℕ) → plain_text (a ++ b) ≡ plain_text a ⊕ plain_text b
 unfolding plain_text ◌⊕◌
@@ -24,42 +24,42 @@ plain-append a b = refl
 
 -- the kind word, the type and the name
 
-pour-kind : (d : ℕ) (k : Ink) (kind : Kind) → pour d k (written (spaced (plain_text (kind_word kind)))) ≡ word k (kind_opening kind)
-unfolding pour written spaced plain_text ◌⊕◌ written_lines beside_lines pour_lines hang_lines stop
-pour-kind d k RegKind = refl
-pour-kind d k _ = refl
+inline-kind : (d : ℕ) (k : Output) (kind : Kind) → inline d k (written (spaced (plain_text (kind_word kind)))) ≡ word k (kind_opening kind)
+unfolding inline written spaced plain_text ◌⊕◌ written_lines beside_lines inline_lines indented_lines stop
+inline-kind d k RegKind = refl
+inline-kind d k _ = refl
 
-pub pour-declaration : (d : ℕ) (k : Ink) (dialect : Dialect) (kind : Kind) (t : TypeTree) (name : List ℕ) →
-    pour d k (written (declaration_text dialect kind t name))
-    ≡ pour d (pour d (pour d (word k (kind_opening kind)) (written (spaced (type_text t)))) (written (plain_text name))) (written (plain_text (unpacked_text dialect (unpacked_dimensions t))))
+pub inline-declaration : (d : ℕ) (k : Output) (dialect : Dialect) (kind : Kind) (t : TypeTree) (name : List ℕ) →
+    inline d k (written (declaration_text dialect kind t name))
+    ≡ inline d (inline d (inline d (word k (kind_opening kind)) (written (spaced (type_text t)))) (written (plain_text name))) (written (plain_text (unpacked_text dialect (unpacked_dimensions t))))
 unfolding declaration_text name_text
-pour-declaration d k dialect kind t name = simp (pour-then, pour-kind)
+inline-declaration d k dialect kind t name = simp (inline-then, inline-kind)
 
-pour-direction : (d : ℕ) (k : Ink) (p : PortDirection) → pour d k (written (plain_text (direction_word p))) ≡ word k (direction_word p)
-pour-direction d k InputDirection = pour-word d k (codes "input ") refl
-pour-direction d k OutputDirection = pour-word d k (codes "output ") refl
-pour-direction d k InOutDirection = pour-word d k (codes "inout ") refl
+inline-direction : (d : ℕ) (k : Output) (p : PortDirection) → inline d k (written (plain_text (direction_word p))) ≡ word k (direction_word p)
+inline-direction d k InputDirection = inline-word d k (codes "input ") refl
+inline-direction d k OutputDirection = inline-word d k (codes "output ") refl
+inline-direction d k InOutDirection = inline-word d k (codes "inout ") refl
 
-pub pour-port : (d : ℕ) (k : Ink) (dialect : Dialect) (p : PortTree) →
-    pour d k (written (port_text dialect p)) ≡ pour d (word k (direction_word p.direction)) (written (port_declaration_text dialect p.declaration))
+pub inline-port : (d : ℕ) (k : Output) (dialect : Dialect) (p : PortTree) →
+    inline d k (written (port_text dialect p)) ≡ inline d (word k (direction_word p.direction)) (written (port_declaration_text dialect p.declaration))
 unfolding port_text
-pour-port d k dialect p =
-    pour-then d k (plain_text (direction_word p.direction)) (port_declaration_text dialect p.declaration)
-    ∙ ap (λ j. pour d j (written (port_declaration_text dialect p.declaration))) (pour-direction d k p.direction)
+inline-port d k dialect p =
+    inline-then d k (plain_text (direction_word p.direction)) (port_declaration_text dialect p.declaration)
+    ∙ ap (λ j. inline d j (written (port_declaration_text dialect p.declaration))) (inline-direction d k p.direction)
 
-pub pour-untyped-parameter : (d : ℕ) (k : Ink) (dialect : Dialect) (name : List ℕ) (value : ExprTree) →
-    pour d k (written (parameter_port_text dialect (record { name = name; type = Untyped; value = value })))
-    ≡ pour d (word (pour d (word k (codes "parameter ")) (written (plain_text name))) (codes " = ")) (written (expr_text value))
+pub inline-untyped-parameter : (d : ℕ) (k : Output) (dialect : Dialect) (name : List ℕ) (value : ExprTree) →
+    inline d k (written (parameter_port_text dialect (record { name = name; type = Untyped; value = value })))
+    ≡ inline d (word (inline d (word k (codes "parameter ")) (written (plain_text name))) (codes " = ")) (written (expr_text value))
 unfolding parameter_port_text
-pour-untyped-parameter d k dialect name value = simp (pour-then, pour-word)
+inline-untyped-parameter d k dialect name value = simp (inline-then, inline-word)
 
-pub pour-typed-parameter : (d : ℕ) (k : Ink) (dialect : Dialect) (name : List ℕ) (t : TypeTree) (value : ExprTree) →
-    pour d k (written (parameter_port_text dialect (record { name = name; type = Typed t; value = value })))
-    ≡ pour d (word (pour d (word k (codes "parameter ")) (written (declaration_text dialect (base_kind (base_of t)) t name))) (codes " = ")) (written (expr_text value))
+pub inline-typed-parameter : (d : ℕ) (k : Output) (dialect : Dialect) (name : List ℕ) (t : TypeTree) (value : ExprTree) →
+    inline d k (written (parameter_port_text dialect (record { name = name; type = Typed t; value = value })))
+    ≡ inline d (word (inline d (word k (codes "parameter ")) (written (declaration_text dialect (base_kind (base_of t)) t name))) (codes " = ")) (written (expr_text value))
 unfolding parameter_port_text
-pour-typed-parameter d k dialect name t value = simp (pour-then, pour-word)
+inline-typed-parameter d k dialect name t value = simp (inline-then, inline-word)
 
--- types, each part with the space behind it, by what they are made of
+-- types, each part with the space after it, by what they are made of
 
 spaced-empty : spaced (plain_text []) ≡ plain_text []
 unfolding spaced plain_text
@@ -87,42 +87,42 @@ unfolding spaced package_text plain_text ◌⊕◌
 spaced-package [] name = refl
 spaced-package (c ∷ scope) name = refl
 
-pub pour-signed-word : (d : ℕ) (k : Ink) (signed : Bool) → pour d k (written (spaced (plain_text (signed_word signed)))) ≡ word k (signed_opening signed)
-unfolding pour written spaced plain_text ◌⊕◌ written_lines beside_lines pour_lines hang_lines stop
-pour-signed-word d k true = refl
-pour-signed-word d k false = refl
+pub inline-signed-word : (d : ℕ) (k : Output) (signed : Bool) → inline d k (written (spaced (plain_text (signed_word signed)))) ≡ word k (signed_opening signed)
+unfolding inline written spaced plain_text ◌⊕◌ written_lines beside_lines inline_lines indented_lines stop
+inline-signed-word d k true = refl
+inline-signed-word d k false = refl
 
-pub pour-unsigned-word : (d : ℕ) (k : Ink) (signed : Bool) → pour d k (written (spaced (plain_text (unsigned_word signed)))) ≡ word k (unsigned_opening signed)
-unfolding pour written spaced plain_text ◌⊕◌ written_lines beside_lines pour_lines hang_lines stop
-pour-unsigned-word d k true = refl
-pour-unsigned-word d k false = refl
+pub inline-unsigned-word : (d : ℕ) (k : Output) (signed : Bool) → inline d k (written (spaced (plain_text (unsigned_word signed)))) ≡ word k (unsigned_opening signed)
+unfolding inline written spaced plain_text ◌⊕◌ written_lines beside_lines inline_lines indented_lines stop
+inline-unsigned-word d k true = refl
+inline-unsigned-word d k false = refl
 
--- a base type, and its packed dimensions behind it
-pub pour-with-dimensions : (d : ℕ) (k : Ink) (p : Printed) (ds : List ℕ) →
-    pour d k (written (spaced (with_dimensions p ds))) ≡ pour d (pour d k (written (spaced p))) (written (spaced (plain_text ds)))
+-- a base type, and its packed dimensions after it
+pub inline-with-dimensions : (d : ℕ) (k : Output) (p : Printed) (ds : List ℕ) →
+    inline d k (written (spaced (with_dimensions p ds))) ≡ inline d (inline d k (written (spaced p))) (written (spaced (plain_text ds)))
 unfolding with_dimensions
-pour-with-dimensions d k p [] = sym (ap (λ x. pour d (pour d k (written (spaced p))) (written x)) spaced-empty ∙ pour-empty d (pour d k (written (spaced p))))
-pour-with-dimensions d k p (c ∷ ds) =
-    let a : pour d k (written (spaced p ⊕ plain_text (c ∷ ds) ⊕ plain_text (codes " "))) ≡ pour d (pour d (pour d k (written (spaced p))) (written (plain_text (c ∷ ds)))) (written (plain_text (codes " "))) = simp pour-then in
-    let b : pour d (pour d k (written (spaced p))) (written (plain_text (c ∷ ds) ⊕ plain_text (codes " "))) ≡ pour d (pour d (pour d k (written (spaced p))) (written (plain_text (c ∷ ds)))) (written (plain_text (codes " "))) = simp pour-then in
-    ap (λ x. pour d k (written x)) (spaced-then (spaced p) c ds)
-    ∙ (a ∙ sym (ap (λ x. pour d (pour d k (written (spaced p))) (written x)) (spaced-plain c ds) ∙ b))
+inline-with-dimensions d k p [] = sym (ap (λ x. inline d (inline d k (written (spaced p))) (written x)) spaced-empty ∙ inline-empty d (inline d k (written (spaced p))))
+inline-with-dimensions d k p (c ∷ ds) =
+    let a : inline d k (written (spaced p ⊕ plain_text (c ∷ ds) ⊕ plain_text (codes " "))) ≡ inline d (inline d (inline d k (written (spaced p))) (written (plain_text (c ∷ ds)))) (written (plain_text (codes " "))) = simp inline-then in
+    let b : inline d (inline d k (written (spaced p))) (written (plain_text (c ∷ ds) ⊕ plain_text (codes " "))) ≡ inline d (inline d (inline d k (written (spaced p))) (written (plain_text (c ∷ ds)))) (written (plain_text (codes " "))) = simp inline-then in
+    ap (λ x. inline d k (written x)) (spaced-then (spaced p) c ds)
+    ∙ (a ∙ sym (ap (λ x. inline d (inline d k (written (spaced p))) (written x)) (spaced-plain c ds) ∙ b))
 
--- a part with the space behind it, where it isn't empty
-pub pour-spaced : (d : ℕ) (k : Ink) (w : List ℕ) → has_text w ≡ true → pour d k (written (spaced (plain_text w))) ≡ word (pour d k (written (plain_text w))) (codes " ")
-pour-spaced d k [] h = absurd (cc (h))
-pour-spaced d k (c ∷ w) h = ap (λ x. pour d k (written x)) (spaced-plain c w) ∙ simp (pour-then, pour-word)
+-- a part with the space after it, where it isn't empty
+pub inline-spaced : (d : ℕ) (k : Output) (w : List ℕ) → has_text w ≡ true → inline d k (written (spaced (plain_text w))) ≡ word (inline d k (written (plain_text w))) (codes " ")
+inline-spaced d k [] h = absurd (cc (h))
+inline-spaced d k (c ∷ w) h = ap (λ x. inline d k (written x)) (spaced-plain c w) ∙ simp (inline-then, inline-word)
 
-pub pour-spaced-none : (d : ℕ) (k : Ink) (w : List ℕ) → has_text w ≡ false → pour d k (written (spaced (plain_text w))) ≡ k
-pour-spaced-none d k [] h = ap (λ x. pour d k (written x)) spaced-empty ∙ pour-empty d k
-pour-spaced-none d k (c ∷ w) h = absurd (cc (h))
+pub inline-spaced-none : (d : ℕ) (k : Output) (w : List ℕ) → has_text w ≡ false → inline d k (written (spaced (plain_text w))) ≡ k
+inline-spaced-none d k [] h = ap (λ x. inline d k (written x)) spaced-empty ∙ inline-empty d k
+inline-spaced-none d k (c ∷ w) h = absurd (cc (h))
 
 -- highest_indices of vectors
 
-pub pour-highest-value : (d : ℕ) (k : Ink) (w : ExprTree) (v : ℤ) → pour d k (written (highest_index_text w (Some v))) ≡ pour d k (written (plain_text (signed_decimal (v -ℤ pos 1))))
+pub inline-highest-value : (d : ℕ) (k : Output) (w : ExprTree) (v : ℤ) → inline d k (written (highest_index_text w (Some v))) ≡ inline d k (written (plain_text (signed_decimal (v -ℤ pos 1))))
 unfolding highest_index_text
-pour-highest-value d k w v = refl
+inline-highest-value d k w v = refl
 
-pub pour-highest-index : (d : ℕ) (k : Ink) (w : ExprTree) → pour d k (written (highest_index_text w None)) ≡ word (pour d k (written (wrapped (highest_index_wraps w) (expr_text w)))) (codes " - 1")
+pub inline-highest-index : (d : ℕ) (k : Output) (w : ExprTree) → inline d k (written (highest_index_text w None)) ≡ word (inline d k (written (wrapped (highest_index_wraps w) (expr_text w)))) (codes " - 1")
 unfolding highest_index_text
-pour-highest-index d k w = simp (pour-then, pour-word)
+inline-highest-index d k w = simp (inline-then, inline-word)

@@ -44,7 +44,7 @@ empty_tokens : (ts : List Token) → Reads [] ts → ts ≡ []
 unfolding scan
 empty_tokens ts f = sym (same_Some [] ts (f.at [] refl ∙ add_tokens-nil ts))
 
--- a part with the space behind it
+-- a part with the space after it
 gapped_free : (a : List ℕ) (p : Printed) (ts : List Token) → p.text ≡ a → Reads p.text ts → Free (gapped a p).text ts
 unfolding ◌⊕◌ plain_text
 gapped_free [] p ts e f = let h = empty_tokens ts (subst (λ (w : List ℕ). Reads w ts) e f) in rw (e, h) (record { at = λ rest. refl })

@@ -8,7 +8,8 @@ use Rattle.vast_literal.specs.WellFormedFile.{is_well_formed_file}
 use Rattle.vast_literal.specs.Grammar.{DerivesExpression}
 use Rattle.vast_literal.specs.FileGrammar.{DerivesFile}
 use Rattle.vast_literal.specs.declared.error.VastFault.{VastFault}
-use Rattle.vast_literal.proofs.DerivedOnce.{expression_once, file_once}
+use Rattle.vast_expressions.proofs.DerivedOnce.{expression_once}
+use Rattle.vast_rows.proofs.OneEach.{file_once}
 use Rattle.vast_core.specs.declared.handle.Expr.{Expr}
 use Rattle.vast_core.specs.Bench.{Bench, OwnsExpr, AreWellFormed, tree_of}
 use Rattle.vast_core.proofs.WellFormed.{well_formed}

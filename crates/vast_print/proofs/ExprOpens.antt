@@ -25,7 +25,7 @@ use Rattle.vast_print.proofs.FaultLaws.{elided_text}
 use Rattle.vast_print.proofs.TestLaws.{bare_same}
 use Rattle.vast_literal.specs.NormalExpr.{unary_operator_token}
 
--- an expression that may stand bare behind a unary operator
+-- an expression that may stand bare after a unary operator
 abbrev pub is_tight : ExprTree → Bool
 is_tight e = not (select_wraps e)
 
@@ -178,7 +178,7 @@ type_opens tight (PackedTree t ds) p h c = absurd (cc c)
 type_opens tight (UnpackedTree t ds) p h c = absurd (cc c)
 type_opens tight MissingType p h c = absurd (cc c)
 
--- What the text of an expression begins with; bare behind a unary operator no operator comes first.
+-- What the text of an expression begins with; bare after a unary operator no operator comes first.
 pub opens_text : (tight : Bool) (e : ExprTree) → is_plain e ≡ true → is_well_formed e ≡ true → (tight ≡ true → is_tight e ≡ true) → opens tight (expr_text e).text ≡ true
 unfolding expr_text plain_text
 opens_text tight (NameTree n type) h w l = name_opens tight n h

@@ -1,5 +1,5 @@
 pub mod Lines
-pub mod InkLaws
+pub mod OutputLaws
 pub mod NumberLaws
 pub mod TextLaws
 pub mod DeclarationLaws

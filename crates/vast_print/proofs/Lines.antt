@@ -7,18 +7,18 @@ use Rattle.vast_print.specs.declared.refusal.Refusal.{Refusal}
 use Rattle.vast_print.specs.Printed.{first_fault}
 use Rattle.vast_print.specs.Page.{Line, print_lines, indent, one_line, inner_lines, lead_lines, beside_lines, written_lines, note, commented_lines}
 use Rattle.vast_print.specs.Draft.{Draft, whole}
-use Rattle.vast_print.specs.Ink.{Ink, Wet, Stopped, margin, word, next, stop, hang_lines, pour_lines}
+use Rattle.vast_print.specs.Output.{Output, Unstopped, Stopped, margin, word, next, stop, indented_lines, inline_lines}
 
-pub word-word : (k : Ink) (a b : List ℕ) → word (word k a) b ≡ word k (a ++ b)
+pub word-word : (k : Output) (a b : List ℕ) → word (word k a) b ≡ word k (a ++ b)
 unfolding word
-word-word (Wet k) [] b = refl
-word-word (Wet k) (c ∷ w) [] = ap (λ v. Wet (record { text = k.text ++ (margin k ++ (c ∷ v)); depth = k.depth; fresh = false; begun = k.begun })) (sym (append-nil w))
-word-word (Wet k) (c ∷ w) (d ∷ v) = simp append_assoc
+word-word (Unstopped k) [] b = refl
+word-word (Unstopped k) (c ∷ w) [] = ap (λ v. Unstopped (record { text = k.text ++ (margin k ++ (c ∷ v)); depth = k.depth; fresh = false; begun = k.begun })) (sym (append-nil w))
+word-word (Unstopped k) (c ∷ w) (d ∷ v) = simp append_assoc
 word-word (Stopped r) a b = refl
 
-pub word-nothing : (k : Ink) → word k [] ≡ k
+pub word-nothing : (k : Output) → word k [] ≡ k
 unfolding word
-word-nothing (Wet k) = refl
+word-nothing (Unstopped k) = refl
 word-nothing (Stopped r) = refl
 
 -- a refusal stays
@@ -36,79 +36,79 @@ unfolding stop
 stop-stopped r None = refl
 stop-stopped r (Some s) = refl
 
-pub stop-some : (k : Draft) (r : Refusal) → stop (Wet k) (Some r) ≡ Stopped r
+pub stop-some : (k : Draft) (r : Refusal) → stop (Unstopped k) (Some r) ≡ Stopped r
 unfolding stop
 stop-some k r = refl
 
-pub stop-stop : (k : Ink) (f g : Option Refusal) → stop (stop k f) g ≡ stop k (first_fault f g)
+pub stop-stop : (k : Output) (f g : Option Refusal) → stop (stop k f) g ≡ stop k (first_fault f g)
 unfolding stop
 stop-stop k None g = refl
-stop-stop (Wet k) (Some r) None = refl
-stop-stop (Wet k) (Some r) (Some s) = refl
+stop-stop (Unstopped k) (Some r) None = refl
+stop-stop (Unstopped k) (Some r) (Some s) = refl
 stop-stop (Stopped r) (Some s) None = refl
 stop-stop (Stopped r) (Some s) (Some t) = refl
 
-pub word-stop : (k : Ink) (f : Option Refusal) (w : List ℕ) → word (stop k f) w ≡ stop (word k w) f
+pub word-stop : (k : Output) (f : Option Refusal) (w : List ℕ) → word (stop k f) w ≡ stop (word k w) f
 unfolding word stop
 word-stop k None w = refl
-word-stop (Wet k) (Some r) [] = refl
-word-stop (Wet k) (Some r) (c ∷ w) = refl
+word-stop (Unstopped k) (Some r) [] = refl
+word-stop (Unstopped k) (Some r) (c ∷ w) = refl
 word-stop (Stopped s) (Some r) w = refl
 
-pub next-stop : (d : ℕ) (k : Ink) (f : Option Refusal) → next d (stop k f) ≡ stop (next d k) f
+pub next-stop : (d : ℕ) (k : Output) (f : Option Refusal) → next d (stop k f) ≡ stop (next d k) f
 unfolding next stop
 next-stop d k None = refl
-next-stop d (Wet k) (Some r) = refl
+next-stop d (Unstopped k) (Some r) = refl
 next-stop d (Stopped s) (Some r) = refl
 
-pub hang-lines-stop : (d : ℕ) (k : Ink) (f : Option Refusal) (p : List Line) → hang_lines d (stop k f) p ≡ stop (hang_lines d k p) f
-unfolding hang_lines
-hang-lines-stop d k f [] = refl
-hang-lines-stop d k f (l ∷ p) =
-    ap (λ x. hang_lines d (word x l.bytes) p) (next-stop (d + l.depth) k f)
-    ∙ (ap (λ x. hang_lines d x p) (word-stop (next (d + l.depth) k) f l.bytes) ∙ hang-lines-stop d (word (next (d + l.depth) k) l.bytes) f p)
+pub indented-lines-stop : (d : ℕ) (k : Output) (f : Option Refusal) (p : List Line) → indented_lines d (stop k f) p ≡ stop (indented_lines d k p) f
+unfolding indented_lines
+indented-lines-stop d k f [] = refl
+indented-lines-stop d k f (l ∷ p) =
+    ap (λ x. indented_lines d (word x l.bytes) p) (next-stop (d + l.depth) k f)
+    ∙ (ap (λ x. indented_lines d x p) (word-stop (next (d + l.depth) k) f l.bytes) ∙ indented-lines-stop d (word (next (d + l.depth) k) l.bytes) f p)
 
-pub pour-lines-stop : (d : ℕ) (k : Ink) (f : Option Refusal) (p : List Line) → pour_lines d (stop k f) p ≡ stop (pour_lines d k p) f
-unfolding pour_lines
-pour-lines-stop d k f [] = refl
-pour-lines-stop d k f (l ∷ p) = ap (λ x. hang_lines d x p) (word-stop k f l.bytes) ∙ hang-lines-stop d (word k l.bytes) f p
+pub inline-lines-stop : (d : ℕ) (k : Output) (f : Option Refusal) (p : List Line) → inline_lines d (stop k f) p ≡ stop (inline_lines d k p) f
+unfolding inline_lines
+inline-lines-stop d k f [] = refl
+inline-lines-stop d k f (l ∷ p) = ap (λ x. indented_lines d x p) (word-stop k f l.bytes) ∙ indented-lines-stop d (word k l.bytes) f p
 
-pub hang-lines-stopped : (d : ℕ) (r : Refusal) (p : List Line) → hang_lines d (Stopped r) p ≡ Stopped r
-unfolding hang_lines
-hang-lines-stopped d r [] = refl
-hang-lines-stopped d r (l ∷ p) = rw (next-stopped (d + l.depth) r, word-stopped r l.bytes) (hang-lines-stopped d r p)
+pub indented-lines-stopped : (d : ℕ) (r : Refusal) (p : List Line) → indented_lines d (Stopped r) p ≡ Stopped r
+unfolding indented_lines
+indented-lines-stopped d r [] = refl
+indented-lines-stopped d r (l ∷ p) = rw (next-stopped (d + l.depth) r, word-stopped r l.bytes) (indented-lines-stopped d r p)
 
-pub pour-lines-stopped : (d : ℕ) (r : Refusal) (p : List Line) → pour_lines d (Stopped r) p ≡ Stopped r
-unfolding pour_lines
-pour-lines-stopped d r [] = refl
-pour-lines-stopped d r (l ∷ p) = rw (word-stopped r l.bytes) (hang-lines-stopped d r p)
+pub inline-lines-stopped : (d : ℕ) (r : Refusal) (p : List Line) → inline_lines d (Stopped r) p ≡ Stopped r
+unfolding inline_lines
+inline-lines-stopped d r [] = refl
+inline-lines-stopped d r (l ∷ p) = rw (word-stopped r l.bytes) (indented-lines-stopped d r p)
 
--- lines below lines, and lines that go on behind lines
+-- lines below lines, and lines that go on after lines
 
-pub hang-lines-above : (d : ℕ) (k : Ink) (p q : List Line) → hang_lines d k (p ++ q) ≡ hang_lines d (hang_lines d k p) q
-unfolding hang_lines
-hang-lines-above d k [] q = refl
-hang-lines-above d k (l ∷ p) q = hang-lines-above d (word (next (d + l.depth) k) l.bytes) p q
+pub indented-lines-above : (d : ℕ) (k : Output) (p q : List Line) → indented_lines d k (p ++ q) ≡ indented_lines d (indented_lines d k p) q
+unfolding indented_lines
+indented-lines-above d k [] q = refl
+indented-lines-above d k (l ∷ p) q = indented-lines-above d (word (next (d + l.depth) k) l.bytes) p q
 
-pub hang-lines-on : (d : ℕ) (k : Ink) (l : Line) (p q : List Line) → hang_lines d k (beside_lines (l ∷ p) q) ≡ pour_lines d (hang_lines d k (l ∷ p)) q
-unfolding hang_lines pour_lines beside_lines
-hang-lines-on d k l [] [] = refl
-hang-lines-on d k l [] (m ∷ q) = ap (λ x. hang_lines d x q) (sym (word-word (next (d + l.depth) k) l.bytes m.bytes))
-hang-lines-on d k l (n ∷ p) q = hang-lines-on d (word (next (d + l.depth) k) l.bytes) n p q
+pub indented-lines-on : (d : ℕ) (k : Output) (l : Line) (p q : List Line) → indented_lines d k (beside_lines (l ∷ p) q) ≡ inline_lines d (indented_lines d k (l ∷ p)) q
+unfolding indented_lines inline_lines beside_lines
+indented-lines-on d k l [] [] = refl
+indented-lines-on d k l [] (m ∷ q) = ap (λ x. indented_lines d x q) (sym (word-word (next (d + l.depth) k) l.bytes m.bytes))
+indented-lines-on d k l (n ∷ p) q = indented-lines-on d (word (next (d + l.depth) k) l.bytes) n p q
 
-pub pour-lines-beside : (d : ℕ) (k : Ink) (p q : List Line) → pour_lines d k (beside_lines p q) ≡ pour_lines d (pour_lines d k p) q
-unfolding pour_lines beside_lines hang_lines
-pour-lines-beside d k [] q = refl
-pour-lines-beside d k (l ∷ []) [] = refl
-pour-lines-beside d k (l ∷ []) (m ∷ q) = ap (λ x. hang_lines d x q) (sym (word-word k l.bytes m.bytes))
-pour-lines-beside d k (l ∷ m ∷ p) q = hang-lines-on d (word k l.bytes) m p q
+pub inline-lines-beside : (d : ℕ) (k : Output) (p q : List Line) → inline_lines d k (beside_lines p q) ≡ inline_lines d (inline_lines d k p) q
+unfolding inline_lines beside_lines indented_lines
+inline-lines-beside d k [] q = refl
+inline-lines-beside d k (l ∷ []) [] = refl
+inline-lines-beside d k (l ∷ []) (m ∷ q) = ap (λ x. indented_lines d x q) (sym (word-word k l.bytes m.bytes))
+inline-lines-beside d k (l ∷ m ∷ p) q = indented-lines-on d (word k l.bytes) m p q
 
-pub hang-lines-inner : (d : ℕ) (k : Ink) (p : List Line) → hang_lines d k (inner_lines p) ≡ hang_lines (d + 1) k p
-unfolding hang_lines inner_lines
-hang-lines-inner d k [] = refl
-hang-lines-inner d k (l ∷ p) =
+pub indented-lines-inner : (d : ℕ) (k : Output) (p : List Line) → indented_lines d k (inner_lines p) ≡ indented_lines (d + 1) k p
+unfolding indented_lines inner_lines
+indented-lines-inner d k [] = refl
+indented-lines-inner d k (l ∷ p) =
     let e : d + suc l.depth ≡ d + 1 + l.depth = omega arith
-    in hang-lines-inner d (word (next (d + suc l.depth) k) l.bytes) p ∙ ap (λ x. hang_lines (d + 1) (word (next x k) l.bytes) p) e
+    in indented-lines-inner d (word (next (d + suc l.depth) k) l.bytes) p ∙ ap (λ x. indented_lines (d + 1) (word (next x k) l.bytes) p) e
 
 -- texts with line breaks: their lines stand at no depth of their own
 
@@ -129,17 +129,17 @@ Flush-written (c ∷ w) = go (eqb c 10)
     go true = flush [] (written_lines w)
     go false = Flush-beside (c ∷ []) (written_lines w)
 
-pub hang-flush : (d : ℕ) (k : Ink) (p : List Line) → Flush p → hang_lines d k p ≡ pour_lines d (next d k) p
-unfolding hang_lines pour_lines
-hang-flush d k _ (flush w p) = ap (λ x. hang_lines d (word (next x k) w) p) (add-zero d)
+pub indented-flush : (d : ℕ) (k : Output) (p : List Line) → Flush p → indented_lines d k p ≡ inline_lines d (next d k) p
+unfolding indented_lines inline_lines
+indented-flush d k _ (flush w p) = ap (λ x. indented_lines d (word (next x k) w) p) (add-zero d)
 
-pub lead-flush : (d : ℕ) (k : Ink) (p : List Line) → Flush p → hang_lines d k (lead_lines p) ≡ pour_lines d (next (d + 1) k) p
-unfolding hang_lines pour_lines lead_lines
+pub lead-flush : (d : ℕ) (k : Output) (p : List Line) → Flush p → indented_lines d k (lead_lines p) ≡ inline_lines d (next (d + 1) k) p
+unfolding indented_lines inline_lines lead_lines
 lead-flush d k _ (flush w p) = refl
 
-pub hang-flush-on : (d : ℕ) (k : Ink) (p q : List Line) → Flush p → hang_lines d k (beside_lines p q) ≡ pour_lines d (pour_lines d (next d k) p) q
-hang-flush-on d k _ q (flush w p) =
-    hang-lines-on d k (record { depth = 0; bytes = w }) p q ∙ ap (λ x. pour_lines d x q) (hang-flush d k _ (flush w p))
+pub indented-flush-on : (d : ℕ) (k : Output) (p q : List Line) → Flush p → indented_lines d k (beside_lines p q) ≡ inline_lines d (inline_lines d (next d k) p) q
+indented-flush-on d k _ q (flush w p) =
+    indented-lines-on d k (record { depth = 0; bytes = w }) p q ∙ ap (λ x. inline_lines d x q) (indented-flush d k _ (flush w p))
 
 beside-cons : (c : ℕ) (p q : List Line) → Flush p → beside_lines (beside_lines (one_line (c ∷ [])) p) q ≡ beside_lines (one_line (c ∷ [])) (beside_lines p q)
 unfolding beside_lines
@@ -155,7 +155,7 @@ beside-empty : (q : List Line) → Flush q → q ≡ beside_lines (one_line []) 
 unfolding beside_lines
 beside-empty _ (flush w p) = refl
 
--- a text behind a text goes on behind its last line
+-- a text after a text goes on after its last line
 pub written-append : (a b : List ℕ) → written_lines (a ++ b) ≡ beside_lines (written_lines a) (written_lines b)
 unfolding written_lines
 written-append [] b = beside-empty (written_lines b) (Flush-written b)
@@ -236,7 +236,7 @@ uncut bs h = record { at = split_parts 10 bs None h (lit< tt) }
 
 -- the whole text
 
-whole-line : (d : ℕ) (k : Draft) (w : List ℕ) → (j : Draft) × (word (next d (Wet k)) w ≡ Wet j) × (whole j ≡ whole k ++ (indent d w ++ (w ++ (10 ∷ []))))
+whole-line : (d : ℕ) (k : Draft) (w : List ℕ) → (j : Draft) × (word (next d (Unstopped k)) w ≡ Unstopped j) × (whole j ≡ whole k ++ (indent d w ++ (w ++ (10 ∷ []))))
 unfolding whole word next
 whole-line d k [] = (record { text = cond k.begun (k.text ++ 10 ∷ []) k.text; depth = d; fresh = true; begun = true }, refl, refl)
 whole-line d k (c ∷ w) = (
@@ -245,17 +245,17 @@ whole-line d k (c ∷ w) = (
   simp append_assoc,
 )
 
--- lines hung on a draft print behind it
-pub whole-print : (k : Draft) (p : List Line) → (j : Draft) × (hang_lines 0 (Wet k) p ≡ Wet j) × (whole j ≡ whole k ++ print_lines p)
-unfolding hang_lines print_lines
+-- lines hung on a draft print after it
+pub whole-print : (k : Draft) (p : List Line) → (j : Draft) × (indented_lines 0 (Unstopped k) p ≡ Unstopped j) × (whole j ≡ whole k ++ print_lines p)
+unfolding indented_lines print_lines
 whole-print k [] = (k, refl, sym (append-nil (whole k)))
 whole-print k (l ∷ p) =
     let a = whole-line l.depth k l.bytes in
     let b = whole-print a.0 p in
     let e : 0 + l.depth ≡ l.depth = omega arith in
-    (b.0, ap (λ x. hang_lines 0 (word (next x (Wet k)) l.bytes) p) e ∙ (ap (λ x. hang_lines 0 x p) a.1 ∙ b.1), b.2 ∙ (ap (λ x. x ++ print_lines p) a.2 ∙ simp append_assoc))
+    (b.0, ap (λ x. indented_lines 0 (word (next x (Unstopped k)) l.bytes) p) e ∙ (ap (λ x. indented_lines 0 x p) a.1 ∙ b.1), b.2 ∙ (ap (λ x. x ++ print_lines p) a.2 ∙ simp append_assoc))
 
--- an ink at no depth: its text, and whether its last line is empty
+-- an output at no depth: its text, and whether its last line is empty
 abbrev pub flat : List ℕ → Bool → Draft
 flat t f = record { text = t; depth = 0; fresh = f; begun = true }
 
@@ -264,22 +264,22 @@ no-margin t true = refl
 no-margin t false = refl
 
 -- at no depth a text is written as it is, its line breaks too
-pub pour-flat : (t : List ℕ) (f : Bool) (w : List ℕ) → (g : Bool) × (pour_lines 0 (Wet (flat t f)) (written_lines w) ≡ Wet (flat (t ++ w) g))
-unfolding pour_lines written_lines hang_lines word next
-pour-flat t f [] = (f, ap (λ x. Wet (flat x f)) (sym (append-nil t)))
-pour-flat t f (c ∷ w) = go (eqb c 10) refl (λ s h. pour-flat s h w)
+pub inline-flat : (t : List ℕ) (f : Bool) (w : List ℕ) → (g : Bool) × (inline_lines 0 (Unstopped (flat t f)) (written_lines w) ≡ Unstopped (flat (t ++ w) g))
+unfolding inline_lines written_lines indented_lines word next
+inline-flat t f [] = (f, ap (λ x. Unstopped (flat x f)) (sym (append-nil t)))
+inline-flat t f (c ∷ w) = go (eqb c 10) refl (λ s h. inline-flat s h w)
   where
     go :
         (b : Bool) → eqb c 10 ≡ b →
-        ((s : List ℕ) (h : Bool) → (g : Bool) × (pour_lines 0 (Wet (flat s h)) (written_lines w) ≡ Wet (flat (s ++ w) g))) →
-        (g : Bool) × (pour_lines 0 (Wet (flat t f)) (cond b (one_line [] ++ written_lines w) (beside_lines (one_line (c ∷ [])) (written_lines w))) ≡ Wet (flat (t ++ (c ∷ w)) g))
+        ((s : List ℕ) (h : Bool) → (g : Bool) × (inline_lines 0 (Unstopped (flat s h)) (written_lines w) ≡ Unstopped (flat (s ++ w) g))) →
+        (g : Bool) × (inline_lines 0 (Unstopped (flat t f)) (cond b (one_line [] ++ written_lines w) (beside_lines (one_line (c ∷ [])) (written_lines w))) ≡ Unstopped (flat (t ++ (c ∷ w)) g))
     go true e ih =
         let h = ih (t ++ (10 ∷ [])) true in
         let c10 : 10 ≡ c = sym (eqb-true c 10 e) in
         let s : (t ++ (10 ∷ [])) ++ w ≡ t ++ (c ∷ w) = append_assoc t (10 ∷ []) w ∙ ap (λ x. t ++ (x ∷ w)) c10 in
-        (h.0, hang-flush 0 (Wet (flat t f)) (written_lines w) (Flush-written w) ∙ (h.1 ∙ ap (λ x. Wet (flat x h.0)) s))
+        (h.0, indented-flush 0 (Unstopped (flat t f)) (written_lines w) (Flush-written w) ∙ (h.1 ∙ ap (λ x. Unstopped (flat x h.0)) s))
     go false e ih =
         let h = ih (t ++ (c ∷ [])) false in
         let s : (t ++ (c ∷ [])) ++ w ≡ t ++ (c ∷ w) = append_assoc t (c ∷ []) w in
-        let m : word (Wet (flat t f)) (c ∷ []) ≡ Wet (flat (t ++ (c ∷ [])) false) = ap (λ x. Wet (flat (t ++ (x ++ (c ∷ []))) false)) (no-margin t f) in
-        (h.0, pour-lines-beside 0 (Wet (flat t f)) (one_line (c ∷ [])) (written_lines w) ∙ (ap (λ x. pour_lines 0 x (written_lines w)) m ∙ (h.1 ∙ ap (λ x. Wet (flat x h.0)) s)))
+        let m : word (Unstopped (flat t f)) (c ∷ []) ≡ Unstopped (flat (t ++ (c ∷ [])) false) = ap (λ x. Unstopped (flat (t ++ (x ++ (c ∷ []))) false)) (no-margin t f) in
+        (h.0, inline-lines-beside 0 (Unstopped (flat t f)) (one_line (c ∷ [])) (written_lines w) ∙ (ap (λ x. inline_lines 0 x (written_lines w)) m ∙ (h.1 ∙ ap (λ x. Unstopped (flat x h.0)) s)))

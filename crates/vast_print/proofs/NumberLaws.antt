@@ -6,10 +6,10 @@ use Rattle.std.proofs.lemmas.Fmt.{decimal_digit, decimal_step}
 use Rattle.vast_print.specs.Printed.{plain_text}
 use Rattle.vast_print.specs.Page.{written}
 use Rattle.vast_print.specs.Draft.{Draft}
-use Rattle.vast_print.specs.Ink.{Ink, Wet, word, pour, onto, margin}
+use Rattle.vast_print.specs.Output.{Output, Unstopped, word, inline, append_word, margin}
 use Rattle.vast_print.specs.Internal.Words.{has_text}
 use Rattle.vast_print.proofs.Lines.{unbroken, eqb-false}
-use Rattle.vast_print.proofs.InkLaws.{pour-word}
+use Rattle.vast_print.proofs.OutputLaws.{inline-word}
 
 glyph-unbroken : (m : ℕ) (acc : List ℕ) → unbroken acc ≡ true → unbroken (digit_glyph false m ∷ acc) ≡ true
 glyph-unbroken m acc h = go (nat_lt m 10)
@@ -63,26 +63,26 @@ signed-some : (z : ℤ) → has_text (signed_decimal z) ≡ true
 signed-some (pos n) = decimal-some n
 signed-some (negsuc n) = refl
 
-word-some : (k : Draft) (w : List ℕ) → has_text w ≡ true → word (Wet k) w ≡ Wet (onto k w)
+word-some : (k : Draft) (w : List ℕ) → has_text w ≡ true → word (Unstopped k) w ≡ Unstopped (append_word k w)
 unfolding word
 word-some k [] h = absurd (cc (h))
 word-some k (c ∷ w) h = refl
 
-pub word-number : (k : Draft) (z : ℤ) → word (Wet k) (signed_decimal z) ≡ Wet (onto k (signed_decimal z))
+pub word-number : (k : Draft) (z : ℤ) → word (Unstopped k) (signed_decimal z) ≡ Unstopped (append_word k (signed_decimal z))
 word-number k z = word-some k (signed_decimal z) (signed-some z)
 
--- a number behind the spaces of its line
-pub onto-number : (k j : Draft) (z : ℤ) (u : List ℕ) → j ≡ onto k [] → u ≡ j.text ++ signed_decimal z →
-    word (Wet k) (signed_decimal z) ≡ Wet (record { text = u; depth = j.depth; fresh = j.fresh; begun = j.begun })
-onto-number k j z u e f =
+-- a number after the spaces of its line
+pub append_word-number : (k j : Draft) (z : ℤ) (u : List ℕ) → j ≡ append_word k [] → u ≡ j.text ++ signed_decimal z →
+    word (Unstopped k) (signed_decimal z) ≡ Unstopped (record { text = u; depth = j.depth; fresh = j.fresh; begun = j.begun })
+append_word-number k j z u e f =
     let a : j.text ++ signed_decimal z ≡ k.text ++ (margin k ++ signed_decimal z) =
     ap (λ (x : Draft). x.text ++ signed_decimal z) e ∙ simp (append_assoc, append-nil) in
     let b : u ≡ k.text ++ (margin k ++ signed_decimal z) = f ∙ a in
     word-number k z
     ∙ sym (rw (b, e) refl)
 
-pub pour-number : (d : ℕ) (k : Ink) (z : ℤ) → pour d k (written (plain_text (signed_decimal z))) ≡ word k (signed_decimal z)
-pour-number d k z = pour-word d k (signed_decimal z) (signed-unbroken z)
+pub inline-number : (d : ℕ) (k : Output) (z : ℤ) → inline d k (written (plain_text (signed_decimal z))) ≡ word k (signed_decimal z)
+inline-number d k z = inline-word d k (signed_decimal z) (signed-unbroken z)
 
 -- short numbers
 

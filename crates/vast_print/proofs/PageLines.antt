@@ -16,13 +16,13 @@ flat [] = []
 flat (l ∷ p) = l.bytes ++ (10 ∷ flat p)
 
 -- the same without the last line break
-abbrev pub onto : List ℕ → List Line → List ℕ
-onto w [] = w
-onto w (l ∷ p) = w ++ (10 ∷ onto l.bytes p)
+abbrev pub append_word : List ℕ → List Line → List ℕ
+append_word w [] = w
+append_word w (l ∷ p) = w ++ (10 ∷ append_word l.bytes p)
 
 unfoldable pub body : List Line → List ℕ
 body [] = []
-body (l ∷ p) = onto l.bytes p
+body (l ∷ p) = append_word l.bytes p
 
 -- bytes
 
@@ -36,29 +36,29 @@ unfolding flat inner_lines
 flat-inner [] = refl
 flat-inner (l ∷ p) = ap (λ x. l.bytes ++ (10 ∷ x)) (flat-inner p)
 
-flat-onto : (l : Line) (p : List Line) → flat (l ∷ p) ≡ onto l.bytes p ++ (10 ∷ [])
+flat-append_word : (l : Line) (p : List Line) → flat (l ∷ p) ≡ append_word l.bytes p ++ (10 ∷ [])
 unfolding flat
-flat-onto l [] = refl
-flat-onto l (m ∷ p) = rw (append_assoc) (ap (λ x. l.bytes ++ (10 ∷ x)) (flat-onto m p))
+flat-append_word l [] = refl
+flat-append_word l (m ∷ p) = rw (append_assoc) (ap (λ x. l.bytes ++ (10 ∷ x)) (flat-append_word m p))
 
-onto-append : (v w : List ℕ) (q : List Line) → onto (v ++ w) q ≡ v ++ onto w q
-onto-append v w [] = refl
-onto-append v w (m ∷ q) = append_assoc v w (10 ∷ onto m.bytes q)
+append_word-append : (v w : List ℕ) (q : List Line) → append_word (v ++ w) q ≡ v ++ append_word w q
+append_word-append v w [] = refl
+append_word-append v w (m ∷ q) = append_assoc v w (10 ∷ append_word m.bytes q)
 
-onto-beside : (w : List ℕ) (m : Line) (p q : List Line) → onto w (beside_lines (m ∷ p) q) ≡ w ++ (10 ∷ body (beside_lines (m ∷ p) q))
+append_word-beside : (w : List ℕ) (m : Line) (p q : List Line) → append_word w (beside_lines (m ∷ p) q) ≡ w ++ (10 ∷ body (beside_lines (m ∷ p) q))
 unfolding body beside_lines
-onto-beside w m [] [] = refl
-onto-beside w m [] (n ∷ q) = refl
-onto-beside w m (n ∷ p) q = refl
+append_word-beside w m [] [] = refl
+append_word-beside w m [] (n ∷ q) = refl
+append_word-beside w m (n ∷ p) q = refl
 
 -- two pages side by side
 pub body-beside : (p q : List Line) → body (beside_lines p q) ≡ body p ++ body q
 unfolding body beside_lines
 body-beside [] q = refl
 body-beside (l ∷ []) [] = sym (append-nil l.bytes)
-body-beside (l ∷ []) (m ∷ q) = onto-append l.bytes m.bytes q
+body-beside (l ∷ []) (m ∷ q) = append_word-append l.bytes m.bytes q
 body-beside (l ∷ m ∷ p) q =
-    onto-beside l.bytes m p q ∙ (ap (λ x. l.bytes ++ (10 ∷ x)) (body-beside (m ∷ p) q) ∙ sym (append_assoc l.bytes (10 ∷ onto m.bytes p) (body q)))
+    append_word-beside l.bytes m p q ∙ (ap (λ x. l.bytes ++ (10 ∷ x)) (body-beside (m ∷ p) q) ∙ sym (append_assoc l.bytes (10 ∷ append_word m.bytes p) (body q)))
 
 -- tokens: the indentation brings none
 
@@ -67,7 +67,7 @@ unfolding scan
 spaces_scan zero rest = refl
 spaces_scan (suc n) rest = spaces_scan n rest
 
--- behind a one_line break nothing is pending
+-- after a one_line break nothing is pending
 break_gap : (s : State) → (step s 10).state ≡ Gap
 break_gap (InSystemWord []) = refl
 break_gap (InSystemWord (c ∷ w)) = refl
@@ -131,14 +131,14 @@ line_break = record { free = record { at = λ rest. refl }; stop = λ rest. refl
 flat-body : (p : List Line) → filled p ≡ true → flat p ≡ body p ++ (10 ∷ [])
 unfolding body
 flat-body [] h = cc
-flat-body (l ∷ p) h = flat-onto l p
+flat-body (l ∷ p) h = flat-append_word l p
 
-pub hangs_lines : {p : List Line} {ts : List Token} → Hangs p ts → Lines p ts
-hangs_lines {p} {ts} f = record { at = rw (flat-body p f.some) (rw append-nil at (reads_end f.at line_break)) }
+pub lines_are_indented : {p : List Line} {ts : List Token} → Hangs p ts → Lines p ts
+lines_are_indented {p} {ts} f = record { at = rw (flat-body p f.some) (rw append-nil at (reads_end f.at line_break)) }
 
-pub line_hangs : {w : List ℕ} {ts : List Token} → Reads w ts → Hangs (one_line w) ts
+pub line_is_indented : {w : List ℕ} {ts : List Token} → Reads w ts → Hangs (one_line w) ts
 unfolding body
-line_hangs f = record { some = refl; at = f }
+line_is_indented f = record { some = refl; at = f }
 
 filled-beside : (p q : List Line) → filled p ≡ true → filled (beside_lines p q) ≡ true
 unfolding beside_lines
@@ -186,8 +186,8 @@ body-written (c ∷ w) = go (eqb c 10) refl (body-written w)
     go true e h = rw (eqb-true c 10 e) (body-break (written_lines w) (filled-written w) ∙ ap (λ x. 10 ∷ x) h)
     go false e h = body-beside (one_line (c ∷ [])) (written_lines w) ∙ ap (λ x. c ∷ x) h
 
-pub written_hangs : {w : List ℕ} {ts : List Token} → Reads w ts → Hangs (written_lines w) ts
-written_hangs {w} f = record { some = filled-written w; at = rw (body-written w) f }
+pub written_is_indented : {w : List ℕ} {ts : List Token} → Reads w ts → Hangs (written_lines w) ts
+written_is_indented {w} f = record { some = filled-written w; at = rw (body-written w) f }
 
 pub flat-lead : (p : List Line) → flat (lead_lines p) ≡ flat p
 unfolding flat lead_lines
@@ -203,10 +203,10 @@ unfolding tokens scan
 print_tokens {p} {ts} f = rw append-nil at ((print_free f).at []) ∙ add_tokens-nil ts
 
 -- lines, then a page whose last line may go on
-onto-body : (w : List ℕ) (q : List Line) → filled q ≡ true → onto w q ≡ w ++ (10 ∷ body q)
+append_word-body : (w : List ℕ) (q : List Line) → filled q ≡ true → append_word w q ≡ w ++ (10 ∷ body q)
 unfolding body
-onto-body w [] h = absurd (cc h)
-onto-body w (m ∷ q) h = refl
+append_word-body w [] h = absurd (cc h)
+append_word-body w (m ∷ q) h = refl
 
 filled-above : (p q : List Line) → filled q ≡ true → filled (p ++ q) ≡ true
 filled-above [] q h = h
@@ -215,12 +215,12 @@ filled-above (l ∷ p) q h = refl
 body-above : (p q : List Line) → filled q ≡ true → body (p ++ q) ≡ flat p ++ body q
 unfolding body flat
 body-above [] q h = refl
-body-above (l ∷ p) q h = onto-body l.bytes (p ++ q) (filled-above p q h) ∙ (ap (λ x. l.bytes ++ (10 ∷ x)) (body-above p q h) ∙ sym (append_assoc l.bytes (10 ∷ flat p) (body q)))
+body-above (l ∷ p) q h = append_word-body l.bytes (p ++ q) (filled-above p q h) ∙ (ap (λ x. l.bytes ++ (10 ∷ x)) (body-above p q h) ∙ sym (append_assoc l.bytes (10 ∷ flat p) (body q)))
 
-pub above_hangs : {p q : List Line} {ts us : List Token} → Lines p ts → Hangs q us → Hangs (p ++ q) (ts ++ us)
-above_hangs {p} {q} f g = record { some = filled-above p q g.some; at = rw (body-above p q g.some) (free_reads f.at g.at) }
+pub above_is_indented : {p q : List Line} {ts us : List Token} → Lines p ts → Hangs q us → Hangs (p ++ q) (ts ++ us)
+above_is_indented {p} {q} f g = record { some = filled-above p q g.some; at = rw (body-above p q g.some) (free_reads f.at g.at) }
 
--- a page that goes on behind another
+-- a page that goes on after another
 pub record Behind (q : List Line) (us : List Token) : Type 0 where
   pub at : (p : List Line) (ts : List Token) → Hangs p ts → Hangs (beside_lines p q) (ts ++ us)
 
@@ -233,14 +233,14 @@ beside-none (l ∷ m ∷ p) = ap (λ x. l ∷ x) (beside-none (m ∷ p))
 pub behind_none : Behind [] []
 behind_none = record { at = λ p ts h. rw (beside-none p, append-nil) h }
 
--- a page whose text brings its tokens, and one that hangs on it
-pub free_hangs : (p : List Line) {q : List Line} {ts us : List Token} → filled p ≡ true → Free (body p) ts → Hangs q us → Hangs (beside_lines p q) (ts ++ us)
-free_hangs p {q} h f g = record { some = filled-beside p q h; at = rw (body-beside p q) (free_reads f g.at) }
+-- a page whose text brings its tokens, and one that is_indented on it
+pub free_is_indented : (p : List Line) {q : List Line} {ts us : List Token} → filled p ≡ true → Free (body p) ts → Hangs q us → Hangs (beside_lines p q) (ts ++ us)
+free_is_indented p {q} h f g = record { some = filled-beside p q h; at = rw (body-beside p q) (free_reads f g.at) }
 
--- a page whose text stops what stands before it, and one that hangs on it
+-- a page whose text stops what stands before it, and one that is_indented on it
 pub behind_divides : (m : List Line) {q : List Line} {ts us : List Token} → Divides (body m) ts → Hangs q us → Behind (beside_lines m q) (ts ++ us)
 behind_divides m {q} f g = record { at = λ p vs h. record { some = filled-beside p (beside_lines m q) h.some; at = rw (body-beside p (beside_lines m q), body-beside m q) (reads_sep h.at f g.at) } }
 
 -- the same with a page that may be nothing behind it
-pub behind_hangs : {q : List Line} {p : List Line} {ts us : List Token} → Hangs p ts → Behind q us → Hangs (beside_lines p q) (ts ++ us)
-behind_hangs {p = p} {ts = ts} f g = g.at p ts f
+pub behind_is_indented : {q : List Line} {p : List Line} {ts us : List Token} → Hangs p ts → Behind q us → Hangs (beside_lines p q) (ts ++ us)
+behind_is_indented {p = p} {ts = ts} f g = g.at p ts f

@@ -14,7 +14,7 @@ use Rattle.vast_print.specs.Printed.{Printed, plain_text}
 use Rattle.vast_print.specs.Page.{Line, Page, one_line, beside_lines, written_lines, no_lines, line, inner, lead, above, beside, written, commented, commented_lines, note}
 use Rattle.vast_print.specs.Statements.{begin_end}
 use Rattle.vast_print.proofs.FaultLaws.{first_none}
-use Rattle.vast_print.proofs.PageLines.{flat, body, Lines, Hangs, Behind, above_lines, inner_whole, lead_whole, no_lines_free, hangs_lines, line_hangs, written_hangs, above_hangs, behind_none, free_hangs, behind_divides, behind_hangs, filled-written, body-written, comment_lines}
+use Rattle.vast_print.proofs.PageLines.{flat, body, Lines, Hangs, Behind, above_lines, inner_whole, lead_whole, no_lines_free, lines_are_indented, line_is_indented, written_is_indented, above_is_indented, behind_none, free_is_indented, behind_divides, behind_is_indented, filled-written, body-written, comment_lines}
 
 -- faults
 
@@ -48,7 +48,7 @@ pub record Whole (p : Page) (ts : List Token) : Type 0 where
 pub record Open (p : Page) (ts : List Token) : Type 0 where
   pub lines : Hangs p.lines ts
 
--- a page that goes on behind another
+-- a page that goes on after another
 pub record Follows (q : Page) (us : List Token) : Type 0 where
   pub lines : Behind q.lines us
 
@@ -69,27 +69,27 @@ unfolding no_lines
 whole_none = record { lines = no_lines_free }
 
 pub whole : {p : Page} {ts : List Token} → Open p ts → Whole p ts
-whole f = record { lines = hangs_lines f.lines }
+whole f = record { lines = lines_are_indented f.lines }
 
 pub open_line : (w : List ℕ) {ts : List Token} → Reads w ts → Open (line w) ts
 unfolding line
-open_line w f = record { lines = line_hangs f }
+open_line w f = record { lines = line_is_indented f }
 
 pub open_written : (p : Printed) {ts : List Token} → Reads p.text ts → Open (written p) ts
 unfolding written
-open_written p f = record { lines = written_hangs f }
+open_written p f = record { lines = written_is_indented f }
 
 pub open_above : {p q : Page} {ts us : List Token} → Whole p ts → Open q us → Open (above p q) (ts ++ us)
 unfolding above
-open_above f g = record { lines = above_hangs f.lines g.lines }
+open_above f g = record { lines = above_is_indented f.lines g.lines }
 
 pub open_free : (p : Printed) {q : Page} {ts us : List Token} → Free p.text ts → Open q us → Open (beside (written p) q) (ts ++ us)
 unfolding beside written
-open_free p {ts = ts} f g = record { lines = free_hangs (written_lines p.text) (filled-written p.text) (subst (λ (a : List ℕ). Free a ts) (sym (body-written p.text)) f) g.lines }
+open_free p {ts = ts} f g = record { lines = free_is_indented (written_lines p.text) (filled-written p.text) (subst (λ (a : List ℕ). Free a ts) (sym (body-written p.text)) f) g.lines }
 
 pub open_follows : {p q : Page} {ts us : List Token} → Open p ts → Follows q us → Open (beside p q) (ts ++ us)
 unfolding beside
-open_follows f g = record { lines = behind_hangs f.lines g.lines }
+open_follows f g = record { lines = behind_is_indented f.lines g.lines }
 
 pub follows_none : Follows no_lines []
 unfolding no_lines
@@ -112,7 +112,7 @@ same_open e f = rw (sym e) f
 -- an empty line
 pub whole_blank : Whole (line []) []
 unfolding line
-whole_blank = record { lines = hangs_lines (line_hangs (record { at = λ rest h. refl })) }
+whole_blank = record { lines = lines_are_indented (line_is_indented (record { at = λ rest h. refl })) }
 
 -- comments: no line of a text has a line break
 

@@ -12,18 +12,18 @@ use Rattle.vast_print.specs.declared.pieces.Piece.{Piece}
 use Rattle.vast_print.specs.declared.refusal.Refusal.{Refusal}
 use Rattle.vast_print.specs.Printed.{Printed, first_fault, plain_text, ◌⊕◌, wrapped}
 use Rattle.vast_print.specs.Page.{written}
-use Rattle.vast_print.specs.Ink.{Ink, word, pour}
+use Rattle.vast_print.specs.Output.{Output, word, inline}
 use Rattle.vast_print.specs.Levels.{binary_operator_text}
 use Rattle.vast_print.specs.Text.{expr_text, list_text, more_text, type_cast}
 use Rattle.vast_print.specs.Internal.Words.{separator, scalar_cast_closing, number_cast_closing}
 use Rattle.vast_print.specs.Internal.Pieces.{piece_text, piece_weight, PieceOwned, pieces_text, pieces_weight, PiecesOwned, exprs_weight, expr_weight}
-use Rattle.vast_print.proofs.InkLaws.{pour-then, pour-empty, pour-word, pour-stopped}
-use Rattle.vast_print.proofs.TextLaws.{pour-wrapped, pour-bare, pour-name, pour-literal, pour-string, pour-unary, pour-ternary, pour-index, pour-scalar-index, pour-scalar-slice, pour-refused-index, pour-refused-slice, pour-concat, pour-parts, pour-replicated, pour-pattern-list, pour-macro, pour-no-arguments, pour-arguments, pour-call, pour-rising, pour-falling, pour-type-cast, pour-width-cast, pour-scalar-cast, pour-vector-cast, pour-integer-cast, pour-int-cast, pour-external-cast, pour-package-cast}
-use Rattle.vast_print.proofs.NumberLaws.{pour-number}
+use Rattle.vast_print.proofs.OutputLaws.{inline-then, inline-empty, inline-word, inline-stopped}
+use Rattle.vast_print.proofs.TextLaws.{inline-wrapped, inline-bare, inline-name, inline-literal, inline-string, inline-unary, inline-ternary, inline-index, inline-scalar-index, inline-scalar-slice, inline-refused-index, inline-refused-slice, inline-concat, inline-parts, inline-replicated, inline-pattern-list, inline-macro, inline-no-arguments, inline-arguments, inline-call, inline-rising, inline-falling, inline-type-cast, inline-width-cast, inline-scalar-cast, inline-vector-cast, inline-integer-cast, inline-int-cast, inline-external-cast, inline-package-cast}
+use Rattle.vast_print.proofs.NumberLaws.{inline-number}
 use Rattle.vast_print.proofs.SeparatedLaws.{rest_text}
 use Rattle.vast_print.proofs.Lines.{word-stopped}
 
--- one text behind another
+-- one text after another
 
 abbrev made : List ℕ → Option Refusal → Printed
 made text fault = record { text = text; fault = fault }
@@ -86,49 +86,49 @@ pub ruleset pushes = (text-push, weight-push, owned-push, owned-pop, no-pieces-t
 
 -- operators, and words that are put on the list
 
-pub pour-operands : (d : ℕ) (k : Ink) (o : BinaryOp) (l r : ExprTree) →
-    pour d k (written (expr_text (BinaryTree o l r)))
-    ≡ pour d (pour d (pour d k (written (wrapped (left_child_wraps o l) (expr_text l)))) (written (plain_text (binary_operator_text o)))) (written (wrapped (right_child_wraps o r) (expr_text r)))
+pub inline-operands : (d : ℕ) (k : Output) (o : BinaryOp) (l r : ExprTree) →
+    inline d k (written (expr_text (BinaryTree o l r)))
+    ≡ inline d (inline d (inline d k (written (wrapped (left_child_wraps o l) (expr_text l)))) (written (plain_text (binary_operator_text o)))) (written (wrapped (right_child_wraps o r) (expr_text r)))
 unfolding expr_text
-pour-operands d k o l r = simp pour-then
+inline-operands d k o l r = simp inline-then
 
-pub pour-double-close : (d : ℕ) (k : Ink) → pour d k (written (plain_text (codes "))"))) ≡ word k (codes "))")
-pour-double-close d k = pour-word d k (codes "))") refl
+pub inline-double-close : (d : ℕ) (k : Output) → inline d k (written (plain_text (codes "))"))) ≡ word k (codes "))")
+inline-double-close d k = inline-word d k (codes "))") refl
 
-pub pour-scalar-closing : (d : ℕ) (k : Ink) (signed : Bool) → pour d k (written (plain_text (scalar_cast_closing signed))) ≡ word k (scalar_cast_closing signed)
-pour-scalar-closing d k true = pour-word d k (codes "))") refl
-pour-scalar-closing d k false = pour-word d k (codes ")") refl
+pub inline-scalar-closing : (d : ℕ) (k : Output) (signed : Bool) → inline d k (written (plain_text (scalar_cast_closing signed))) ≡ word k (scalar_cast_closing signed)
+inline-scalar-closing d k true = inline-word d k (codes "))") refl
+inline-scalar-closing d k false = inline-word d k (codes ")") refl
 
-pub pour-number-closing : (d : ℕ) (k : Ink) (signed : Bool) → pour d k (written (plain_text (number_cast_closing signed))) ≡ word k (number_cast_closing signed)
-pour-number-closing d k true = pour-word d k (codes ")") refl
-pour-number-closing d k false = pour-word d k (codes "))") refl
+pub inline-number-closing : (d : ℕ) (k : Output) (signed : Bool) → inline d k (written (plain_text (number_cast_closing signed))) ≡ word k (number_cast_closing signed)
+inline-number-closing d k true = inline-word d k (codes ")") refl
+inline-number-closing d k false = inline-word d k (codes "))") refl
 
 -- a cast to an array has no head
-pub pour-packed-cast : (d : ℕ) (k : Ink) (t : TypeTree) (ds : List ℤ) (p : Printed) → pour d k (written (type_cast (PackedTree t ds) p)) ≡ pour d k (written (type_cast (ExternalTree []) p))
+pub inline-packed-cast : (d : ℕ) (k : Output) (t : TypeTree) (ds : List ℤ) (p : Printed) → inline d k (written (type_cast (PackedTree t ds) p)) ≡ inline d k (written (type_cast (ExternalTree []) p))
 unfolding type_cast
-pour-packed-cast d k t ds p = refl
+inline-packed-cast d k t ds p = refl
 
-pub pour-unpacked-cast : (d : ℕ) (k : Ink) (t : TypeTree) (ds : List ℤ) (p : Printed) → pour d k (written (type_cast (UnpackedTree t ds) p)) ≡ pour d k (written (type_cast (ExternalTree []) p))
+pub inline-unpacked-cast : (d : ℕ) (k : Output) (t : TypeTree) (ds : List ℤ) (p : Printed) → inline d k (written (type_cast (UnpackedTree t ds) p)) ≡ inline d k (written (type_cast (ExternalTree []) p))
 unfolding type_cast
-pour-unpacked-cast d k t ds p = refl
+inline-unpacked-cast d k t ds p = refl
 
--- selects, before what is behind them
+-- selects, before what is after them
 
-pub slice-then : (d : ℕ) (k : Ink) (s h l : ExprTree) (w : Printed) → is_scalar_name s ≡ false →
-    pour d (pour d k (written (expr_text (SliceTree s h l)))) (written w)
-    ≡ pour d k (written (wrapped (select_wraps s) (expr_text s) ⊕ (plain_text (codes "[") ⊕ (wrapped false (expr_text h) ⊕ (plain_text (codes ":") ⊕ (wrapped false (expr_text l) ⊕ (plain_text (codes "]") ⊕ w)))))))
+pub slice-then : (d : ℕ) (k : Output) (s h l : ExprTree) (w : Printed) → is_scalar_name s ≡ false →
+    inline d (inline d k (written (expr_text (SliceTree s h l)))) (written w)
+    ≡ inline d k (written (wrapped (select_wraps s) (expr_text s) ⊕ (plain_text (codes "[") ⊕ (wrapped false (expr_text h) ⊕ (plain_text (codes ":") ⊕ (wrapped false (expr_text l) ⊕ (plain_text (codes "]") ⊕ w)))))))
 unfolding expr_text
-slice-then d k s h l w e = rw e (simp (pour-then, pour-bare))
+slice-then d k s h l w e = rw e (simp (inline-then, inline-bare))
 
-pub scalar-slice-then : (d : ℕ) (k : Ink) (s h l : ExprTree) (w : Printed) → is_scalar_name s ≡ true → (is_zero h && is_zero l) ≡ true →
-    pour d (pour d k (written (expr_text (SliceTree s h l)))) (written w) ≡ pour d k (written (wrapped false (expr_text s) ⊕ w))
-scalar-slice-then d k s h l w e z = rw (pour-scalar-slice d k s h l e z) (simp (pour-then, pour-bare))
+pub scalar-slice-then : (d : ℕ) (k : Output) (s h l : ExprTree) (w : Printed) → is_scalar_name s ≡ true → (is_zero h && is_zero l) ≡ true →
+    inline d (inline d k (written (expr_text (SliceTree s h l)))) (written w) ≡ inline d k (written (wrapped false (expr_text s) ⊕ w))
+scalar-slice-then d k s h l w e z = rw (inline-scalar-slice d k s h l e z) (simp (inline-then, inline-bare))
 
-pub part-select-then : (d : ℕ) (k : Ink) (s i : ExprTree) (width : ℤ) (w : Printed) →
-    pour d (pour d k (written (expr_text (PartSelectTree s i width)))) (written w)
-    ≡ pour d k (written (wrapped (select_wraps s) (expr_text s) ⊕ (plain_text (codes "[") ⊕ (wrapped false (expr_text i) ⊕ (plain_text (codes " +: ") ⊕ (plain_text (signed_decimal width) ⊕ (plain_text (codes "]") ⊕ w)))))))
+pub part-select-then : (d : ℕ) (k : Output) (s i : ExprTree) (width : ℤ) (w : Printed) →
+    inline d (inline d k (written (expr_text (PartSelectTree s i width)))) (written w)
+    ≡ inline d k (written (wrapped (select_wraps s) (expr_text s) ⊕ (plain_text (codes "[") ⊕ (wrapped false (expr_text i) ⊕ (plain_text (codes " +: ") ⊕ (plain_text (signed_decimal width) ⊕ (plain_text (codes "]") ⊕ w)))))))
 unfolding expr_text
-part-select-then d k s i width w = simp (pour-then, pour-bare)
+part-select-then d k s i width w = simp (inline-then, inline-bare)
 
 -- lists
 
@@ -166,26 +166,26 @@ bare-part p = refl
 
 pub ruleset list_parts = (list-none, weight-none, then-empty, bare-part)
 
-pub ruleset begins = (pour-then, pour-bare, pour-unary, pour-operands, pour-ternary, pour-word, pour-rising, pour-falling)
+pub ruleset begins = (inline-then, inline-bare, inline-unary, inline-operands, inline-ternary, inline-word, inline-rising, inline-falling)
 
-pub ruleset indexes = (pour-then, pour-bare, pour-index, pour-scalar-index, pour-refused-index, pour-word)
+pub ruleset indexes = (inline-then, inline-bare, inline-index, inline-scalar-index, inline-refused-index, inline-word)
 
-pub ruleset slices = (slice-then, scalar-slice-then, pour-refused-slice)
+pub ruleset slices = (slice-then, scalar-slice-then, inline-refused-slice)
 
 pub ruleset part_selects = (part-select-then)
 
-pub ruleset lists = (pour-then, pour-bare, pour-concat, pour-parts, pour-replicated, pour-pattern-list, pour-macro, pour-no-arguments, pour-arguments, pour-call, pour-word)
+pub ruleset lists = (inline-then, inline-bare, inline-concat, inline-parts, inline-replicated, inline-pattern-list, inline-macro, inline-no-arguments, inline-arguments, inline-call, inline-word)
 
-pub ruleset cast_parts = (pour-then, pour-bare, pour-type-cast, pour-width-cast, pour-scalar-cast, pour-vector-cast, pour-integer-cast, pour-int-cast, pour-external-cast, pour-package-cast, pour-word, pour-double-close, pour-scalar-closing, pour-number-closing)
+pub ruleset cast_parts = (inline-then, inline-bare, inline-type-cast, inline-width-cast, inline-scalar-cast, inline-vector-cast, inline-integer-cast, inline-int-cast, inline-external-cast, inline-package-cast, inline-word, inline-double-close, inline-scalar-closing, inline-number-closing)
 
-pub ruleset begun_casts = (cast_parts, pour-packed-cast, pour-unpacked-cast)
+pub ruleset begun_casts = (cast_parts, inline-packed-cast, inline-unpacked-cast)
 
-pub ruleset leaves = (pour-name, pour-literal, pour-string)
+pub ruleset leaves = (inline-name, inline-literal, inline-string)
 
-pub ruleset parts = (pour-then, pour-wrapped, pour-bare, pour-word, word-stopped)
+pub ruleset parts = (inline-then, inline-wrapped, inline-bare, inline-word, word-stopped)
 
-pub ruleset pieces = (pour-number, pour-bare)
+pub ruleset pieces = (inline-number, inline-bare)
 
-pub ruleset wholes = (pour-name, pour-bare)
+pub ruleset wholes = (inline-name, inline-bare)
 
-pub ruleset works = (text-push, weight-push, owned-pop, no-pieces-text, no-pieces-weight, no-pieces-owned, then-nothing, pour-then, pour-empty, pour-bare, pour-stopped)
+pub ruleset works = (text-push, weight-push, owned-pop, no-pieces-text, no-pieces-weight, no-pieces-owned, then-nothing, inline-then, inline-empty, inline-bare, inline-stopped)

@@ -10,196 +10,196 @@ use Rattle.vast_print.specs.declared.refusal.Refusal.TheVariants.{ScalarIndex, S
 use Rattle.vast_print.specs.Printed.{Printed, plain_text, wrapped}
 use Rattle.vast_print.specs.Page.{written}
 use Rattle.vast_print.specs.Draft.{Draft}
-use Rattle.vast_print.specs.Ink.{Ink, Wet, Stopped, word, pour}
+use Rattle.vast_print.specs.Output.{Output, Unstopped, Stopped, word, inline}
 use Rattle.vast_print.specs.Levels.{unary_operator_text}
 use Rattle.vast_print.specs.Bare.{is_bare}
 use Rattle.vast_print.specs.Internal.Bare.{is_bare_head}
 use Rattle.vast_print.specs.Text.{elided, cast_to, width_cast, package_text, expr_text, arguments_text, replicated, list_text, type_cast}
 use Rattle.vast_print.specs.Internal.Words.{cast_sign_word, scalar_cast_opening, scalar_cast_closing, number_cast_opening, number_cast_closing}
-use Rattle.vast_print.proofs.InkLaws.{pour-then, pour-empty, pour-word, pour-refused}
+use Rattle.vast_print.proofs.OutputLaws.{inline-then, inline-empty, inline-word, inline-refused}
 use Rattle.vast_print.proofs.Lines.{word-word}
 use Rattle.vast_print.proofs.BareLaws.{bare-head}
 use Rattle.vast_literal.specs.NormalExpr.{unary_operator_token}
 
 -- parentheses
 
-pub pour-wrapped : (d : ℕ) (k : Ink) (p : Printed) → pour d k (written (wrapped true p)) ≡ word (pour d (word k (codes "(")) (written p)) (codes ")")
+pub inline-wrapped : (d : ℕ) (k : Output) (p : Printed) → inline d k (written (wrapped true p)) ≡ word (inline d (word k (codes "(")) (written p)) (codes ")")
 unfolding wrapped
-pour-wrapped d k p = simp (pour-then, pour-word)
+inline-wrapped d k p = simp (inline-then, inline-word)
 
-pub pour-bare : (d : ℕ) (k : Ink) (p : Printed) → pour d k (written (wrapped false p)) ≡ pour d k (written p)
+pub inline-bare : (d : ℕ) (k : Output) (p : Printed) → inline d k (written (wrapped false p)) ≡ inline d k (written p)
 unfolding wrapped
-pour-bare d k p = refl
+inline-bare d k p = refl
 
 -- names, literals, strings
 
-pub pour-name : (d : ℕ) (k : Ink) (name : List ℕ) (type : MaybeType) → pour d k (written (expr_text (NameTree name type))) ≡ pour d k (written (plain_text name))
+pub inline-name : (d : ℕ) (k : Output) (name : List ℕ) (type : MaybeType) → inline d k (written (expr_text (NameTree name type))) ≡ inline d k (written (plain_text name))
 unfolding expr_text
-pour-name d k name type = refl
+inline-name d k name type = refl
 
-pub pour-literal : (d : ℕ) (k : Ink) (text : List ℕ) (value : Option ℤ) → pour d k (written (expr_text (LiteralTree text value))) ≡ pour d k (written (plain_text text))
+pub inline-literal : (d : ℕ) (k : Output) (text : List ℕ) (value : Option ℤ) → inline d k (written (expr_text (LiteralTree text value))) ≡ inline d k (written (plain_text text))
 unfolding expr_text
-pour-literal d k text value = refl
+inline-literal d k text value = refl
 
-pub pour-string : (d : ℕ) (k : Ink) (text : List ℕ) → pour d k (written (expr_text (StringTree text))) ≡ pour d k (written (plain_text text))
+pub inline-string : (d : ℕ) (k : Output) (text : List ℕ) → inline d k (written (expr_text (StringTree text))) ≡ inline d k (written (plain_text text))
 unfolding expr_text
-pour-string d k text = refl
+inline-string d k text = refl
 
 -- operators
 
-pour-unary-sign : (d : ℕ) (k : Ink) (o : UnaryOp) → pour d k (written (plain_text (unary_operator_text o))) ≡ word k (unary_operator_text o)
+inline-unary-sign : (d : ℕ) (k : Output) (o : UnaryOp) → inline d k (written (plain_text (unary_operator_text o))) ≡ word k (unary_operator_text o)
 unfolding unary_operator_token
-pour-unary-sign d k NegateOp = pour-word d k (codes "-") refl
-pour-unary-sign d k BitwiseNotOp = pour-word d k (codes "~") refl
-pour-unary-sign d k LogicalNotOp = pour-word d k (codes "!") refl
-pour-unary-sign d k AndReduceOp = pour-word d k (codes "&") refl
-pour-unary-sign d k OrReduceOp = pour-word d k (codes "|") refl
-pour-unary-sign d k XorReduceOp = pour-word d k (codes "^") refl
+inline-unary-sign d k NegateOp = inline-word d k (codes "-") refl
+inline-unary-sign d k BitwiseNotOp = inline-word d k (codes "~") refl
+inline-unary-sign d k LogicalNotOp = inline-word d k (codes "!") refl
+inline-unary-sign d k AndReduceOp = inline-word d k (codes "&") refl
+inline-unary-sign d k OrReduceOp = inline-word d k (codes "|") refl
+inline-unary-sign d k XorReduceOp = inline-word d k (codes "^") refl
 
-pub pour-unary : (d : ℕ) (k : Ink) (o : UnaryOp) (e : ExprTree) →
-    pour d k (written (expr_text (UnaryTree o e))) ≡ pour d (word k (unary_operator_text o)) (written (wrapped (unary_wraps e) (expr_text e)))
+pub inline-unary : (d : ℕ) (k : Output) (o : UnaryOp) (e : ExprTree) →
+    inline d k (written (expr_text (UnaryTree o e))) ≡ inline d (word k (unary_operator_text o)) (written (wrapped (unary_wraps e) (expr_text e)))
 unfolding expr_text
-pour-unary d k o e =
-    pour-then d k (plain_text (unary_operator_text o)) (wrapped (unary_wraps e) (expr_text e))
-    ∙ ap (λ j. pour d j (written (wrapped (unary_wraps e) (expr_text e)))) (pour-unary-sign d k o)
+inline-unary d k o e =
+    inline-then d k (plain_text (unary_operator_text o)) (wrapped (unary_wraps e) (expr_text e))
+    ∙ ap (λ j. inline d j (written (wrapped (unary_wraps e) (expr_text e)))) (inline-unary-sign d k o)
 
-pub pour-ternary : (d : ℕ) (k : Ink) (c l r : ExprTree) →
-    pour d k (written (expr_text (TernaryTree c l r)))
-    ≡ pour d (word (pour d (word (pour d k (written (wrapped (ternary_wraps c) (expr_text c)))) (codes " ? ")) (written (wrapped (ternary_wraps l) (expr_text l)))) (codes " : ")) (written (wrapped (ternary_wraps r) (expr_text r)))
+pub inline-ternary : (d : ℕ) (k : Output) (c l r : ExprTree) →
+    inline d k (written (expr_text (TernaryTree c l r)))
+    ≡ inline d (word (inline d (word (inline d k (written (wrapped (ternary_wraps c) (expr_text c)))) (codes " ? ")) (written (wrapped (ternary_wraps l) (expr_text l)))) (codes " : ")) (written (wrapped (ternary_wraps r) (expr_text r)))
 unfolding expr_text
-pour-ternary d k c l r = simp (pour-then, pour-word)
+inline-ternary d k c l r = simp (inline-then, inline-word)
 
 -- selects
 
-pub pour-index : (d : ℕ) (k : Ink) (s i : ExprTree) → is_scalar_name s ≡ false →
-    pour d k (written (expr_text (IndexTree s i)))
-    ≡ word (pour d (word (pour d k (written (wrapped (select_wraps s) (expr_text s)))) (codes "[")) (written (expr_text i))) (codes "]")
+pub inline-index : (d : ℕ) (k : Output) (s i : ExprTree) → is_scalar_name s ≡ false →
+    inline d k (written (expr_text (IndexTree s i)))
+    ≡ word (inline d (word (inline d k (written (wrapped (select_wraps s) (expr_text s)))) (codes "[")) (written (expr_text i))) (codes "]")
 unfolding expr_text
-pour-index d k s i h = rw h (simp (pour-then, pour-word))
+inline-index d k s i h = rw h (simp (inline-then, inline-word))
 
-pub pour-scalar-index : (d : ℕ) (k : Ink) (s i : ExprTree) → is_scalar_name s ≡ true → is_zero i ≡ true → pour d k (written (expr_text (IndexTree s i))) ≡ pour d k (written (expr_text s))
+pub inline-scalar-index : (d : ℕ) (k : Output) (s i : ExprTree) → is_scalar_name s ≡ true → is_zero i ≡ true → inline d k (written (expr_text (IndexTree s i))) ≡ inline d k (written (expr_text s))
 unfolding expr_text elided
-pour-scalar-index d k s i h z = rw h (rw z refl)
+inline-scalar-index d k s i h z = rw h (rw z refl)
 
-pub pour-scalar-slice : (d : ℕ) (k : Ink) (s h l : ExprTree) → is_scalar_name s ≡ true → (is_zero h && is_zero l) ≡ true → pour d k (written (expr_text (SliceTree s h l))) ≡ pour d k (written (expr_text s))
+pub inline-scalar-slice : (d : ℕ) (k : Output) (s h l : ExprTree) → is_scalar_name s ≡ true → (is_zero h && is_zero l) ≡ true → inline d k (written (expr_text (SliceTree s h l))) ≡ inline d k (written (expr_text s))
 unfolding expr_text elided
-pour-scalar-slice d k s h l e z = rw e (rw z refl)
+inline-scalar-slice d k s h l e z = rw e (rw z refl)
 
-pub pour-refused-index : (d : ℕ) (k : Draft) (s i : ExprTree) → is_scalar_name s ≡ true → is_zero i ≡ false → pour d (Wet k) (written (expr_text (IndexTree s i))) ≡ Stopped ScalarIndex
+pub inline-refused-index : (d : ℕ) (k : Draft) (s i : ExprTree) → is_scalar_name s ≡ true → is_zero i ≡ false → inline d (Unstopped k) (written (expr_text (IndexTree s i))) ≡ Stopped ScalarIndex
 unfolding expr_text elided
-pour-refused-index d k s i h z = rw h (rw z (pour-refused d k ScalarIndex (expr_text s)))
+inline-refused-index d k s i h z = rw h (rw z (inline-refused d k ScalarIndex (expr_text s)))
 
-pub pour-refused-slice : (d : ℕ) (k : Draft) (s h l : ExprTree) → is_scalar_name s ≡ true → (is_zero h && is_zero l) ≡ false → pour d (Wet k) (written (expr_text (SliceTree s h l))) ≡ Stopped ScalarSlice
+pub inline-refused-slice : (d : ℕ) (k : Draft) (s h l : ExprTree) → is_scalar_name s ≡ true → (is_zero h && is_zero l) ≡ false → inline d (Unstopped k) (written (expr_text (SliceTree s h l))) ≡ Stopped ScalarSlice
 unfolding expr_text elided
-pour-refused-slice d k s h l e z = rw e (rw z (pour-refused d k ScalarSlice (expr_text s)))
+inline-refused-slice d k s h l e z = rw e (rw z (inline-refused d k ScalarSlice (expr_text s)))
 
 -- lists
 
-pub pour-concat : (d : ℕ) (k : Ink) (n : MaybeExpr) (es : Exprs) →
-    pour d k (written (expr_text (ConcatTree n es))) ≡ word (pour d (word k (codes "{")) (written (replicated n (list_text es)))) (codes "}")
+pub inline-concat : (d : ℕ) (k : Output) (n : MaybeExpr) (es : Exprs) →
+    inline d k (written (expr_text (ConcatTree n es))) ≡ word (inline d (word k (codes "{")) (written (replicated n (list_text es)))) (codes "}")
 unfolding expr_text
-pour-concat d k n es = simp (pour-then, pour-word)
+inline-concat d k n es = simp (inline-then, inline-word)
 
-pub pour-parts : (d : ℕ) (k : Ink) (p : Printed) → pour d k (written (replicated NoExpr p)) ≡ pour d k (written p)
+pub inline-parts : (d : ℕ) (k : Output) (p : Printed) → inline d k (written (replicated NoExpr p)) ≡ inline d k (written p)
 unfolding replicated
-pour-parts d k p = refl
+inline-parts d k p = refl
 
-pub pour-replicated : (d : ℕ) (k : Ink) (n : ExprTree) (p : Printed) →
-    pour d k (written (replicated (SomeExpr n) p)) ≡ word (pour d (word (pour d k (written (expr_text n))) (codes "{")) (written p)) (codes "}")
+pub inline-replicated : (d : ℕ) (k : Output) (n : ExprTree) (p : Printed) →
+    inline d k (written (replicated (SomeExpr n) p)) ≡ word (inline d (word (inline d k (written (expr_text n))) (codes "{")) (written p)) (codes "}")
 unfolding replicated expr_text
-pour-replicated d k n p = simp (pour-then, pour-word)
+inline-replicated d k n p = simp (inline-then, inline-word)
 
-pub pour-pattern-list : (d : ℕ) (k : Ink) (es : Exprs) → pour d k (written (expr_text (PatternTree es))) ≡ word (pour d (word k (codes "'{")) (written (list_text es))) (codes "}")
+pub inline-pattern-list : (d : ℕ) (k : Output) (es : Exprs) → inline d k (written (expr_text (PatternTree es))) ≡ word (inline d (word k (codes "'{")) (written (list_text es))) (codes "}")
 unfolding expr_text
-pour-pattern-list d k es = simp (pour-then, pour-word)
+inline-pattern-list d k es = simp (inline-then, inline-word)
 
-pub pour-macro : (d : ℕ) (k : Ink) (name : List ℕ) (es : MaybeExprs) →
-    pour d k (written (expr_text (MacroTree name es))) ≡ pour d (pour d (word k (codes "`")) (written (plain_text name))) (written (arguments_text es))
+pub inline-macro : (d : ℕ) (k : Output) (name : List ℕ) (es : MaybeExprs) →
+    inline d k (written (expr_text (MacroTree name es))) ≡ inline d (inline d (word k (codes "`")) (written (plain_text name))) (written (arguments_text es))
 unfolding expr_text
-pour-macro d k name es = simp (pour-then, pour-word)
+inline-macro d k name es = simp (inline-then, inline-word)
 
-pub pour-no-arguments : (d : ℕ) (k : Ink) → pour d k (written (arguments_text NoArguments)) ≡ k
+pub inline-no-arguments : (d : ℕ) (k : Output) → inline d k (written (arguments_text NoArguments)) ≡ k
 unfolding arguments_text
-pour-no-arguments d k = pour-empty d k
+inline-no-arguments d k = inline-empty d k
 
-pub pour-arguments : (d : ℕ) (k : Ink) (es : Exprs) → pour d k (written (arguments_text (SomeArguments es))) ≡ word (pour d (word k (codes "(")) (written (list_text es))) (codes ")")
+pub inline-arguments : (d : ℕ) (k : Output) (es : Exprs) → inline d k (written (arguments_text (SomeArguments es))) ≡ word (inline d (word k (codes "(")) (written (list_text es))) (codes ")")
 unfolding arguments_text
-pour-arguments d k es = simp (pour-then, pour-word)
+inline-arguments d k es = simp (inline-then, inline-word)
 
-pub pour-call : (d : ℕ) (k : Ink) (name : List ℕ) (es : Exprs) →
-    pour d k (written (expr_text (CallTree name es))) ≡ word (pour d (word (pour d k (written (plain_text name))) (codes "(")) (written (list_text es))) (codes ")")
+pub inline-call : (d : ℕ) (k : Output) (name : List ℕ) (es : Exprs) →
+    inline d k (written (expr_text (CallTree name es))) ≡ word (inline d (word (inline d k (written (plain_text name))) (codes "(")) (written (list_text es))) (codes ")")
 unfolding expr_text
-pour-call d k name es = simp (pour-then, pour-word)
+inline-call d k name es = simp (inline-then, inline-word)
 
 -- edges
 
-pub pour-rising : (d : ℕ) (k : Ink) (e : ExprTree) → pour d k (written (expr_text (PosEdgeTree e))) ≡ pour d (word k (codes "posedge ")) (written (expr_text e))
+pub inline-rising : (d : ℕ) (k : Output) (e : ExprTree) → inline d k (written (expr_text (PosEdgeTree e))) ≡ inline d (word k (codes "posedge ")) (written (expr_text e))
 unfolding expr_text
-pour-rising d k e = simp (pour-then, pour-word)
+inline-rising d k e = simp (inline-then, inline-word)
 
-pub pour-falling : (d : ℕ) (k : Ink) (e : ExprTree) → pour d k (written (expr_text (NegEdgeTree e))) ≡ pour d (word k (codes "negedge ")) (written (expr_text e))
+pub inline-falling : (d : ℕ) (k : Output) (e : ExprTree) → inline d k (written (expr_text (NegEdgeTree e))) ≡ inline d (word k (codes "negedge ")) (written (expr_text e))
 unfolding expr_text
-pour-falling d k e = simp (pour-then, pour-word)
+inline-falling d k e = simp (inline-then, inline-word)
 
 -- casts
 
-pour-cast-to : (d : ℕ) (k : Ink) (head p : Printed) → pour d k (written (cast_to head p)) ≡ word (pour d (word (pour d k (written head)) (codes "'(")) (written p)) (codes ")")
+inline-cast-to : (d : ℕ) (k : Output) (head p : Printed) → inline d k (written (cast_to head p)) ≡ word (inline d (word (inline d k (written head)) (codes "'(")) (written p)) (codes ")")
 unfolding cast_to
-pour-cast-to d k head p = simp (pour-then, pour-word)
+inline-cast-to d k head p = simp (inline-then, inline-word)
 
-pour-cast-by : (d : ℕ) (k : Ink) (w p : Printed) →
-    pour d k (written (width_cast w p)) ≡ word (pour d (word (pour d k (written (wrapped (not (is_bare w.text)) w))) (codes "'(")) (written p)) (codes ")")
+inline-cast-by : (d : ℕ) (k : Output) (w p : Printed) →
+    inline d k (written (width_cast w p)) ≡ word (inline d (word (inline d k (written (wrapped (not (is_bare w.text)) w))) (codes "'(")) (written p)) (codes ")")
 unfolding width_cast
-pour-cast-by d k w p = pour-cast-to d k (wrapped (not (is_bare w.text)) w) p
+inline-cast-by d k w p = inline-cast-to d k (wrapped (not (is_bare w.text)) w) p
 
-pub pour-width-cast : (d : ℕ) (k : Ink) (w e : ExprTree) →
-    pour d k (written (expr_text (WidthCastTree w e)))
-    ≡ word (pour d (word (pour d k (written (wrapped (not (is_bare_head w)) (expr_text w)))) (codes "'(")) (written (expr_text e))) (codes ")")
+pub inline-width-cast : (d : ℕ) (k : Output) (w e : ExprTree) →
+    inline d k (written (expr_text (WidthCastTree w e)))
+    ≡ word (inline d (word (inline d k (written (wrapped (not (is_bare_head w)) (expr_text w)))) (codes "'(")) (written (expr_text e))) (codes ")")
 unfolding expr_text
-pour-width-cast d k w e =
-    pour-cast-by d k (expr_text w) (expr_text e)
-    ∙ ap (λ b. word (pour d (word (pour d k (written (wrapped (not b) (expr_text w)))) (codes "'(")) (written (expr_text e))) (codes ")")) (bare-head w)
+inline-width-cast d k w e =
+    inline-cast-by d k (expr_text w) (expr_text e)
+    ∙ ap (λ b. word (inline d (word (inline d k (written (wrapped (not b) (expr_text w)))) (codes "'(")) (written (expr_text e))) (codes ")")) (bare-head w)
 
-pub pour-type-cast : (d : ℕ) (k : Ink) (t : TypeTree) (e : ExprTree) → pour d k (written (expr_text (TypeCastTree t e))) ≡ pour d k (written (type_cast t (expr_text e)))
+pub inline-type-cast : (d : ℕ) (k : Output) (t : TypeTree) (e : ExprTree) → inline d k (written (expr_text (TypeCastTree t e))) ≡ inline d k (written (type_cast t (expr_text e)))
 unfolding expr_text
-pour-type-cast d k t e = refl
+inline-type-cast d k t e = refl
 
-pub pour-scalar-cast : (d : ℕ) (k : Ink) (signed : Bool) (p : Printed) →
-    pour d k (written (type_cast (ScalarTree signed) p)) ≡ word (pour d (word k (scalar_cast_opening signed)) (written p)) (scalar_cast_closing signed)
+pub inline-scalar-cast : (d : ℕ) (k : Output) (signed : Bool) (p : Printed) →
+    inline d k (written (type_cast (ScalarTree signed) p)) ≡ word (inline d (word k (scalar_cast_opening signed)) (written p)) (scalar_cast_closing signed)
 unfolding type_cast
-pour-scalar-cast d k true p = simp (pour-cast-to, pour-word, word-word)
-pour-scalar-cast d k false p = simp (pour-cast-to, pour-word, word-word)
+inline-scalar-cast d k true p = simp (inline-cast-to, inline-word, word-word)
+inline-scalar-cast d k false p = simp (inline-cast-to, inline-word, word-word)
 
-pub pour-vector-cast : (d : ℕ) (k : Ink) (w : ExprTree) (v : Option ℤ) (signed : Bool) (p : Printed) →
-    pour d k (written (type_cast (VectorTree w v signed) p))
-    ≡ word (pour d (word (pour d (word k (cast_sign_word signed)) (written (wrapped (not (is_bare_head w)) (expr_text w)))) (codes "'(")) (written p)) (codes "))")
+pub inline-vector-cast : (d : ℕ) (k : Output) (w : ExprTree) (v : Option ℤ) (signed : Bool) (p : Printed) →
+    inline d k (written (type_cast (VectorTree w v signed) p))
+    ≡ word (inline d (word (inline d (word k (cast_sign_word signed)) (written (wrapped (not (is_bare_head w)) (expr_text w)))) (codes "'(")) (written p)) (codes "))")
 unfolding type_cast
-pour-vector-cast d k w v true p =
-    simp (pour-cast-to, pour-cast-by, pour-word, word-word)
-    (ap (λ b. word (pour d (word (pour d (word k (codes "signed'(")) (written (wrapped (not b) (expr_text w)))) (codes "'(")) (written p)) (codes "))")) (bare-head w))
-pour-vector-cast d k w v false p =
-    simp (pour-cast-to, pour-cast-by, pour-word, word-word)
-    (ap (λ b. word (pour d (word (pour d (word k (codes "unsigned'(")) (written (wrapped (not b) (expr_text w)))) (codes "'(")) (written p)) (codes "))")) (bare-head w))
+inline-vector-cast d k w v true p =
+    simp (inline-cast-to, inline-cast-by, inline-word, word-word)
+    (ap (λ b. word (inline d (word (inline d (word k (codes "signed'(")) (written (wrapped (not b) (expr_text w)))) (codes "'(")) (written p)) (codes "))")) (bare-head w))
+inline-vector-cast d k w v false p =
+    simp (inline-cast-to, inline-cast-by, inline-word, word-word)
+    (ap (λ b. word (inline d (word (inline d (word k (codes "unsigned'(")) (written (wrapped (not b) (expr_text w)))) (codes "'(")) (written p)) (codes "))")) (bare-head w))
 
-pub pour-integer-cast : (d : ℕ) (k : Ink) (signed : Bool) (p : Printed) →
-    pour d k (written (type_cast (IntegerTree signed) p)) ≡ word (pour d (word k (number_cast_opening (codes "integer") signed)) (written p)) (number_cast_closing signed)
+pub inline-integer-cast : (d : ℕ) (k : Output) (signed : Bool) (p : Printed) →
+    inline d k (written (type_cast (IntegerTree signed) p)) ≡ word (inline d (word k (number_cast_opening (codes "integer") signed)) (written p)) (number_cast_closing signed)
 unfolding type_cast
-pour-integer-cast d k true p = simp (pour-cast-to, pour-word, word-word)
-pour-integer-cast d k false p = simp (pour-cast-to, pour-word, word-word)
+inline-integer-cast d k true p = simp (inline-cast-to, inline-word, word-word)
+inline-integer-cast d k false p = simp (inline-cast-to, inline-word, word-word)
 
-pub pour-int-cast : (d : ℕ) (k : Ink) (signed : Bool) (p : Printed) →
-    pour d k (written (type_cast (IntTree signed) p)) ≡ word (pour d (word k (number_cast_opening (codes "int") signed)) (written p)) (number_cast_closing signed)
+pub inline-int-cast : (d : ℕ) (k : Output) (signed : Bool) (p : Printed) →
+    inline d k (written (type_cast (IntTree signed) p)) ≡ word (inline d (word k (number_cast_opening (codes "int") signed)) (written p)) (number_cast_closing signed)
 unfolding type_cast
-pour-int-cast d k true p = simp (pour-cast-to, pour-word, word-word)
-pour-int-cast d k false p = simp (pour-cast-to, pour-word, word-word)
+inline-int-cast d k true p = simp (inline-cast-to, inline-word, word-word)
+inline-int-cast d k false p = simp (inline-cast-to, inline-word, word-word)
 
-pub pour-external-cast : (d : ℕ) (k : Ink) (name : List ℕ) (p : Printed) →
-    pour d k (written (type_cast (ExternalTree name) p)) ≡ word (pour d (word (pour d k (written (plain_text name))) (codes "'(")) (written p)) (codes ")")
+pub inline-external-cast : (d : ℕ) (k : Output) (name : List ℕ) (p : Printed) →
+    inline d k (written (type_cast (ExternalTree name) p)) ≡ word (inline d (word (inline d k (written (plain_text name))) (codes "'(")) (written p)) (codes ")")
 unfolding type_cast
-pour-external-cast d k name p = simp pour-cast-to
+inline-external-cast d k name p = simp inline-cast-to
 
-pub pour-package-cast : (d : ℕ) (k : Ink) (scope name : List ℕ) (p : Printed) →
-    pour d k (written (type_cast (PackageTree scope name) p))
-    ≡ word (pour d (word (pour d (word (pour d k (written (plain_text scope))) (codes "::")) (written (plain_text name))) (codes "'(")) (written p)) (codes ")")
+pub inline-package-cast : (d : ℕ) (k : Output) (scope name : List ℕ) (p : Printed) →
+    inline d k (written (type_cast (PackageTree scope name) p))
+    ≡ word (inline d (word (inline d (word (inline d k (written (plain_text scope))) (codes "::")) (written (plain_text name))) (codes "'(")) (written p)) (codes ")")
 unfolding type_cast package_text
-pour-package-cast d k scope name p = simp (pour-cast-to, pour-then, pour-word)
+inline-package-cast d k scope name p = simp (inline-cast-to, inline-then, inline-word)

@@ -7,11 +7,11 @@ use Rattle.vast_literal.specs.declared.kind.VastFileType.{VastFileType as Dialec
 use Rattle.vast_literal.specs.declared.kind.VastFileType.TheVariants.{Verilog as VerilogDialect, SystemVerilog as SystemVerilogDialect}
 use Rattle.vast_print.specs.Printed.{plain_text}
 use Rattle.vast_print.specs.Page.{written}
-use Rattle.vast_print.specs.Ink.{Ink, word, pour}
+use Rattle.vast_print.specs.Output.{Output, word, inline}
 use Rattle.vast_print.specs.Declaration.{packed_range, packed_text, unpacked_range, unpacked_text}
-use Rattle.vast_print.proofs.InkLaws.{pour-then, pour-empty, pour-word}
+use Rattle.vast_print.proofs.OutputLaws.{inline-then, inline-empty, inline-word}
 use Rattle.vast_print.proofs.Lines.{unbroken}
-use Rattle.vast_print.proofs.NumberLaws.{pour-number}
+use Rattle.vast_print.proofs.NumberLaws.{inline-number}
 use Rattle.vast_print.proofs.DeclarationLaws.{plain-append}
 
 -- dimensions of arrays within each other
@@ -35,51 +35,51 @@ unpacked-append dialect [] ys = refl
 unpacked-append dialect (x ∷ xs) ys = simp (unpacked-append dialect xs ys, append_assoc)
 
 -- a text in two parts
-pub pour-append : (d : ℕ) (k : Ink) (a b : List ℕ) → pour d k (written (plain_text (a ++ b))) ≡ pour d (pour d k (written (plain_text a))) (written (plain_text b))
-pour-append d k a b = ap (λ x. pour d k (written x)) (plain-append a b) ∙ pour-then d k (plain_text a) (plain_text b)
+pub inline-append : (d : ℕ) (k : Output) (a b : List ℕ) → inline d k (written (plain_text (a ++ b))) ≡ inline d (inline d k (written (plain_text a))) (written (plain_text b))
+inline-append d k a b = ap (λ x. inline d k (written x)) (plain-append a b) ∙ inline-then d k (plain_text a) (plain_text b)
 
 -- a number between two words
-pour-range : (d : ℕ) (k : Ink) (a b : List ℕ) (z : ℤ) → unbroken a ≡ true → unbroken b ≡ true →
-    pour d k (written (plain_text (a ++ (signed_decimal z ++ b)))) ≡ word (word (word k a) (signed_decimal z)) b
-pour-range d k a b z h i =
-    pour-append d k a (signed_decimal z ++ b)
-    ∙ (ap (λ j. pour d j (written (plain_text (signed_decimal z ++ b)))) (pour-word d k a h)
-    ∙ (pour-append d (word k a) (signed_decimal z) b
-    ∙ (ap (λ j. pour d j (written (plain_text b))) (pour-number d (word k a) z) ∙ pour-word d (word (word k a) (signed_decimal z)) b i)))
+inline-range : (d : ℕ) (k : Output) (a b : List ℕ) (z : ℤ) → unbroken a ≡ true → unbroken b ≡ true →
+    inline d k (written (plain_text (a ++ (signed_decimal z ++ b)))) ≡ word (word (word k a) (signed_decimal z)) b
+inline-range d k a b z h i =
+    inline-append d k a (signed_decimal z ++ b)
+    ∙ (ap (λ j. inline d j (written (plain_text (signed_decimal z ++ b)))) (inline-word d k a h)
+    ∙ (inline-append d (word k a) (signed_decimal z) b
+    ∙ (ap (λ j. inline d j (written (plain_text b))) (inline-number d (word k a) z) ∙ inline-word d (word (word k a) (signed_decimal z)) b i)))
 
 -- the dimensions of an array
 
-pub packed-end : (d : ℕ) (k : Ink) (xs : List ℤ) (i : ℕ) → length xs ≤ i → pour d k (written (plain_text (packed_text (drop i xs)))) ≡ k
+pub packed-end : (d : ℕ) (k : Output) (xs : List ℤ) (i : ℕ) → length xs ≤ i → inline d k (written (plain_text (packed_text (drop i xs)))) ≡ k
 unfolding packed_text
-packed-end d k xs i h = ap (λ x. pour d k (written (plain_text (packed_text x)))) (drop_all i xs h) ∙ pour-empty d k
+packed-end d k xs i h = ap (λ x. inline d k (written (plain_text (packed_text x)))) (drop_all i xs h) ∙ inline-empty d k
 
-pub packed-step : (d : ℕ) (k : Ink) (xs : List ℤ) (i : ℕ) (x : ℤ) → i < length xs → x ≡ get_or xs i x →
-    pour d k (written (plain_text (packed_text (drop i xs))))
-    ≡ pour d (word (word (word k (codes "[")) (signed_decimal (x -ℤ pos 1))) (codes ":0]")) (written (plain_text (packed_text (drop (i + 1) xs))))
+pub packed-step : (d : ℕ) (k : Output) (xs : List ℤ) (i : ℕ) (x : ℤ) → i < length xs → x ≡ get_or xs i x →
+    inline d k (written (plain_text (packed_text (drop i xs))))
+    ≡ inline d (word (word (word k (codes "[")) (signed_decimal (x -ℤ pos 1))) (codes ":0]")) (written (plain_text (packed_text (drop (i + 1) xs))))
 unfolding packed_text
 packed-step d k [] i x h g = absurd (omega arith)
 packed-step d k (y ∷ xs) zero x h g =
     rw g
-    (pour-append d k (packed_range y) (packed_text xs)
-    ∙ ap (λ j. pour d j (written (plain_text (packed_text xs)))) (pour-range d k (codes "[") (codes ":0]") (y -ℤ pos 1) refl refl))
+    (inline-append d k (packed_range y) (packed_text xs)
+    ∙ ap (λ j. inline d j (written (plain_text (packed_text xs)))) (inline-range d k (codes "[") (codes ":0]") (y -ℤ pos 1) refl refl))
 packed-step d k (y ∷ xs) (suc i) x h g = rw (add-one (suc i)) (rw (add-one i) at (packed-step d k xs i x (omega arith) g))
 
-pub unpacked-end : (dialect : Dialect) (d : ℕ) (k : Ink) (xs : List ℤ) (i : ℕ) → length xs ≤ i → pour d k (written (plain_text (unpacked_text dialect (drop i xs)))) ≡ k
+pub unpacked-end : (dialect : Dialect) (d : ℕ) (k : Output) (xs : List ℤ) (i : ℕ) → length xs ≤ i → inline d k (written (plain_text (unpacked_text dialect (drop i xs)))) ≡ k
 unfolding unpacked_text
-unpacked-end dialect d k xs i h = ap (λ x. pour d k (written (plain_text (unpacked_text dialect x)))) (drop_all i xs h) ∙ pour-empty d k
+unpacked-end dialect d k xs i h = ap (λ x. inline d k (written (plain_text (unpacked_text dialect x)))) (drop_all i xs h) ∙ inline-empty d k
 
-pub unpacked-step : (dialect : Dialect) (d : ℕ) (k : Ink) (xs : List ℤ) (i : ℕ) (x : ℤ) → i < length xs → x ≡ get_or xs i x →
-    pour d k (written (plain_text (unpacked_text dialect (drop i xs))))
-    ≡ pour d (pour d k (written (plain_text (unpacked_range dialect x)))) (written (plain_text (unpacked_text dialect (drop (i + 1) xs))))
+pub unpacked-step : (dialect : Dialect) (d : ℕ) (k : Output) (xs : List ℤ) (i : ℕ) (x : ℤ) → i < length xs → x ≡ get_or xs i x →
+    inline d k (written (plain_text (unpacked_text dialect (drop i xs))))
+    ≡ inline d (inline d k (written (plain_text (unpacked_range dialect x)))) (written (plain_text (unpacked_text dialect (drop (i + 1) xs))))
 unfolding unpacked_text
 unpacked-step dialect d k [] i x h g = absurd (omega arith)
-unpacked-step dialect d k (y ∷ xs) zero x h g = rw g (pour-append d k (unpacked_range dialect y) (unpacked_text dialect xs))
+unpacked-step dialect d k (y ∷ xs) zero x h g = rw g (inline-append d k (unpacked_range dialect y) (unpacked_text dialect xs))
 unpacked-step dialect d k (y ∷ xs) (suc i) x h g = rw (add-one (suc i)) (rw (add-one i) at (unpacked-step dialect d k xs i x (omega arith) g))
 
-pub pour-verilog-range : (d : ℕ) (k : Ink) (x : ℤ) →
-    pour d k (written (plain_text (unpacked_range VerilogDialect x))) ≡ word (word (word k (codes "[0:")) (signed_decimal (x -ℤ pos 1))) (codes "]")
-pour-verilog-range d k x = pour-range d k (codes "[0:") (codes "]") (x -ℤ pos 1) refl refl
+pub inline-verilog-range : (d : ℕ) (k : Output) (x : ℤ) →
+    inline d k (written (plain_text (unpacked_range VerilogDialect x))) ≡ word (word (word k (codes "[0:")) (signed_decimal (x -ℤ pos 1))) (codes "]")
+inline-verilog-range d k x = inline-range d k (codes "[0:") (codes "]") (x -ℤ pos 1) refl refl
 
-pub pour-system-range : (d : ℕ) (k : Ink) (x : ℤ) →
-    pour d k (written (plain_text (unpacked_range SystemVerilogDialect x))) ≡ word (word (word k (codes "[")) (signed_decimal x)) (codes "]")
-pour-system-range d k x = pour-range d k (codes "[") (codes "]") x refl refl
+pub inline-system-range : (d : ℕ) (k : Output) (x : ℤ) →
+    inline d k (written (plain_text (unpacked_range SystemVerilogDialect x))) ≡ word (word (word k (codes "[")) (signed_decimal x)) (codes "]")
+inline-system-range d k x = inline-range d k (codes "[") (codes "]") x refl refl

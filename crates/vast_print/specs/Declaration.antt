@@ -44,7 +44,7 @@ unfoldable pub with_dimensions : Printed → List ℕ → Printed
 with_dimensions p [] = p
 with_dimensions p (c ∷ w) = spaced p ⊕ plain_text (c ∷ w)
 
--- a base type's text with packed dimensions, which stand before a vector's own and behind any other type
+-- a base type's text with packed dimensions, which stand before a vector's own and after any other type
 unfoldable pub based_text : TypeTree → List ℕ → Printed
 based_text (VectorTree w v signed) ds = spaced (plain_text (signed_word signed)) ⊕ plain_text ds ⊕ plain_text (codes "[") ⊕ highest_index_text w v ⊕ plain_text (codes ":0]")
 based_text (ScalarTree signed) ds = with_dimensions (plain_text (signed_word signed)) ds

@@ -1,4 +1,4 @@
--- What a call answers that prints a page or a text.
+-- What a call returns that prints a page or a text.
 use Rattle.std.specs.Prelude.{◌≡◌, ℕ, List, Option, Some, None, Result, Ok, Err, String, string_bytes}
 use Rattle.std.specs.declared.alloc.Global.{Global}
 use Rattle.vast_literal.specs.declared.error.VastFault.{VastFault}

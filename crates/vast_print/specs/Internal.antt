@@ -1,5 +1,5 @@
 pub mod Bare
-pub mod Ink
+pub mod Output
 pub mod Statements
 pub mod Words
 pub mod Emits

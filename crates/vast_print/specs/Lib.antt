@@ -5,7 +5,7 @@ pub mod Text
 pub mod Declaration
 pub mod Page
 pub mod Draft
-pub mod Ink
+pub mod Output
 pub mod Statements
 pub mod Members
 pub mod Layout

@@ -65,7 +65,7 @@ beside_lines [] q = q
 beside_lines (l ∷ []) q = glue l q
 beside_lines (l ∷ m ∷ p) q = l ∷ beside_lines (m ∷ p) q
 
--- p, and q going on behind its last line
+-- p, and q going on after its last line
 unfoldable pub beside : Page → Page → Page
 beside p q = record { lines = beside_lines p.lines q.lines; fault = first_fault p.fault q.fault }
 

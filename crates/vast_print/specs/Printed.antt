@@ -25,7 +25,7 @@ plain_text w = record { text = w; fault = None }
 unfoldable pub refused : Refusal → Printed → Printed
 refused r p = record { text = p.text; fault = Some r }
 
--- one text behind another
+-- one text after another
 infixl 60 ◌⊕◌
 unfoldable pub ◌⊕◌ : Printed → Printed → Printed
 p ⊕ q = record { text = p.text ++ q.text; fault = first_fault p.fault q.fault }

@@ -58,7 +58,7 @@ unfoldable mutual
   block_page NoStatements = line (codes "begin end")
   block_page (MoreStatements s ss) = begin_end (above (statement_page s) (statements_page ss))
 
-  -- what follows a conditional's first block, behind its `end`
+  -- what follows a conditional's first block, after its `end`
   pub alternates_page : Alternates → Page
   alternates_page NoElse = no_lines
   alternates_page (ElseIf c b rest) =

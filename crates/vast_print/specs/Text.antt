@@ -16,7 +16,7 @@ unfoldable pub elided : Bool → Refusal → Printed → Printed
 elided true r name = name
 elided false r name = refused r name
 
--- a cast: what is cast stands in parentheses behind an apostrophe
+-- a cast: what is cast stands in parentheses after an apostrophe
 unfoldable pub cast_to : Printed → Printed → Printed
 cast_to head p = head ⊕ plain_text (codes "'(") ⊕ p ⊕ plain_text (codes ")")
 

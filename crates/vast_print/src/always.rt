@@ -5,7 +5,7 @@ ghost use Rattle.vast_core.specs.Bench.{OwnsAlways, trees_of};
 ghost use Rattle.vast_core.specs.Sound.{EventSound};
 ghost use Rattle.vast_core.specs.FileTree.{families, always_in};
 ghost use Rattle.vast_core.specs.View.{bench};
-ghost use Rattle.vast_print.specs.Internal.Ink.{WritesLines, WritesText};
+ghost use Rattle.vast_print.specs.Internal.Output.{WritesLines, WritesText};
 ghost use Rattle.vast_print.specs.Members.{events_text, always_text, member_page};
 
 use crate::expression::print_expression;
@@ -15,7 +15,7 @@ use crate::words;
 use crate::writer::Writer;
 use vast_core::{AlwaysBlock, AlwaysKind, Ast, Expr, VastAlwaysBase};
 
-/// Writes events behind the last line.
+/// Writes events after the last line.
 fn print_events(ast: &Ast, events: &[Expr], out: &mut Writer) -> Result<(), PrintFault>
     requires { All (EventSound (bench ast.now)) events.now }
     ensures { WritesText out.old out.new result
@@ -28,7 +28,7 @@ fn print_events(ast: &Ast, events: &[Expr], out: &mut Writer) -> Result<(), Prin
     Ok(())
 }
 
-/// Writes the words before an always block's block behind the last line.
+/// Writes the words before an always block's block after the last line.
 #[tactic(auto, using(crate::proofs::ContainerLaws::always))]
 fn print_opening(ast: &Ast, node: &AlwaysBlock, out: &mut Writer) -> Result<(), PrintFault>
     requires { All (EventSound (bench ast.now)) node.now.events.items }

@@ -6,8 +6,8 @@ ghost use Rattle.vast_literal.specs.declared.kind.AssignmentForm.TheVariants.{Co
 ghost use Rattle.vast_core.specs.Bench.{OwnsExpr, OwnsStatement, tree_of};
 ghost use Rattle.vast_core.specs.FileTree.{assigned_tree};
 ghost use Rattle.vast_core.specs.View.{bench};
-ghost use Rattle.vast_print.specs.Ink.{Wet, word, pour};
-ghost use Rattle.vast_print.specs.Internal.Ink.{Writes, WritesLines, WritesBehind};
+ghost use Rattle.vast_print.specs.Output.{Unstopped, word, inline};
+ghost use Rattle.vast_print.specs.Internal.Output.{Writes, WritesLines, WritesBehind};
 ghost use Rattle.vast_print.specs.Page.{written};
 ghost use Rattle.vast_print.specs.Text.{expr_text};
 ghost use Rattle.vast_print.specs.Statements.{statement_page};
@@ -18,7 +18,7 @@ use crate::words;
 use crate::writer::Writer;
 use vast_core::{Assignment, Ast, VastStatement};
 
-/// Writes both sides of an assignment behind the last line, with this operator between them.
+/// Writes both sides of an assignment after the last line, with this operator between them.
 #[tactic(auto, using(crate::proofs::ArenaLaws::stops))]
 fn print_sides(
     ast: &Ast,
@@ -29,7 +29,7 @@ fn print_sides(
     requires lhs { OwnsExpr (bench ast.now) assignment.now.lhs }
     requires rhs { OwnsExpr (bench ast.now) assignment.now.rhs }
     ensures { Writes out.old out.new result
-        (word (pour out.old.margin (word (pour out.old.margin (Wet out.old.draft)
+        (word (inline out.old.margin (word (inline out.old.margin (Unstopped out.old.draft)
         (written (expr_text (tree_of (bench ast.now) assignment.now.lhs)))) sign.now)
         (written (expr_text (tree_of (bench ast.now) assignment.now.rhs)))) (codes ";")) }
 {
@@ -58,7 +58,7 @@ pub(crate) fn print_continuous(
     print_sides(ast, assignment, " = ", out)
 }
 
-/// Writes an assignment of a block behind the last line.
+/// Writes an assignment of a block after the last line.
 #[tactic(auto, using(crate::proofs::ContainerLaws::assignments))]
 pub(crate) fn print_assigned(
     ast: &Ast,

@@ -5,8 +5,8 @@ ghost use Rattle.vast_core.specs.Bench.{OwnsExpr, OwnsBlock, OwnsCase, tree_of, 
 ghost use Rattle.vast_core.specs.FileTree.{families, case_statement, block_tree};
 ghost use Rattle.vast_core.specs.View.{bench};
 ghost use Rattle.vast_print.specs.Internal.Bodies.{assignment_of, bare_assignment};
-ghost use Rattle.vast_print.specs.Ink.{Wet, word, next, pour};
-ghost use Rattle.vast_print.specs.Internal.Ink.{Writes, WritesLines};
+ghost use Rattle.vast_print.specs.Output.{Unstopped, word, next, inline};
+ghost use Rattle.vast_print.specs.Internal.Output.{Writes, WritesLines};
 ghost use Rattle.vast_print.specs.Printed.{plain_text, ◌⊕◌};
 ghost use Rattle.vast_print.specs.Page.{written};
 ghost use Rattle.vast_print.specs.Text.{expr_text};
@@ -63,8 +63,8 @@ fn print_arm(ast: &Ast, kind: CaseKind, arm: CaseArm, out: &mut Writer) -> Resul
 fn print_selector(ast: &Ast, node: &CaseNode, out: &mut Writer) -> Result<(), PrintFault>
     requires { OwnsExpr (bench ast.now) node.now.selector }
     ensures { Writes out.old out.new result
-        (word (pour out.old.margin (word
-        (word (next out.old.margin (Wet out.old.draft)) (unique_word node.now.unique))
+        (word (inline out.old.margin (word
+        (word (next out.old.margin (Unstopped out.old.draft)) (unique_word node.now.unique))
         (case_word node.now.kind))
         (written (expr_text (tree_of (bench ast.now) node.now.selector)))) (codes ")")) }
 {
@@ -81,7 +81,7 @@ fn print_selector(ast: &Ast, node: &CaseNode, out: &mut Writer) -> Result<(), Pr
 fn print_label(ast: &Ast, label: Option<Expr>, out: &mut Writer) -> Result<(), PrintFault>
     requires { IfSome label (OwnsExpr (bench ast.now)) }
     ensures { Writes out.old out.new result
-        (pour out.old.margin (next out.old.margin (Wet out.old.draft))
+        (inline out.old.margin (next out.old.margin (Unstopped out.old.draft))
         (written (label_text (maybe_tree_of (bench ast.now) label) ⊕ plain_text (codes ": ")))) }
 {
     out.next()?;

@@ -18,7 +18,7 @@ use crate::writer::Writer;
 use std::alloc::AllocError;
 use vast_core::{Ast, Expr, TypeNode, VastDataType};
 
-/// Puts what is cast, and what stands behind it, on the list of work.
+/// Puts what is cast, and what stands after it, on the list of work.
 #[tactic(auto, using(crate::proofs::PieceLaws::pushes))]
 fn push_operand(
     ast: &Ast,

@@ -4,8 +4,8 @@ ghost use Rattle.std.specs.Prelude.{codes};
 ghost use Rattle.vast_core.specs.Bench.{OwnsExpr, OwnsConditional, tree_of};
 ghost use Rattle.vast_core.specs.FileTree.{families, conditional_statement};
 ghost use Rattle.vast_core.specs.View.{bench};
-ghost use Rattle.vast_print.specs.Ink.{Wet, word, pour};
-ghost use Rattle.vast_print.specs.Internal.Ink.{Writes, WritesLines};
+ghost use Rattle.vast_print.specs.Output.{Unstopped, word, inline};
+ghost use Rattle.vast_print.specs.Internal.Output.{Writes, WritesLines};
 ghost use Rattle.vast_print.specs.Page.{written};
 ghost use Rattle.vast_print.specs.Text.{expr_text};
 ghost use Rattle.vast_print.specs.Statements.{statement_page};
@@ -16,7 +16,7 @@ use crate::statement::print_block;
 use crate::writer::Writer;
 use vast_core::{Ast, Conditional, Expr};
 
-/// Writes a conditional on lines of its own; each arm goes on behind the end of the one before.
+/// Writes a conditional on lines of its own; each arm goes on after the end of the one before.
 #[cycle(print)]
 #[tactic(auto, using(crate::proofs::ContainerLaws::conditionals))]
 pub(crate) fn print_conditional(
@@ -45,7 +45,7 @@ pub(crate) fn print_conditional(
     }
 }
 
-/// Writes the condition of an arm behind the last line and these words.
+/// Writes the condition of an arm after the last line and these words.
 #[tactic(auto, using(crate::proofs::ArenaLaws::stops))]
 fn print_condition(
     ast: &Ast,
@@ -55,7 +55,7 @@ fn print_condition(
 ) -> Result<(), PrintFault>
     requires { OwnsExpr (bench ast.now) condition }
     ensures { Writes out.old out.new result
-        (word (pour out.old.margin (word (Wet out.old.draft) opening.now)
+        (word (inline out.old.margin (word (Unstopped out.old.draft) opening.now)
         (written (expr_text (tree_of (bench ast.now) condition)))) (codes ") ")) }
 {
     out.word(opening)?;

@@ -6,7 +6,7 @@ ghost use Rattle.vast_core.specs.Bench.{OwnsType, type_of};
 ghost use Rattle.vast_core.specs.FileTree.{declared_port};
 ghost use Rattle.vast_core.specs.View.{bench};
 ghost use Rattle.vast_print.specs.Internal.Words.{kind_opening};
-ghost use Rattle.vast_print.specs.Internal.Ink.{WritesText};
+ghost use Rattle.vast_print.specs.Internal.Output.{WritesText};
 ghost use Rattle.vast_print.specs.Declaration.{declaration_text};
 ghost use Rattle.vast_print.specs.Layout.{port_text, direction_word};
 
@@ -40,7 +40,7 @@ fn direction_word(direction: ModulePortDirection) -> &'static str
     }
 }
 
-/// Writes a declaration behind the last line.
+/// Writes a declaration after the last line.
 #[tactic(auto, using(crate::proofs::ArenaLaws::declarations))]
 pub(crate) fn print_declaration(
     ast: &Ast,
@@ -72,7 +72,7 @@ pub(crate) fn port_kind(ast: &Ast, kind: DataKind, t: VastDataType) -> DataKind
     }
 }
 
-/// Writes a port with its direction behind the last line.
+/// Writes a port with its direction after the last line.
 #[tactic(auto, using(crate::proofs::ArenaLaws::declarations))]
 pub(crate) fn print_port(ast: &Ast, port: &Port, out: &mut Writer) -> Result<(), PrintFault>
     requires { OwnsType (bench ast.now) port.now.data_type }

@@ -3,7 +3,7 @@
 ghost use Rattle.std.specs.Prelude.{◌+◌};
 ghost use Rattle.vast_core.specs.Bench.{OwnsExpr, tree_of};
 ghost use Rattle.vast_core.specs.View.{bench};
-ghost use Rattle.vast_print.specs.Internal.Ink.{WritesText};
+ghost use Rattle.vast_print.specs.Internal.Output.{WritesText};
 ghost use Rattle.vast_print.specs.Printed.{wrapped};
 ghost use Rattle.vast_print.specs.Text.{expr_text};
 ghost use Rattle.vast_print.specs.Internal.Pieces.{expr_weight, piece_weight, piece_text, PieceOwned, PiecesOwned, Begins, BeginsExpr};
@@ -17,7 +17,7 @@ use crate::selects::{begin_index, begin_part_select, begin_slice};
 use crate::writer::Writer;
 use vast_core::{Ast, Expr, ExprNode};
 
-/// Writes an expression behind the last line; what stands behind a line break goes on at the margin.
+/// Writes an expression after the last line; what stands after a line break goes on at the margin.
 #[tactic(auto, using(crate::proofs::PieceLaws::wholes))]
 pub(crate) fn print_expression(ast: &Ast, e: Expr, out: &mut Writer) -> Result<(), PrintFault>
     requires { OwnsExpr (bench ast.now) e }

@@ -9,8 +9,8 @@ ghost use Rattle.vast_literal.specs.Tree.{IncludeItem};
 ghost use Rattle.vast_print.specs.Derived.{DerivesIfPlain, FileDerivesIfPlain};
 ghost use Rattle.vast_print.specs.Emits.{Emits, EmitsText};
 ghost use Rattle.vast_print.specs.Internal.Emits.{Faults};
-ghost use Rattle.vast_print.specs.Ink.{Wet, pour, next};
-ghost use Rattle.vast_print.specs.Internal.Ink.{Writes, WritesLines};
+ghost use Rattle.vast_print.specs.Output.{Unstopped, inline, next};
+ghost use Rattle.vast_print.specs.Internal.Output.{Writes, WritesLines};
 ghost use Rattle.vast_print.specs.Page.{written};
 ghost use Rattle.vast_print.specs.Text.{expr_text};
 ghost use Rattle.vast_print.specs.Layout.{item_page, layout};
@@ -78,7 +78,7 @@ fn fault_of(alloc: Global, fault: PrintFault) -> VastFault
 /// the text, and no other tree.
 ///
 /// # Errors
-/// The first refusal in the order of the text, a wrong select of a named scalar; or want of memory.
+/// The first refusal in the order of the text, a wrong select of a named scalar; or out of memory.
 pub fn print_file(ast: &Ast) -> Result<String, VastFault>
     ensures text { Emits (layout (tree (bench ast.now))) result }
     ensures derived { IfOk result
@@ -116,7 +116,7 @@ pub fn print_expr(ast: &Ast, e: Expr) -> Result<String, VastFault>
 fn print_line(ast: &Ast, e: Expr, out: &mut Writer) -> Result<(), PrintFault>
     requires { OwnsExpr (bench ast.now) e }
     ensures { Writes out.old out.new result
-        (pour out.old.margin (next out.old.margin (Wet out.old.draft))
+        (inline out.old.margin (next out.old.margin (Unstopped out.old.draft))
         (written (expr_text (tree_of (bench ast.now) e)))) }
 {
     out.next()?;

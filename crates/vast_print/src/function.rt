@@ -6,7 +6,7 @@ ghost use Rattle.vast_core.specs.Bench.{OwnsType, OwnsBlock, OwnsFunction, type_
 ghost use Rattle.vast_core.specs.Sound.{VariableSound};
 ghost use Rattle.vast_core.specs.FileTree.{families, variable_tree, function_in, block_tree};
 ghost use Rattle.vast_core.specs.View.{bench};
-ghost use Rattle.vast_print.specs.Internal.Ink.{WritesLines, WritesText};
+ghost use Rattle.vast_print.specs.Internal.Output.{WritesLines, WritesText};
 ghost use Rattle.vast_print.specs.Members.{result_text, input_text, inputs_text, local_page, locals_page, function_body_page, member_page};
 ghost use Rattle.vast_literal.specs.Shape.{is_one_casez};
 
@@ -41,7 +41,7 @@ fn result_kind(ast: &Ast, t: VastDataType) -> DataKind
     }
 }
 
-/// Writes an input behind the last line.
+/// Writes an input after the last line.
 #[tactic(auto, using(crate::proofs::ContainerLaws::functions))]
 fn print_input(ast: &Ast, input: &FunctionVariable, out: &mut Writer) -> Result<(), PrintFault>
     requires { VariableSound (bench ast.now) input.now }
@@ -53,7 +53,7 @@ fn print_input(ast: &Ast, input: &FunctionVariable, out: &mut Writer) -> Result<
     print_declaration(ast, kind, input.data_type, input.name.as_str(), out)
 }
 
-/// Writes the inputs of a function behind the last line.
+/// Writes the inputs of a function after the last line.
 fn print_inputs(ast: &Ast, inputs: &[FunctionVariable], out: &mut Writer) -> Result<(), PrintFault>
     requires { All (VariableSound (bench ast.now)) inputs.now }
     ensures { WritesText out.old out.new result
@@ -124,7 +124,7 @@ fn print_body(ast: &Ast, b: VastStatementBlock, out: &mut Writer) -> Result<(), 
     }
 }
 
-/// Writes the result and the name of a function behind the last line.
+/// Writes the result and the name of a function after the last line.
 fn print_result(ast: &Ast, t: VastDataType, name: &str, out: &mut Writer) -> Result<(), PrintFault>
     requires { OwnsType (bench ast.now) t }
     ensures { WritesText out.old out.new result

@@ -5,7 +5,7 @@ ghost use Rattle.vast_core.specs.Bench.{OwnsExpr, OwnsLoop, tree_of};
 ghost use Rattle.vast_core.specs.Nests.{label_bytes};
 ghost use Rattle.vast_core.specs.FileTree.{families, loop_member};
 ghost use Rattle.vast_core.specs.View.{bench};
-ghost use Rattle.vast_print.specs.Internal.Ink.{WritesLines, WritesText};
+ghost use Rattle.vast_print.specs.Internal.Output.{WritesLines, WritesText};
 ghost use Rattle.vast_print.specs.Members.{loop_label_text, loop_text, member_page};
 
 use crate::expression::{print_expression, print_wrapped};
@@ -38,7 +38,7 @@ pub(crate) fn print_loop(ast: &Ast, l: GenerateLoop, out: &mut Writer) -> Result
     Ok(())
 }
 
-/// Writes the words before a loop's members behind the last line. The end stands as the right child of the comparison.
+/// Writes the words before a loop's members after the last line. The end stands as the right child of the comparison.
 #[tactic(auto, using(crate::proofs::ContainerLaws::headers))]
 fn print_header(ast: &Ast, node: &LoopNode, out: &mut Writer) -> Result<(), PrintFault>
     requires start { OwnsExpr (bench ast.now) node.now.start }
@@ -64,7 +64,7 @@ fn print_header(ast: &Ast, node: &LoopNode, out: &mut Writer) -> Result<(), Prin
     print_label(&node.label, out)
 }
 
-/// Writes a loop's label behind the last line.
+/// Writes a loop's label after the last line.
 #[tactic(auto, using(crate::proofs::ContainerLaws::headers))]
 fn print_label(label: &Option<String>, out: &mut Writer) -> Result<(), PrintFault>
     ensures { WritesText out.old out.new result (loop_label_text (label_bytes label.now)) }

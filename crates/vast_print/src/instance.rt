@@ -7,7 +7,7 @@ ghost use Rattle.vast_core.specs.Sound.{ConnectionSound};
 ghost use Rattle.vast_core.specs.declared.node.Member.TheVariants.{Instantiation as InstanceEntry};
 ghost use Rattle.vast_core.specs.FileTree.{connection_tree, member_tree};
 ghost use Rattle.vast_core.specs.View.{bench};
-ghost use Rattle.vast_print.specs.Internal.Ink.{WritesLines, WritesText};
+ghost use Rattle.vast_print.specs.Internal.Output.{WritesLines, WritesText};
 ghost use Rattle.vast_print.specs.Members.{entries_page, connection_text, connections_page, instance_head_page, member_page};
 
 use crate::expression::print_expression;
@@ -16,7 +16,7 @@ use crate::words;
 use crate::writer::Writer;
 use vast_core::{Ast, Connection, Instance, Instantiation};
 
-/// Writes `.name(value)` behind the last line; an open port has nothing between its parentheses.
+/// Writes `.name(value)` after the last line; an open port has nothing between its parentheses.
 #[tactic(auto, using(crate::proofs::ArenaLaws::instances))]
 fn print_connection(ast: &Ast, connection: &Connection, out: &mut Writer) -> Result<(), PrintFault>
     requires { ConnectionSound (bench ast.now) connection.now }

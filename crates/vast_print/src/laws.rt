@@ -51,7 +51,7 @@ pub fn printed_files()
 {}
 
 /// Two such files of equal text have equal normal forms, whatever their dialects; so have two plain files for which
-/// [`crate::print_file`] answered equal texts.
+/// [`crate::print_file`] returned equal texts.
 pub fn equal_files()
     ensures { EqualFiles }
 {}

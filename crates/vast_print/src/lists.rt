@@ -4,7 +4,7 @@ ghost use Rattle.std.specs.Prelude.{All, IfSome};
 ghost use Rattle.vast_literal.specs.Tree.{ConcatTree, PatternTree, MacroTree, CallTree, NoArguments, SomeArguments};
 ghost use Rattle.vast_core.specs.Bench.{OwnsExpr, maybe_tree_of, trees_of};
 ghost use Rattle.vast_core.specs.View.{bench};
-ghost use Rattle.vast_print.specs.Internal.Ink.{WritesText};
+ghost use Rattle.vast_print.specs.Internal.Output.{WritesText};
 ghost use Rattle.vast_print.specs.Text.{expr_text};
 ghost use Rattle.vast_print.specs.Internal.Pieces.{PiecesOwned, BeginsExpr};
 

@@ -5,7 +5,7 @@ ghost use Rattle.vast_core.specs.Bench.{OwnsType, OwnsMacroRef, tree_of};
 ghost use Rattle.vast_core.specs.Sound.{MemberSound};
 ghost use Rattle.vast_core.specs.FileTree.{declared, member_tree, members_tree};
 ghost use Rattle.vast_core.specs.View.{bench};
-ghost use Rattle.vast_print.specs.Internal.Ink.{WritesLines};
+ghost use Rattle.vast_print.specs.Internal.Output.{WritesLines};
 ghost use Rattle.vast_print.specs.Members.{member_page, members_page};
 ghost use Rattle.vast_literal.specs.Tree.{DeclarationMember, MacroMember};
 

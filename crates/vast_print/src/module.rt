@@ -7,8 +7,8 @@ ghost use Rattle.vast_core.specs.declared.node.FileItem.TheVariants.{Module as M
 ghost use Rattle.vast_core.specs.Sound.{MemberSound, ParameterPortSound};
 ghost use Rattle.vast_core.specs.FileTree.{parameter_port_tree, port_tree, members_tree, module_tree, item_tree};
 ghost use Rattle.vast_core.specs.View.{bench};
-ghost use Rattle.vast_print.specs.Ink.{Wet, word, next, pour};
-ghost use Rattle.vast_print.specs.Internal.Ink.{Writes, WritesLines, WritesText};
+ghost use Rattle.vast_print.specs.Output.{Unstopped, word, next, inline};
+ghost use Rattle.vast_print.specs.Internal.Output.{Writes, WritesLines, WritesText};
 ghost use Rattle.vast_print.specs.Printed.{plain_text};
 ghost use Rattle.vast_print.specs.Layout.{port_text, ports_page, header_page, body_page, module_page, item_page};
 ghost use Rattle.vast_print.specs.Page.{written};
@@ -49,8 +49,8 @@ fn print_ports(ast: &Ast, ports: &[ModulePort], out: &mut Writer) -> Result<(), 
 /// Writes the words before a header's first list, or before the end of a header without lists.
 fn print_opening(name: &str, end: &str, out: &mut Writer) -> Result<(), PrintFault>
     ensures { Writes out.old out.new result
-        (word (pour out.old.margin
-        (word (next out.old.margin (Wet out.old.draft)) (codes "module "))
+        (word (inline out.old.margin
+        (word (next out.old.margin (Unstopped out.old.draft)) (codes "module "))
         (written (plain_text name.now))) end.now) }
 {
     out.next()?;

@@ -7,7 +7,7 @@ ghost use Rattle.vast_core.specs.Bench.{OwnsExpr, OwnsType, tree_of, type_of};
 ghost use Rattle.vast_core.specs.Sound.{FormSound, ParameterPortSound};
 ghost use Rattle.vast_core.specs.FileTree.{form_tree, parameter_port_tree};
 ghost use Rattle.vast_core.specs.View.{bench};
-ghost use Rattle.vast_print.specs.Internal.Ink.{WritesLines, WritesText};
+ghost use Rattle.vast_print.specs.Internal.Output.{WritesLines, WritesText};
 ghost use Rattle.vast_print.specs.Layout.{parameter_port_text, parameter_ports_page};
 ghost use Rattle.vast_print.specs.Members.{parameter_text, member_page};
 
@@ -32,7 +32,7 @@ fn base_kind(ast: &Ast, t: VastDataType) -> DataKind
     }
 }
 
-/// Writes a parameter of a header behind the last line: a declaration where it has a type, else its name.
+/// Writes a parameter of a header after the last line: a declaration where it has a type, else its name.
 #[tactic(auto, using(crate::proofs::ArenaLaws::declarations))]
 fn print_parameter_port(
     ast: &Ast,
@@ -74,7 +74,7 @@ pub(crate) fn print_parameter_ports(
     Ok(())
 }
 
-/// Writes what a parameter declares behind the last line.
+/// Writes what a parameter declares after the last line.
 #[tactic(auto, using(crate::proofs::ArenaLaws::parameters))]
 fn print_form(ast: &Ast, form: &ParameterForm, out: &mut Writer) -> Result<(), PrintFault>
     requires { FormSound (bench ast.now) form.now }

@@ -83,7 +83,7 @@ pub(crate) fn push_part(
     Ok(())
 }
 
-/// Puts the subject of a select and the bracket behind it on the list of work.
+/// Puts the subject of a select and the bracket after it on the list of work.
 #[tactic(auto, using(crate::proofs::PieceLaws::pushes))]
 pub(crate) fn push_subject(
     ast: &Ast,

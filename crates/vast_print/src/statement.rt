@@ -4,8 +4,8 @@ ghost use Rattle.vast_core.specs.Bench.{OwnsBlock};
 ghost use Rattle.vast_core.specs.Internal.Entries.{OwnsEntry};
 ghost use Rattle.vast_core.specs.FileTree.{families, statement_in, block_tree};
 ghost use Rattle.vast_core.specs.View.{bench};
-ghost use Rattle.vast_print.specs.Ink.{Wet, next, pour};
-ghost use Rattle.vast_print.specs.Internal.Ink.{Writes, WritesLines, WritesBehind};
+ghost use Rattle.vast_print.specs.Output.{Unstopped, next, inline};
+ghost use Rattle.vast_print.specs.Internal.Output.{Writes, WritesLines, WritesBehind};
 ghost use Rattle.vast_print.specs.Printed.{plain_text};
 ghost use Rattle.vast_print.specs.Page.{written};
 ghost use Rattle.vast_print.specs.Statements.{statement_page, statements_page, block_page};
@@ -17,7 +17,7 @@ use crate::refusal::PrintFault;
 use crate::writer::Writer;
 use vast_core::{Ast, Statement, VastStatementBlock};
 
-/// Writes a block behind the last line.
+/// Writes a block after the last line.
 #[cycle(print)]
 #[tactic(auto, using(crate::proofs::ContainerLaws::blocks))]
 pub(crate) fn print_block(
@@ -84,7 +84,7 @@ fn print_statement(ast: &Ast, statement: &Statement, out: &mut Writer) -> Result
 /// Writes a text as it is, from a line of its own on.
 pub(crate) fn print_inline(text: &str, out: &mut Writer) -> Result<(), PrintFault>
     ensures { Writes out.old out.new result
-        (pour out.old.margin (next out.old.margin (Wet out.old.draft))
+        (inline out.old.margin (next out.old.margin (Unstopped out.old.draft))
         (written (plain_text text.now))) }
 {
     out.next()?;

@@ -1,12 +1,12 @@
-//! Types, as they stand before and behind a declared name. Arrays of arrays are walked to what they are made of.
+//! Types, as they stand before and after a declared name. Arrays of arrays are walked to what they are made of.
 
 ghost use Rattle.std.specs.Prelude.{◌≡◌, ◌-ℤ◌, pos};
 ghost use Rattle.std.specs.Fmt.{signed_decimal};
 ghost use Rattle.vast_literal.specs.Shape.{base_of, packed_dimensions, unpacked_dimensions, is_external};
 ghost use Rattle.vast_core.specs.Bench.{OwnsExpr, OwnsType, tree_of, type_of};
 ghost use Rattle.vast_core.specs.View.{bench};
-ghost use Rattle.vast_print.specs.Ink.{Wet, word};
-ghost use Rattle.vast_print.specs.Internal.Ink.{Writes, WritesText};
+ghost use Rattle.vast_print.specs.Output.{Unstopped, word};
+ghost use Rattle.vast_print.specs.Internal.Output.{Writes, WritesText};
 ghost use Rattle.vast_print.specs.Printed.{plain_text, spaced};
 ghost use Rattle.vast_print.specs.Declaration.{packed_text, unpacked_range, unpacked_text, type_text, highest_index_text};
 ghost use Rattle.vast_print.specs.Internal.Words.{has_text};
@@ -33,7 +33,7 @@ pub(crate) fn is_external(ast: &Ast, t: VastDataType) -> bool
 /// The highest index of a number of elements or bits: the number minus one.
 pub(crate) fn print_highest_index(value: i64, out: &mut Writer) -> Result<(), PrintFault>
     ensures { Writes out.old out.new result
-        (word (Wet out.old.draft) (signed_decimal (value -ℤ pos 1))) }
+        (word (Unstopped out.old.draft) (signed_decimal (value -ℤ pos 1))) }
 {
     if value == i64::MIN {
         out.word("-9223372036854775809")?;
@@ -96,7 +96,7 @@ fn print_packed(ast: &Ast, t: VastDataType, out: &mut Writer) -> Result<(), Prin
     }
 }
 
-/// Writes all packed dimensions of a type and the space behind them, where there are any.
+/// Writes all packed dimensions of a type and the space after them, where there are any.
 #[tactic(auto, using(crate::proofs::PrintLaws::spaces))]
 fn print_spaced_packed(ast: &Ast, t: VastDataType, out: &mut Writer) -> Result<(), PrintFault>
     requires { OwnsType (bench ast.now) t }
@@ -110,7 +110,7 @@ fn print_spaced_packed(ast: &Ast, t: VastDataType, out: &mut Writer) -> Result<(
     Ok(())
 }
 
-/// Writes a name and the space behind it, where it isn't empty.
+/// Writes a name and the space after it, where it isn't empty.
 #[tactic(auto, using(crate::proofs::PrintLaws::spaces))]
 fn print_spaced_name(name: &str, out: &mut Writer) -> Result<(), PrintFault>
     ensures { WritesText out.old out.new result (spaced (plain_text name.now)) }
@@ -144,7 +144,7 @@ fn print_highest_bit(
     }
 }
 
-/// Writes a type, and the space behind it where it isn't empty.
+/// Writes a type, and the space after it where it isn't empty.
 #[tactic(auto, using(crate::proofs::PrintLaws::types))]
 pub(crate) fn print_type(ast: &Ast, t: VastDataType, out: &mut Writer) -> Result<(), PrintFault>
     requires { OwnsType (bench ast.now) t }
@@ -187,7 +187,7 @@ pub(crate) fn print_type(ast: &Ast, t: VastDataType, out: &mut Writer) -> Result
     }
 }
 
-/// Writes a dimension behind a name: a range in Verilog, its number of elements in SystemVerilog.
+/// Writes a dimension after a name: a range in Verilog, its number of elements in SystemVerilog.
 #[tactic(auto, using(crate::proofs::PrintLaws::range_parts))]
 fn print_unpacked_range(
     file_type: VastFileType,
@@ -225,7 +225,7 @@ fn print_unpacked_ranges(
     Ok(())
 }
 
-/// Writes the unpacked dimensions of a type, which stand behind the name.
+/// Writes the unpacked dimensions of a type, which stand after the name.
 #[tactic(auto, using(crate::proofs::PrintLaws::unpacked))]
 pub(crate) fn print_dimensions(
     ast: &Ast,

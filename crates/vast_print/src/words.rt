@@ -29,7 +29,7 @@ pub(crate) fn scalar_cast(signed: bool) -> &'static str
     if signed { "signed'(logic'(" } else { "logic'(" }
 }
 
-/// Behind what is cast to a scalar.
+/// After what is cast to a scalar.
 pub(crate) fn scalar_cast_end(signed: bool) -> &'static str
     ensures { result.now ≡ scalar_cast_closing signed }
 {
@@ -61,14 +61,14 @@ pub(crate) fn int_cast(signed: bool) -> &'static str
     if signed { "int'(" } else { "unsigned'(int'(" }
 }
 
-/// Behind what is cast to an integer or an int.
+/// After what is cast to an integer or an int.
 pub(crate) fn number_cast_end(signed: bool) -> &'static str
     ensures { result.now ≡ number_cast_closing signed }
 {
     if signed { ")" } else { "))" }
 }
 
-/// Behind an entry of a list, where more follow.
+/// After an entry of a list, where more follow.
 pub(crate) fn comma_word(more: bool) -> &'static str
     ensures { result.now ≡ comma more }
 {
@@ -82,7 +82,7 @@ pub(crate) fn parameter(local: bool) -> &'static str
     if local { "localparam " } else { "parameter " }
 }
 
-/// Behind a macro statement.
+/// After a macro statement.
 pub(crate) fn semicolon(stands: bool) -> &'static str
     ensures { result.now ≡ semicolon_text stands }
 {
@@ -144,7 +144,7 @@ pub(crate) fn for_genvar() -> &'static str
     "for (genvar "
 }
 
-/// Behind a loop's header.
+/// After a loop's header.
 #[tactic(auto, unfolding(crate::specs::Internal::Words::step_word))]
 pub(crate) fn step() -> &'static str
     ensures { result.now ≡ step_word }
@@ -176,7 +176,7 @@ pub(crate) fn always_comb() -> &'static str
     "always_comb "
 }
 
-/// Behind a function's body.
+/// After a function's body.
 #[tactic(auto, unfolding(crate::specs::Internal::Words::endfunction_word))]
 pub(crate) fn endfunction() -> &'static str
     ensures { result.now ≡ endfunction_word }

@@ -5,7 +5,7 @@ ghost use Rattle.std.specs.Fmt.{decimal, signed_decimal};
 ghost use Rattle.vast_print.specs.Printed.{plain_text};
 ghost use Rattle.vast_print.specs.Page.{line, written, commented};
 ghost use Rattle.vast_print.specs.Draft.{blank, whole};
-ghost use Rattle.vast_print.specs.Ink.{Wet, onto, word, next, hang, pour};
+ghost use Rattle.vast_print.specs.Output.{Unstopped, append_word, word, next, indented, inline};
 
 use std::alloc::{AllocError, Global};
 use std::fmt::Write;
@@ -73,7 +73,7 @@ impl Writer {
     /// `AllocError` where the text's growth was refused.
     pub fn next(&mut self) -> Result<(), AllocError>
         ensures text { OnOk result
-            (next self.old.margin (Wet self.old.draft) ≡ Wet self.new.draft) }
+            (next self.old.margin (Unstopped self.old.draft) ≡ Unstopped self.new.draft) }
         ensures margin { self.new.margin ≡ self.old.margin }
     {
         self.begin_line(self.margin)
@@ -85,16 +85,16 @@ impl Writer {
     /// As [`Writer::next`] and [`Writer::deeper`].
     pub fn next_inner(&mut self) -> Result<(), AllocError>
         ensures text { OnOk result
-            (next (self.old.margin + 1) (Wet self.old.draft) ≡ Wet self.new.draft) }
+            (next (self.old.margin + 1) (Unstopped self.old.draft) ≡ Unstopped self.new.draft) }
         ensures margin { self.new.margin ≡ self.old.margin }
     {
         let depth = one_deeper(self.margin)?;
         self.begin_line(depth)
     }
 
-    #[tactic(auto, unfolding(crate::specs::Ink::next))]
+    #[tactic(auto, unfolding(crate::specs::Output::next))]
     fn begin_line(&mut self, depth: usize) -> Result<(), AllocError>
-        ensures text { OnOk result (next depth (Wet self.old.draft) ≡ Wet self.new.draft) }
+        ensures text { OnOk result (next depth (Unstopped self.old.draft) ≡ Unstopped self.new.draft) }
         ensures margin { self.new.margin ≡ self.old.margin }
     {
         if self.begun {
@@ -111,9 +111,9 @@ impl Writer {
     /// # Errors
     /// `AllocError` where the text's growth was refused.
     #[inline(always)]
-    #[tactic(auto, unfolding(crate::specs::Ink::word))]
+    #[tactic(auto, unfolding(crate::specs::Output::word))]
     pub fn word(&mut self, text: &str) -> Result<(), AllocError>
-        ensures text { OnOk result (word (Wet self.old.draft) text.now ≡ Wet self.new.draft) }
+        ensures text { OnOk result (word (Unstopped self.old.draft) text.now ≡ Unstopped self.new.draft) }
         ensures margin { self.new.margin ≡ self.old.margin }
     {
         if text.is_empty() {
@@ -125,7 +125,7 @@ impl Writer {
 
     #[inline(always)]
     fn begin_word(&mut self) -> Result<(), AllocError>
-        ensures text { OnOk result (self.new.draft ≡ onto self.old.draft []) }
+        ensures text { OnOk result (self.new.draft ≡ append_word self.old.draft []) }
         ensures margin { self.new.margin ≡ self.old.margin }
     {
         if self.fresh {
@@ -141,7 +141,7 @@ impl Writer {
     /// `AllocError` where the text's growth was refused.
     pub fn number(&mut self, number: i64) -> Result<(), AllocError>
         ensures text { OnOk result
-            (word (Wet self.old.draft) (signed_decimal number) ≡ Wet self.new.draft) }
+            (word (Unstopped self.old.draft) (signed_decimal number) ≡ Unstopped self.new.draft) }
         ensures margin { self.new.margin ≡ self.old.margin }
     {
         self.begin_word()?;
@@ -149,14 +149,14 @@ impl Writer {
         Ok(())
     }
 
-    /// Writes a text behind the last line; what stands behind its line breaks goes on at the margin.
+    /// Writes a text after the last line; what stands after its line breaks goes on at the margin.
     ///
     /// # Errors
     /// `AllocError` where the text's growth was refused.
     pub fn written(&mut self, text: &str) -> Result<(), AllocError>
         ensures text { OnOk result
-            (pour self.old.margin (Wet self.old.draft) (written (plain_text text.now))
-            ≡ Wet self.new.draft) }
+            (inline self.old.margin (Unstopped self.old.draft) (written (plain_text text.now))
+            ≡ Unstopped self.new.draft) }
         ensures margin { self.new.margin ≡ self.old.margin }
     {
         if text.as_bytes().contains(&b'\n') {
@@ -169,8 +169,8 @@ impl Writer {
     /// Writes a text line by line.
     fn lines(&mut self, text: &str) -> Result<(), AllocError>
         ensures text { OnOk result
-            (pour self.old.margin (Wet self.old.draft) (written (plain_text text.now))
-            ≡ Wet self.new.draft) }
+            (inline self.old.margin (Unstopped self.old.draft) (written (plain_text text.now))
+            ≡ Unstopped self.new.draft) }
         ensures margin { self.new.margin ≡ self.old.margin }
     {
         let mut rest = text;
@@ -182,11 +182,11 @@ impl Writer {
         self.word(rest)
     }
 
-    #[tactic(auto, using(crate::proofs::InkLaws::comments))]
+    #[tactic(auto, using(crate::proofs::OutputLaws::comments))]
     fn comment_line(&mut self, text: &str) -> Result<(), AllocError>
         ensures text { OnOk result
-            (hang self.old.margin (Wet self.old.draft) (commented (line text.now))
-            ≡ Wet self.new.draft) }
+            (indented self.old.margin (Unstopped self.old.draft) (commented (line text.now))
+            ≡ Unstopped self.new.draft) }
         ensures margin { self.new.margin ≡ self.old.margin }
     {
         self.next()?;
@@ -204,8 +204,8 @@ impl Writer {
     /// `AllocError` where the text's growth was refused.
     pub fn comment(&mut self, text: &str) -> Result<(), AllocError>
         ensures text { OnOk result
-            (hang self.old.margin (Wet self.old.draft) (commented (written (plain_text text.now)))
-            ≡ Wet self.new.draft) }
+            (indented self.old.margin (Unstopped self.old.draft) (commented (written (plain_text text.now)))
+            ≡ Unstopped self.new.draft) }
         ensures margin { self.new.margin ≡ self.old.margin }
     {
         let mut rest = text;
@@ -216,7 +216,7 @@ impl Writer {
         self.comment_line(rest)
     }
 
-    /// The whole text, each line with a line break behind it.
+    /// The whole text, each line with a line break after it.
     ///
     /// # Errors
     /// `AllocError` where the text's growth was refused.
@@ -231,7 +231,7 @@ impl Writer {
         Ok(whole)
     }
 
-    /// The text without the line break behind its last line.
+    /// The text without the line break after its last line.
     pub fn finish_line(self) -> String
         ensures { string_bytes result ≡ self.draft.text }
     {
@@ -256,7 +256,7 @@ fn indent(depth: usize, text: &mut String) -> Result<(), AllocError>
     Ok(())
 }
 
-/// Writes a number in decimal behind a text.
+/// Writes a number in decimal after a text.
 fn push_number(number: i64, text: &mut String) -> Result<(), AllocError>
     ensures { OnOk result (string_bytes text.new ≡ string_bytes text.old ++ signed_decimal number) }
 {

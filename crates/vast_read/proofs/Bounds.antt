@@ -5,7 +5,7 @@ use Rattle.vast_literal.specs.Tokens.{op_text}
 use Rattle.vast_literal.specs.declared.token.Sign.{Sign as Op}
 use Rattle.vast_literal.specs.declared.token.Sign.TheVariants.{Less, LogicNot}
 use Rattle.vast_literal.specs.NormalExpr.{NormalExpr, Name, Binary}
-use Rattle.vast_literal.specs.Internal.MemberParser.{bound_of}
+use Rattle.vast_read.specs.Internal.Bounds.{bound_of}
 use Rattle.vast_read.specs.Texts.{signs, sign_written, infix_of}
 use Rattle.vast_read.specs.Internal.Bounds.{is_name_of, is_bounded}
 use Rattle.vast_read.proofs.BoundsWords.{is_less}

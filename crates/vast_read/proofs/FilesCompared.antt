@@ -3,7 +3,7 @@ use Rattle.std.proofs.Common.{◌≡◌, ◌≢◌, ℕ, List, [], ◌∷◌, Op
 use Rattle.std.proofs.lemmas.List.{reverse-reverse}
 use Rattle.vast_literal.specs.FileGrammar.{DerivesFile}
 use Rattle.vast_literal.specs.NormalFile.{NormalFile}
-use Rattle.vast_literal.proofs.DerivedOnce.{file_once}
+use Rattle.vast_rows.proofs.OneEach.{file_once}
 use Rattle.vast_rows.specs.Trace.{trace}
 use Rattle.vast_rows.proofs.Builds.{trace_is_one}
 use Rattle.vast_read.specs.Compared.{Compares}

@@ -37,7 +37,7 @@ heard_more t ts = reverse-append (told_event t ∷ []) (map told_event ts)
 
 -- What is built of it.
 
--- What was heard is what is still to come and some events behind it, which built the values, where they built anything.
+-- What was heard is what is still to come and some events after it, which built the values, where they built anything.
 pub record Building (all left : List Told) (values : List Value) : Type 0 where
   pub after : List Event
   pub split : events_heard all ≡ events_heard left ++ after

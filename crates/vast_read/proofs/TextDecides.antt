@@ -8,7 +8,7 @@ use Rattle.vast_literal.specs.NormalFile.{NormalFile}
 use Rattle.vast_read.specs.FileView.{file_view}
 use Rattle.vast_read.specs.declared.tree.file.NormalFile as code
 use Rattle.vast_literal.specs.FileGrammar.{IsFile, DerivesFile}
-use Rattle.vast_literal.proofs.DerivedOnce.{file_once}
+use Rattle.vast_rows.proofs.OneEach.{file_once}
 use Rattle.vast_literal.proofs.Longest.{scan_lexes, lexes_scan}
 use Rattle.vast_read.specs.Internal.FileReadings.{IsFileOf}
 

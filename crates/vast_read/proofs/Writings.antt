@@ -5,7 +5,7 @@ use Rattle.std.specs.List.{list_any}
 use Rattle.vast_literal.specs.Tokens.{op_text}
 use Rattle.vast_literal.proofs.ScanLaws.{key_token}
 use Rattle.vast_literal.specs.Keyword.{is_keyword}
-use Rattle.vast_literal.specs.Internal.Nexts.{key_in}
+use Rattle.vast_read.specs.Internal.TokenView.{key_in}
 use Rattle.vast_literal.specs.Tokens.{key_text, key_written, reserved_keys, Word, keyword_token, word_token}
 use Rattle.vast_literal.specs.declared.token.Sign.{Sign as Op}
 use Rattle.vast_literal.specs.declared.token.Sign.TheVariants.{LogicOr, LogicNot}

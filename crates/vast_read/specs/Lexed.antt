@@ -16,7 +16,7 @@ abbrev pub whole : State → List Token
 whole (AfterTick d) = before_tick d
 whole s = listed (flush s)
 
--- The tokens of a step and those behind it, or where the step fails those that were whole.
+-- The tokens of a step and those after it, or where the step fails those that were whole.
 abbrev pub lex_on : (before : List Token) → Option (List Token) → (behind : List Token) → List Token
 lex_on before None behind = before ++ (unspelled ∷ [])
 lex_on before (Some ts) behind = ts ++ behind

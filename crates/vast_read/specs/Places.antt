@@ -10,7 +10,7 @@ use Rattle.vast_read.specs.Lexed.{lex}
 abbrev pub IsBetweenTokens : (text : List ℕ) → (place : ℕ) → Type 0
 IsBetweenTokens text place = Behind text (drop place text)
 
--- The tokens of a text are some and those of what stands behind such a place.
+-- The tokens of a text are some and those of what stands after such a place.
 abbrev pub PlacesPartTokens : Type 0
 PlacesPartTokens =
     (text : List ℕ) (place : ℕ) (ts : List Token) → IsBetweenTokens text place → Lexes text ts →

@@ -1,15 +1,13 @@
 //! Phrases: what the machine of rows asks of the reader.
 
-ghost use Rattle.std.specs.Prelude.{◌≡◌, ◌≤◌, length, MatchOption, Some, None};
-ghost use Rattle.vast_read.specs.Internal.Answers.{ReadsAs};
-ghost use Rattle.vast_read.specs.Internal.PhraseReadings.{loop_range, meaning_of, path_at, phrase_at};
-ghost use Rattle.vast_read.specs.Internal.Readings.{tree_of};
-ghost use Rattle.vast_read.specs.Internal.Steps.{tail};
+ghost use Rattle.std.specs.Prelude.{◌≡◌, IfOk, MatchOption, Some, None};
+ghost use Rattle.vast_read.specs.Internal.PhraseReadings.{ReadsPhrase, meaning_of};
+ghost use Rattle.vast_read.specs.Internal.Values.{first_tree, told};
 ghost use Rattle.vast_read.specs.View.{view};
-ghost use Rattle.vast_rows.specs.Internal.Sources.{first_name, kind_of_first};
+ghost use Rattle.vast_rows.specs.Internal.Sources.{first_name, kind_of_first, tail};
+ghost use Rattle.vast_rows.specs.declared.grammar.Phrase.TheVariants.{Expression, Path, Target};
 
 use crate::build::{Build, Trees, Unbuilt};
-use crate::fault::Fault;
 use crate::reader::{Reader, path_of};
 use crate::token::Token;
 use crate::tree::NormalExpr;
@@ -31,56 +29,56 @@ pub(crate) enum Made<'t, E> {
 
 impl<'t> Reader<'t> {
     /// Reads a phrase.
-    #[tactic(auto, using(crate::proofs::Phrases::phrases))]
-    pub(crate) fn made<B: Build<'t>>(&mut self, phrase: Phrase) -> Result<Made<'t, B::Expr>, Fault>
-        ensures reads { ReadsAs (meaning_of B.sees.tree) result self.new
-            (phrase_at phrase self.old) }
-        ensures fewer { length self.new ≤ length self.old }
+    pub(crate) fn made<B: Build<'t>>(
+        &mut self,
+        phrase: Phrase,
+    ) -> Result<Option<Made<'t, B::Expr>>, AllocError>
+        ensures { IfOk result (λ o. ReadsPhrase B.sees phrase o self.old self.new) }
     {
         match phrase {
-            Phrase::Expression => {
-                let made = self.expression::<B>()?;
-                Ok(Made::Expression(made))
-            }
-            Phrase::Target => {
-                let made = self.selected::<B>()?;
-                Ok(Made::Expression(made))
-            }
-            Phrase::LoopHead => self.loop_range::<B>(),
-            Phrase::Path => self.path::<B>(),
+            Phrase::Expression => self.whole::<B>(),
+            Phrase::Target => self.assigned::<B>(),
+            Phrase::LoopHead => self.loop_head::<B>(),
+            Phrase::Path => Ok(self.path::<B>()),
         }
     }
 
-    /// Reads the variable of a loop, its start, its end and its step, in their parentheses.
-    #[tactic(auto, using(crate::proofs::Phrases::loops))]
-    pub(crate) fn loop_range<B: Build<'t>>(&mut self) -> Result<Made<'t, B::Expr>, Fault>
-        ensures reads { ReadsAs (meaning_of B.sees.tree) result self.new (loop_range self.old) }
-        ensures fewer { length self.new ≤ length self.old }
+    /// Reads an expression.
+    #[tactic(auto, using(crate::proofs::Phrases::expressions))]
+    fn whole<B: Build<'t>>(&mut self) -> Result<Option<Made<'t, B::Expr>>, AllocError>
+        ensures { IfOk result (λ o. ReadsPhrase B.sees Expression o self.old self.new) }
     {
-        let (variable, start) = self.loop_start::<B>()?;
-        let end = self.loop_bound::<B>(variable)?;
-        self.loop_step(variable)?;
-        Ok(Made::Loop(variable, start, end))
+        match B::expression(self)? {
+            None => Ok(None),
+            Some(made) => Ok(Some(Made::Expression(made))),
+        }
+    }
+
+    /// Reads what is assigned to.
+    #[tactic(auto, using(crate::proofs::Phrases::targets))]
+    fn assigned<B: Build<'t>>(&mut self) -> Result<Option<Made<'t, B::Expr>>, AllocError>
+        ensures { IfOk result (λ o. ReadsPhrase B.sees Target o self.old self.new) }
+    {
+        match B::target(self)? {
+            None => Ok(None),
+            Some(made) => Ok(Some(Made::Expression(made))),
+        }
     }
 
     /// Reads a string as the path between its quotes.
     #[tactic(auto, using(crate::proofs::Phrases::paths))]
-    pub(crate) fn path<B: Build<'t>>(&mut self) -> Result<Made<'t, B::Expr>, Fault>
-        ensures reads { ReadsAs (meaning_of B.sees.tree) result self.new (path_at self.old) }
-        ensures fewer { length self.new ≤ length self.old }
+    fn path<B: Build<'t>>(&mut self) -> Option<Made<'t, B::Expr>>
+        ensures { ReadsPhrase B.sees Path result self.old self.new }
     {
-        match self.peek() {
-            None => Err(Fault::Underived),
-            Some(token) => match token.quoted() {
-                None => Err(Fault::Underived),
-                Some(text) => match path_of(text) {
-                    None => Err(Fault::Underived),
-                    Some(path) => {
-                        self.skip();
-                        Ok(Made::Path(path))
-                    }
-                },
+        match self.first() {
+            Some(Token::Quoted(text)) => match path_of(text) {
+                None => None,
+                Some(path) => {
+                    self.leave_first();
+                    Some(Made::Path(path))
+                }
             },
+            _ => None,
         }
     }
 }
@@ -92,7 +90,9 @@ impl<'t> Reader<'t> {
         ensures name { MatchOption result (first_name self.old ≡ None)
             (λ name. first_name self.old ≡ Some name.now) }
     {
-        match self.next() {
+        let first = self.first();
+        self.leave_first();
+        match first {
             Some(Token::Word(name)) => Some(name),
             Some(Token::MacroWord(name)) => Some(name),
             _ => None,
@@ -103,7 +103,7 @@ impl<'t> Reader<'t> {
     pub(crate) fn next_kind(&self) -> Kind
         ensures { result ≡ kind_of_first self.now }
     {
-        match self.peek() {
+        match self.first() {
             None => Kind::End,
             Some(token) => token.kind(),
         }
@@ -118,7 +118,7 @@ impl<'t> Source for Reader<'t> {
 
     ghost left = { λ ts. ts };
 
-    ghost sees = { meaning_of (λ x. tree_of x.value) };
+    ghost sees = { meaning_of (λ x. first_tree (told x.value)) };
 
     ghost text = { λ w. w.now };
 
@@ -130,13 +130,8 @@ impl<'t> Source for Reader<'t> {
         self.take_name()
     }
 
-    #[tactic(auto, using(crate::proofs::Phrases::sources))]
     fn phrase(&mut self, phrase: Phrase) -> Result<Option<Self::Made>, AllocError> {
-        match self.made::<Unbuilt>(phrase) {
-            Ok(made) => Ok(Some(made)),
-            Err(Fault::Underived) => Ok(None),
-            Err(Fault::Memory) => Err(AllocError),
-        }
+        self.made::<Unbuilt>(phrase)
     }
 }
 
@@ -165,12 +160,7 @@ impl<'t> Source for TreeSource<'t> {
         self.reader.take_name()
     }
 
-    #[tactic(auto, using(crate::proofs::Phrases::sources))]
     fn phrase(&mut self, phrase: Phrase) -> Result<Option<Made<'t, Box<NormalExpr>>>, AllocError> {
-        match self.reader.made::<Trees>(phrase) {
-            Ok(made) => Ok(Some(made)),
-            Err(Fault::Underived) => Ok(None),
-            Err(Fault::Memory) => Err(AllocError),
-        }
+        self.reader.made::<Trees>(phrase)
     }
 }

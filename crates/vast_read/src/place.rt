@@ -17,9 +17,6 @@ use vast_rows::is_file;
 /// It is the place of a byte: where that token begins, or the text's length, where it ends too soon. Reading from the
 /// left, that token is the first one that the reader doesn't take. That a reader written apart stops at the same token
 /// is tested, not proved. It takes time and memory as [`is_derived`](crate::is_derived) does.
-///
-/// # Errors
-/// Want of memory, where a growth was refused.
 #[tactic(auto, using(crate::proofs::TextDecides::places))]
 pub fn underived_at(alloc: Global, text: &str) -> Result<Option<usize>, AllocError>
     ensures derived { IfOk result (λ o. MatchOption o
@@ -56,7 +53,7 @@ pub fn from_first_token(text: &str) -> &str
     first_and_behind(text).0
 }
 
-/// What is behind the first token of a text; nothing, where it has none, or no token fits.
+/// What is after the first token of a text; nothing, where it has none, or no token fits.
 pub fn behind_first_token(text: &str) -> &str
     ensures { IsBehindFirst text.now result.now }
 {

@@ -2,7 +2,7 @@
 
 ghost use Rattle.vast_read.specs.Places.{PlacesPartTokens};
 
-/// Where a text falls into lexemes, its tokens are some and those of what stands behind a place between tokens, which
+/// Where a text falls into lexemes, its tokens are some and those of what stands after a place between tokens, which
 /// falls into lexemes too.
 pub fn places_part_tokens()
     ensures { PlacesPartTokens }

@@ -27,11 +27,8 @@ pub enum Comparison {
 
 /// Whether two texts derive the same file, whatever their spaces, comments and redundant parentheses.
 ///
-/// The grammar is `DerivesFile`, and the tree of a text is what [`read_normal`] answers. It takes time in proportion to
+/// The grammar is `DerivesFile`, and the tree of a text is what [`read_normal`] returns. It takes time in proportion to
 /// the texts, the memory of the expressions of both at once, and no stack that grows with them.
-///
-/// # Errors
-/// Want of memory, where a growth was refused.
 pub fn are_same(alloc: Global, old: &str, new: &str) -> Result<Comparison, AllocError>
     ensures { IfOk result (λ c. Compares c old.now new.now) }
 {

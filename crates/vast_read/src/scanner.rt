@@ -28,7 +28,7 @@ pub(crate) use keyword::word_token;
 pub(crate) use place::{first_and_behind, place_before};
 pub(crate) use position::Position;
 
-/// The first token of a text, and what is behind it; where no token fits, one that stands for what is left. It takes no
+/// The first token of a text, and what is after it; where no token fits, one that stands for what is left. It takes no
 /// memory.
 pub(crate) fn first_of<'t>(text: &'t str) -> Position<'t>
     ensures { position_view result ≡ lex Gap text.now }

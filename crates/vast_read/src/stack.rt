@@ -53,7 +53,7 @@ impl<T: Drop> Stack<T> {
     /// One more on top.
     ///
     /// # Errors
-    /// Want of memory: the stack is as it was.
+    /// Out of memory: the stack is as it was.
     #[tactic(auto, using(crate::proofs::Stacked::pushes))]
     pub(crate) fn push(&mut self, item: T) -> Result<(), AllocError>
         ensures ok { OnOk result (self.new ≡ (item ∷ self.old)) }

@@ -13,8 +13,8 @@ use Rattle.vast_list.specs.declared.output.ListOutput.{ListOutput}
 use Rattle.vast_list.specs.declared.untitled.UntitledList.{UntitledList}
 use Rattle.vast_list.proofs.EndedLines.{first_of_left, line_ended, none_in_both}
 use Rattle.vast_replay.specs.declared.input.InputLines.{InputLines}
-use Rattle.vast_replay.specs.declared.input.Taken.{Taken}
-use Rattle.vast_replay.specs.declared.input.Taken.TheVariants.{Bytes, List as OneList}
+use Rattle.vast_replay.specs.declared.input.ReadInput.{ReadInput}
+use Rattle.vast_replay.specs.declared.input.ReadInput.TheVariants.{Bytes, List as OneList}
 use Rattle.vast_replay.specs.Input.{GivesTaken, PrintsInput, WritesTaken, begins_with, unmarked}
 use Rattle.vast_replay.specs.Internal.Input.{GivesTextOf, HasRead, ReadsInput, ReadsOn}
 
@@ -23,7 +23,7 @@ none_left left none = nil_from_length left.items (sym left.ok.0 ∙ eqb-true lef
 
 -- Lines that are read.
 
--- The lines behind one that ends with a piece.
+-- The lines after one that ends with a piece.
 ended_lines :
     (bytes left piece more : List ℕ) (taken : List (List ℕ)) → HasNoFeed (left ++ piece) → ((more : List ℕ) → lines_of (bytes ++ more) ≡ taken ++ lines_of (left ++ more)) →
     lines_of ((bytes ++ (piece ++ 10 ∷ [])) ++ more) ≡ (taken ++ (left ++ piece) ∷ []) ++ lines_of more
@@ -169,7 +169,7 @@ both : {X : Type 0} (o : Option X) {P Q : X → Type 0} → IsTrue (is_some o) �
 both (Some x) some p q = (x, p, q)
 both None some p q = absurd (false≢true some)
 
-pub prints_input : (a c old new : Option (List ℕ)) (taken : Taken) → GivesTaken a c taken → WritesTaken taken old new → PrintsInput a c old new
+pub prints_input : (a c old new : Option (List ℕ)) (taken : ReadInput) → GivesTaken a c taken → WritesTaken taken old new → PrintsInput a c old new
 prints_input a c old new (Bytes bytes) (input, given, header) writes = (input, given, λ none. absurd (false≢true (sym none ∙ header)))
 prints_input a c old new (OneList made) (input, given, taken) writes =
     let written = writes taken.0 in

@@ -1,6 +1,6 @@
 //! The files that the program is given.
 
-use crate::input::{Taken, take_input};
+use crate::input::{ReadInput, take_input};
 use crate::outcome::Outcome;
 use crate::program::{Manner, answer_taken, run};
 use std::io::{ErrorKind, IsTerminal};
@@ -10,7 +10,7 @@ use vast_shell::{Failure, ended, tell};
 
 /// Answers the lists of the files in order, or of standard input where there are none.
 ///
-/// A file that can't be read is told, and the files behind it are answered.
+/// A file that can't be read is told, and the files after it are answered.
 pub(crate) fn answer_files(rt: &HostRuntime, manner: Manner<'_>, files: &[&str]) -> Outcome {
     if files.is_empty() {
         if rt.stdin().is_terminal() {
@@ -71,10 +71,10 @@ fn tell_unread(
     Ok(tell(&told, Outcome::NotInForm, &mut rt.stderr()))
 }
 
-fn read_file(rt: &HostRuntime, manner: Manner<'_>, file: &str) -> io::Result<Taken> {
+fn read_file(rt: &HostRuntime, manner: Manner<'_>, file: &str) -> io::Result<ReadInput> {
     if manner.takes_lines_once() {
         let mut input = fs::File::open(rt, file)?;
         return take_input(rt.alloc(), &mut input);
     }
-    Ok(Taken::Bytes(tried!(manner.tries, fs::read(rt, file))?))
+    Ok(ReadInput::Bytes(tried!(manner.tries, fs::read(rt, file))?))
 }

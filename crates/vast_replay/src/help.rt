@@ -13,7 +13,7 @@ standard input.
 
   --check    makes the lists and prints faults alone
   --json     prints a line of JSON for each list
-  --map      prints each line of a text behind the number of the line of the list that it comes from, and a tab; with
+  --map      prints each line of a text after the number of the line of the list that it comes from, and a tab; with
              --json as a member, `map`
   --lint     tells on standard error, as faults are told, what the calls print that is no SystemVerilog or Verilog, or
              that Icarus, Verilator or Yosys refuses; with --json as a member, `warnings`, and so with --session, where

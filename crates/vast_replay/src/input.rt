@@ -15,7 +15,7 @@ use vast_list::{HEADER, ListLines, ListOutput, UntitledList, ended_line};
 
 /// What is read of an input.
 #[derive(Drop)]
-pub(crate) enum Taken {
+pub(crate) enum ReadInput {
     /// All its bytes.
     Bytes(Vec<u8>),
     /// What its one list gives, which has no header, and whose lines were not kept.
@@ -25,16 +25,13 @@ pub(crate) enum Taken {
 /// A byte order mark.
 const MARK: &[u8] = b"\xef\xbb\xbf";
 
-/// A header behind a byte order mark is seen in as many bytes.
+/// A header after a byte order mark is seen in as many bytes.
 const FRONT_BYTES: usize = 6;
 
 const BUFFER_BYTES: usize = 1 << 16;
 
 /// The lists of the input, in order: where the first line is a header each header begins one, else there is one list
 /// without a header. The last line's break may be left out, and a byte order mark before the first is passed over.
-///
-/// # Errors
-/// Want of memory.
 pub(crate) fn split_lists(alloc: Global, input: &[u8]) -> Result<Vec<ListLines<'_>>, AllocError> {
     let mut lists = Vec::new(alloc);
     let input = without_mark(input);
@@ -78,8 +75,8 @@ fn without_mark(input: &[u8]) -> &[u8]
 /// is kept; where the first line is a header all bytes are.
 ///
 /// # Errors
-/// A failed read, and want of memory.
-pub(crate) fn take_input<R: Read>(alloc: Global, input: &mut R) -> io::Result<Taken>
+/// A failed read, and out of memory.
+pub(crate) fn take_input<R: Read>(alloc: Global, input: &mut R) -> io::Result<ReadInput>
     ensures end { OnOk result (IsAtEnd (R.remaining input.new)) }
     ensures taken { IfOk result (GivesTaken (R.remaining input.old) (R.remaining input.new)) }
 {
@@ -87,14 +84,14 @@ pub(crate) fn take_input<R: Read>(alloc: Global, input: &mut R) -> io::Result<Ta
     let lines = without_mark(&front);
     if lines.starts_with(HEADER) {
         input.read_to_end(&mut front)?;
-        return Ok(Taken::Bytes(front));
+        return Ok(ReadInput::Bytes(front));
     }
     let mut list = InputLines::empty(alloc);
     list.take_bytes(lines)?;
     if front.len() >= FRONT_BYTES {
         list.take_rest(input)?;
     }
-    Ok(Taken::List(list.finish()?))
+    Ok(ReadInput::List(list.finish()?))
 }
 
 /// The first bytes of the input, as many as show whether it begins with a header, or all.
@@ -126,7 +123,7 @@ struct InputLines {
     list: UntitledList,
     /// How many lines were taken.
     number: usize,
-    /// What came behind the last line feed.
+    /// What came after the last line feed.
     left: Vec<u8>,
 }
 

@@ -5,7 +5,7 @@ ghost use Rattle.std.specs.Io.KnownBytes.{IsAtEnd};
 ghost use Rattle.vast_list.specs.Output.{is_made};
 ghost use Rattle.vast_replay.specs.Input.{GivesTaken, PrintsInput, PrintsTexts, WritesMade, WritesTaken};
 
-use crate::input::{Taken, split_lists, take_input};
+use crate::input::{ReadInput, split_lists, take_input};
 use crate::outcome::Outcome;
 use crate::words::{Form, Linting};
 use std::alloc::{AllocError, Global};
@@ -26,7 +26,7 @@ pub struct Manner<'a> {
     pub alloc: Global,
     /// What is printed of each.
     pub form: Form,
-    /// Whether each line of a text is printed behind the line of the list that it comes from.
+    /// Whether each line of a text is printed after the line of the list that it comes from.
     pub map: bool,
     /// Whether forms that are no SystemVerilog, or that a tool refuses, are told.
     pub lint: Linting,
@@ -49,13 +49,13 @@ impl Manner<'_> {
 
 /// Reads lists of calls to the end of `input`, makes their calls and prints what they give.
 ///
-/// Where the first line is a header, `== TITLE`, each list is answered to `out` behind its header, refusals included.
+/// Where the first line is a header, `== TITLE`, each list is answered to `out` after its header, refusals included.
 /// Else there is one list, and its file's text alone goes to `out`, where nothing of it was refused. A list with a line
-/// that is not in the form prints nothing. Each fault is told on `err` behind its source and its line, all of a list in
+/// that is not in the form prints nothing. Each fault is told on `err` after its source and its line, all of a list in
 /// one write. With
-/// `Form::Faults` nothing goes to `out`; with a map each line of a text stands behind the number of the line of the list
+/// `Form::Faults` nothing goes to `out`; with a map each line of a text stands after the number of the line of the list
 /// that it comes from, and a tab; with `Form::Json` a line for each list does, and no fault goes to `err`.
-/// A failed read (`read fault`), a failed write (`write fault`) and want of memory (`out of memory`) are told on `err` and
+/// A failed read (`read fault`), a failed write (`write fault`) and out of memory (`out of memory`) are told on `err` and
 /// end the run. A failed write to `err` changes nothing.
 ///
 /// With `Tries::Again` what was refused memory is made once more, and a refused call must have left the file as it was:
@@ -81,7 +81,7 @@ pub fn run<R: Read, W: Write, E: Write>(
 }
 
 /// Reads an input to its end.
-fn read<R: Read>(manner: Manner<'_>, input: &mut R) -> io::Result<Taken>
+fn read<R: Read>(manner: Manner<'_>, input: &mut R) -> io::Result<ReadInput>
     ensures end { OnOk result (IsAtEnd (R.remaining input.new)) }
     ensures taken { PrintsTexts manner.entry
         → IfOk result (GivesTaken (R.remaining input.old) (R.remaining input.new)) }
@@ -91,13 +91,13 @@ fn read<R: Read>(manner: Manner<'_>, input: &mut R) -> io::Result<Taken>
     }
     let mut bytes = Vec::new(manner.alloc);
     tried!(manner.tries, input.read_to_end(&mut bytes))?;
-    Ok(Taken::Bytes(bytes))
+    Ok(ReadInput::Bytes(bytes))
 }
 
 /// Answers what is read of an input, as `run` does.
 pub(crate) fn answer_taken<W: Write, E: Write>(
     manner: Manner<'_>,
-    taken: Taken,
+    taken: ReadInput,
     out: &mut W,
     err: &mut E,
 ) -> Outcome
@@ -106,8 +106,8 @@ pub(crate) fn answer_taken<W: Write, E: Write>(
         → WritesTaken taken (W.contents out.old) (W.contents out.new) }
 {
     let answered = match taken {
-        Taken::Bytes(bytes) => answer_lists(manner, &bytes, out, err),
-        Taken::List(made) => answer_made(manner, false, made, out, err),
+        ReadInput::Bytes(bytes) => answer_lists(manner, &bytes, out, err),
+        ReadInput::List(made) => answer_made(manner, false, made, out, err),
     };
     ended(answered, Outcome::Failed, err)
 }
@@ -248,7 +248,7 @@ fn warned_outcome(lint: Linting, is_clean: bool) -> Outcome {
     }
 }
 
-/// The warnings, each in a line behind its source.
+/// The warnings, each in a line after its source.
 fn warned(manner: Manner<'_>, warnings: &[LineWarning]) -> Result<String, AllocError> {
     let Manner { alloc, source, .. } = manner;
     let mut told = String::new(alloc);
@@ -258,7 +258,7 @@ fn warned(manner: Manner<'_>, warnings: &[LineWarning]) -> Result<String, AllocE
     Ok(told)
 }
 
-/// What the list gives; with a map each line of the file's text stands behind the line of the list that it comes from.
+/// What the list gives; with a map each line of the file's text stands after the line of the list that it comes from.
 fn mapped(
     manner: Manner<'_>,
     list: &ListLines<'_>,
@@ -323,7 +323,7 @@ fn outcome_of(verdict: Verdict, has_title: bool) -> Outcome
     }
 }
 
-/// The faults of a list, each in a line behind its source.
+/// The faults of a list, each in a line after its source.
 fn told(manner: Manner<'_>, made: &ListOutput) -> Result<String, AllocError> {
     let Manner { alloc, source, .. } = manner;
     let mut told = String::new(alloc);

@@ -19,7 +19,7 @@ use vast_talk::Talk;
 ///
 /// Where all lines were answered the replies to the input's lines were written, in order, and nothing else.
 ///
-/// A failed read (`read fault`), a failed write (`write fault`) and want of memory (`out of memory`) are told on `err` and
+/// A failed read (`read fault`), a failed write (`write fault`) and out of memory (`out of memory`) are told on `err` and
 /// end the run.
 pub fn answer_lines<R: BufRead, W: Write, E: Write>(
     alloc: Global,

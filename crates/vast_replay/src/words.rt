@@ -1,4 +1,4 @@
-//! The words behind the program's name.
+//! The words after the program's name.
 
 use crate::program::Manner;
 use std::alloc::Global;
@@ -33,7 +33,7 @@ pub(crate) enum Request<'a> {
 /// What is printed of a list.
 #[derive(Clone, Copy)]
 pub(crate) enum Form {
-    /// The file's text; behind a header the answers before it.
+    /// The file's text; after a header the answers before it.
     Text,
     /// Faults alone.
     Faults,
@@ -75,7 +75,7 @@ struct Seen<'a> {
     again: bool,
     map: bool,
     lint: Linting,
-    /// Whether `--` was there, behind which each word is a file.
+    /// Whether `--` was there, after which each word is a file.
     only_files: bool,
     files: Vec<&'a str>,
 }
@@ -83,7 +83,7 @@ struct Seen<'a> {
 /// What the words ask for, in any order: `--help` whatever else there is, else one thing.
 ///
 /// # Errors
-/// An unknown word, words that exclude each other, a file where none is taken, and want of memory.
+/// An unknown word, words that exclude each other, a file where none is taken, and out of memory.
 pub(crate) fn requested<'a>(
     alloc: Global,
     words: &[&'a str],

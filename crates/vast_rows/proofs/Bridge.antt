@@ -1,13 +1,10 @@
 -- The page spells what the grammar of files does.
-use Rattle.std.proofs.Common.{◌≡◌, ℕ, List, [], true, false, Result, Ok, Err, Bool, codes, refl, IfOk, MatchBool, sym, subst}
+use Rattle.std.proofs.Common.{◌≡◌, List, [], true, false, Result, Ok, Err, Bool, codes, refl, IfOk, MatchBool, sym, subst}
 use Rattle.vast_literal.specs.FileGrammar.{arrow, is_direction, is_kind, is_sign, is_member_kind, is_local_kind, IsFile, file, OneFile}
 use Rattle.vast_literal.specs.NormalFile.{NormalFile}
 use Rattle.vast_literal.specs.Tokens.{Token}
 use Rattle.vast_rows.specs.declared.rule.Rule.TheVariants.{File}
 use Rattle.vast_rows.specs.Events.{Event}
-use Rattle.vast_rows.specs.Facts.{Fact}
-use Rattle.vast_rows.specs.Internal.Predictive.{is_predictive}
-use Rattle.vast_rows.specs.Kinds.{has}
 use Rattle.vast_rows.specs.Laws.{Tells, IsRead, IsUnspelled, RowsAreTheGrammar}
 use Rattle.vast_rows.specs.Numbers.{rule_number, WireKey, RegKey, LogicKey, IntegerKey, IntKey, GenvarKey, SignedKey, UnsignedKey, InputKey, OutputKey, InOutKey}
 use Rattle.vast_rows.specs.Page.{page}
@@ -21,7 +18,7 @@ use Rattle.vast_rows.proofs.MakesDeclarations.{declaration0, declaration1, decla
 use Rattle.vast_rows.proofs.MakesStatements.{lone_case0, statements0, statements1, statement0, statement1, statement2, statement3, assignment0, choice0, else0, else1, branch0, branch1, unique0, unique1, case0, case1, case2, arms0, arms1, arms2, bare_arms0, bare_arms1, bare_arms2, arm_body0, arm_body1}
 use Rattle.vast_rows.proofs.MakesMembers.{file0, file1, item0, item1, parameters0, parameters1, parameter0, ports0, ports1, port0, module_members0, module_members1, loop_members0, loop_members1, member0, member1, member2, member3, member4, member5, member6, member7, member8, member9, member10, member11, macro0, arguments0, arguments1, expressions0, expressions1, more_expressions0, more_expressions1, semicolon0, semicolon1, given_list0, given_list1, given0, connections0, connections1, connection0, connected0, connected1, events0, events1, event0, event1, event2, inputs0, inputs1, input0, locals0, locals1, local0, function_body0, function_body1, label0, label1}
 use Rattle.vast_rows.proofs.MembersToRows.{items_to}
-use Rattle.vast_rows.proofs.OneTelling.{tells_once}
+use Rattle.vast_rows.proofs.OnePage.{page_once}
 
 -- Each row in its place.
 makes : AllMake MeantBy page
@@ -44,34 +41,30 @@ makes =
     else0 & else1 & branch0 & branch1 & unique0 & unique1 & case0 & case1 & case2 & arms0 & arms1 & arms2 & bare_arms0 &
     bare_arms1 & bare_arms2 & arm_body0 & arm_body1 & tt
 
-file_to : (ts : List Token) (t : NormalFile) → IsFile ts t → Tells page (rule_number File) ts (trace t [])
+pub file_to : (ts : List Token) (t : NormalFile) → IsFile ts t → Tells page (rule_number File) ts (trace t [])
 unfolding trace
 file_to ts t (file items) = items_to items
 
-module _ (rows : List Row) (facts : ℕ → Fact) (checked : is_predictive facts rows ≡ true) (last : has (facts (rule_number File)).follow 0 ≡ true) (same : bare rows ≡ page) where
-  page_once : (ts : List Token) (es fs : List Event) → Tells page (rule_number File) ts es → Tells page (rule_number File) ts fs → es ≡ fs
-  page_once ts es fs p q = tells_once rows facts checked (rule_number File) ts es fs last ((by_page rows page (rule_number File) ts es same).1 p) ((by_page rows page (rule_number File) ts fs same).1 q)
+-- What is told of tokens is the trace of the file that they spell, since they are told alike.
+pub rows_are_so : RowsAreTheGrammar
+rows_are_so ts es = (from_rows, λ t. subst (λ (v : List Event). Tells page (rule_number File) ts v) (sym t.2) (file_to ts t.0 t.1))
+  where
+    from_rows : Tells page (rule_number File) ts es → (t : NormalFile) × IsFile ts t × (es ≡ trace t [])
+    from_rows p = let r = folds MeantBy (MeantBy (rule_number File)) makes p (λ ps m. m) in
+        let t : NormalFile = record { items = r.0 } in
+        (t, file r.1, page_once ts es (trace t []) p (file_to ts t (file r.1)))
 
-  -- What is told of tokens is the trace of the file that they spell, since they are told alike.
-  pub rows_are_so : RowsAreTheGrammar
-  rows_are_so ts es = (from_rows, λ t. subst (λ (v : List Event). Tells page (rule_number File) ts v) (sym t.2) (file_to ts t.0 t.1))
-    where
-      from_rows : Tells page (rule_number File) ts es → (t : NormalFile) × IsFile ts t × (es ≡ trace t [])
-      from_rows p = let r = folds MeantBy (MeantBy (rule_number File)) makes p (λ ps m. m) in
-          let t : NormalFile = record { items = r.0 } in
-          (t, file r.1, page_once ts es (trace t []) p (file_to ts t (file r.1)))
+pub one_file : OneFile
+one_file = record { same = λ ts t u p q. trace_is_one t u (page_once ts (trace t []) (trace u []) (file_to ts t p) (file_to ts u q)) }
 
-  pub one_file : OneFile
-  one_file = record { same = λ ts t u p q. trace_is_one t u (page_once ts (trace t []) (trace u []) (file_to ts t p) (file_to ts u q)) }
-
-  pub file_read : {K E : Type 0} (after : K → List Event → K → Type 0) (ts : List Token) (first now : K) (read : Result Bool E) →
-      IfOk read (λ b. MatchBool b (IsRead after rows (rule_number File) ts first now) (IsUnspelled rows (rule_number File) ts)) →
-      IfOk read (λ b. MatchBool b ((t : NormalFile) × IsFile ts t × after first (trace t []) now) ((t : NormalFile) → IsFile ts t → ⊥))
-  file_read after ts first now (Ok true) p =
-      let t = (rows_are_so ts p.events).0 ((by_page rows page (rule_number File) ts p.events same).0 p.told) in
-      (t.0, t.1, subst (λ (v : List Event). after first v now) t.2 p.heard)
-  file_read after ts first now (Ok false) p = λ t q. p (trace t []) ((by_page rows page (rule_number File) ts (trace t []) same).1 (file_to ts t q))
-  file_read after ts first now (Err x) p = tt
+pub file_read : {K E : Type 0} (rows : List Row) → bare rows ≡ page → (after : K → List Event → K → Type 0) (ts : List Token) (first now : K) (read : Result Bool E) →
+    IfOk read (λ b. MatchBool b (IsRead after rows (rule_number File) ts first now) (IsUnspelled rows (rule_number File) ts)) →
+    IfOk read (λ b. MatchBool b ((t : NormalFile) × IsFile ts t × after first (trace t []) now) ((t : NormalFile) → IsFile ts t → ⊥))
+file_read rows same after ts first now (Ok true) p =
+    let t = (rows_are_so ts p.events).0 ((by_page rows page (rule_number File) ts p.events same).0 p.told) in
+    (t.0, t.1, subst (λ (v : List Event). after first v now) t.2 p.heard)
+file_read rows same after ts first now (Ok false) p = λ t q. p (trace t []) ((by_page rows page (rule_number File) ts (trace t []) same).1 (file_to ts t q))
+file_read rows same after ts first now (Err x) p = tt
 
 pub is_file : {E : Type 0} (heard : NormalFile → Type 0) (ts : List Token) (read : Result Bool E) → IfOk read (λ b. MatchBool b ((t : NormalFile) × IsFile ts t × heard t) ((t : NormalFile) → IsFile ts t → ⊥)) →
     IfOk read (λ b. MatchBool b ((t : NormalFile) × IsFile ts t) ((t : NormalFile) → IsFile ts t → ⊥))

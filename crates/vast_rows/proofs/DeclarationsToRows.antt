@@ -56,7 +56,7 @@ unfolding trace_list
 groups_to no_items = at Groups 0 refl stop
 groups_to (more_items x xs) = at Groups 1 refl (nod (group_to x) (groups_to xs))
 
--- A name and the groups behind it, with groups before it, and with a sign before those.
+-- A name and the groups after it, with groups before it, and with a sign before those.
 name_to : {hs : List Token} {h : List Group} {es : List Event} (n : List ℕ) → IsMany IsGroup hs h → Spelled (word ∷ (rule Groups ∷ [])) (Word n ∷ hs) (Names n ∷ trace_groups h es) es
 name_to n h = tok (Word n) refl (groups_to h)
 

@@ -27,7 +27,7 @@ record Cut (rows : List Row) (a b : List Item) (ts : List tokens.Token) (es fs :
   rest : Spells rows b behind between fs
   split : ts ≡ before ++ behind
 
--- Items one behind the other come apart.
+-- Items one after the other come apart.
 cut : {rows : List Row} {s : List Item} {ts : List tokens.Token} {es fs : List Event} (a b : List Item) → s ≡ a ++ b → Spells rows s ts es fs → Cut rows a b ts es fs
 cut {rows} {s} {ts} {es} {fs} [] b e p = let q : Spells rows b ts es fs = rw e at p in record { before = []; behind = ts; between = es; spelled = no_items; rest = q; split = refl }
 cut (i ∷ a) b e no_items = absurd (cc e)

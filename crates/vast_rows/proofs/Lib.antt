@@ -20,7 +20,12 @@ pub mod DeclarationsToRows
 pub mod StatementsToRows
 pub mod MembersToRows
 pub mod Builds
-pub mod Bridge
 pub mod Bare
-pub mod Trials
+pub mod Known
+pub mod OnePage
+pub mod Bridge
+pub mod OneEach
+pub mod FilePins
+pub mod LoopPin
+pub mod Worked
 pub mod Actions

@@ -25,15 +25,15 @@ pub data IsMacro : List Token → Type 0 where
 pub data IsNothing : List Token → Type 0 where
   is_nothing : IsNothing []
 
--- Behind an item the others of a list.
+-- After an item the others of a list.
 abbrev pub Tails : {A : Type 0} (P : List Token → A → Type 0) (between : Token) → List Token → Type 0
 Tails {A} P between us = (ts : List Token) (x : A) → P ts x → (xs : List A) × IsJoined P between (ts ++ us) xs
 
--- Behind a kind word, or none, a declaration.
+-- After a kind word, or none, a declaration.
 abbrev pub Declared : List Token → Type 0
 Declared ts = (ks : List Token) (k : Option Key) → IsMaybe is_kind ks k → (d : normal.NormalDeclaration) × IsDeclaration (ks ++ ts) d × (d.kind ≡ k)
 
--- Behind the head and the block of a conditional, a conditional.
+-- After the head and the block of a conditional, a conditional.
 abbrev pub Completes : (List Token → List Token) → Type 0
 Completes behind = (cs bs : List Token) (c : NormalExpr) (b : normal.NormalStatements) → Spells 0 cs c → IsStatements bs b →
     (a : normal.Arms) × IsChoice (Reserved IfKey ∷ (Mark OpenParen ∷ (cs ++ (Mark CloseParen ∷ (Reserved BeginKey ∷ behind bs))))) a

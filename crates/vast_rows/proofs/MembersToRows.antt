@@ -135,7 +135,7 @@ expressions_to none = at Expressions 0 refl stop
 expressions_to (some (last {ts = ts} p)) = at Expressions 1 refl (along (append-nil ts) (phr (expression p) (at MoreExpressions 0 refl stop)))
 expressions_to (some (next p j)) = at Expressions 1 refl (phr (expression p) (more_expressions_to j))
 
--- Behind a word of a parameter, and behind one of an always block.
+-- After a word of a parameter, and after one of an always block.
 parameter_member : {us : List Token} {es fs : List Event} (k : Key) → IsTrue (is_parameter_word k) → Spelled (rule Declaration ∷ (mark Assign ∷ (Phrase Expression ∷ (mark Semicolon ∷ [])))) us es fs → Node Member (Reserved k ∷ us) (Makes (ParameterMember k) ∷ es) fs
 unfolding is_parameter_word
 parameter_member ParameterKey h p = at Member 2 refl (tok _ refl p)

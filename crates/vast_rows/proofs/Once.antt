@@ -77,7 +77,7 @@ taken {rows} {ts = ts} s facts n r row p f e ruled d =
     subst (λ (v : ℕ). row_at facts rows v (head_kind ts) ≡ Some n) ruled (first_at facts rows n row (head_kind ts) q.0 q.1 e
     (looked facts row s (head_kind ts) g f' (heads facts p (follows_row facts row s g f') d)))
 
--- Behind a phrase is what ends it.
+-- After a phrase is what ends it.
 pub stopped : {rows : List Row} {ts : List tokens.Token} {cs : List Event} (part : code.Phrase) (s : List Item) (facts : ℕ → Fact) → is_predictive facts rows ≡ true → follows facts (only 0) (Phrase part ∷ s) ≡ true →
     Derives rows s ts cs → has (stops part) (head_kind ts) ≡ true
 stopped {ts = ts} part s facts p f d = let b = both (within (begins facts (only 0) s) (stops part)) (follows facts (only 0) s) f in

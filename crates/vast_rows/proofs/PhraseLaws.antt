@@ -1,15 +1,15 @@
 -- The phrases of the grammar: how they begin, and that those that stand at one place are one.
-use Rattle.std.proofs.Common.{◌≡◌, ℕ, ◌≤◌, List, [], ◌∷◌, ◌++◌, Bool, true, false, codes, IsTrue, refl, sym, ap, subst, arith, append_assoc}
+use Rattle.std.proofs.Common.{◌≡◌, ℕ, ◌≤◌, List, [], ◌∷◌, ◌++◌, Bool, true, false, codes, IsTrue, refl, ap, arith, append_assoc}
 use Rattle.std.specs.Str.{bytes_eq}
 use Rattle.std.proofs.lemmas.List.{append_cancel_right}
 use Rattle.vast_literal.specs.Tokens.{level, is_unary, Token, Reserved, Word, MacroWord, Number, Operator, Mark}
 use Rattle.vast_literal.specs.NormalExpr.{NormalExpr, Name, Binary}
 use Rattle.vast_literal.specs.Grammar.{is_cast_word, Spells, up, ternary, binary, unary, index, slice, part_select, name, number, based, quoted, paren, call, system_call, concat, replicated, array_pattern, macro_alone, macro_call, number_cast, name_cast, package_cast, paren_cast, word_cast}
-use Rattle.vast_literal.specs.Internal.Parser.{lead, selected_at}
-use Rattle.vast_literal.proofs.Complete.{parses}
-use Rattle.vast_literal.proofs.Gives.{Gives, now, one_result}
-use Rattle.vast_literal.proofs.Moves.{Quiet, quieter, stop_selects}
-use Rattle.vast_literal.proofs.Sound.{level_small}
+use Rattle.vast_literal.proofs.Levels.{level_small}
+use Rattle.vast_expressions.specs.Rows as item
+use Rattle.vast_expressions.specs.Phrases.{Quiet}
+use Rattle.vast_expressions.specs.Phrases as part
+use Rattle.vast_expressions.proofs.Phrases.{one_phrase}
 use Rattle.vast_rows.specs.declared.grammar.Phrase.{Phrase}
 use Rattle.vast_rows.specs.declared.grammar.Phrase.TheVariants.{Expression, Target}
 use Rattle.vast_rows.specs.Kinds.{has}
@@ -94,10 +94,9 @@ begins phrase ts rest m (target e) = (begins_so 13 _ _ e).bare (omega arith) res
 begins phrase ts rest m (loop_head i s c) = refl
 begins phrase ts rest m (path p) = refl
 
--- What stands behind them goes on with none.
+-- What stands after them goes on with none.
 
 pub quiet_expression : (rest : List Token) → has (stops Expression) (head_kind rest) ≡ true → Quiet 0 rest
-unfolding lead
 quiet_expression [] h = tt
 quiet_expression (Operator LogicOr ∷ us) h = absurd (cc h)
 quiet_expression (Operator _ ∷ us) h = absurd (cc h)
@@ -110,7 +109,7 @@ quiet_expression (Mark _ ∷ us) h = tt
 quiet_expression (_ ∷ us) h = tt
 
 pub quiet_target : (rest : List Token) → has (stops Target) (head_kind rest) ≡ true → Quiet 13 rest
-unfolding lead level
+unfolding level
 quiet_target [] h = tt
 quiet_target (Operator LessEqual ∷ us) h = omega arith
 quiet_target (Operator LogicOr ∷ us) h = absurd (cc h)
@@ -123,38 +122,20 @@ quiet_target (Mark Question ∷ us) h = absurd (cc h)
 quiet_target (Mark _ ∷ us) h = tt
 quiet_target (_ ∷ us) h = tt
 
-parted : (x y : NormalExpr) (r q : List Token) → (let a : NormalExpr × List Token = (x, r) in let b : NormalExpr × List Token = (y, q) in a ≡ b) → (x ≡ y) × (r ≡ q)
-parted x y r q e = (ap (λ (v : NormalExpr × List Token). v.0) e, ap (λ (v : NormalExpr × List Token). v.1) e)
+one_expression : (ts us r q : List Token) (x y : NormalExpr) → Spells 0 ts x → Spells 0 us y → ts ++ r ≡ us ++ q → Quiet 0 r → Quiet 0 q → (x ≡ y) × (r ≡ q)
+one_expression ts us r q x y a b e h k = one_phrase item.Expression 0 ts us r q x y part.whole a b e h k
 
-pub one_expression : (ts us r q : List Token) (x y : NormalExpr) → Spells 0 ts x → Spells 0 us y → ts ++ r ≡ us ++ q → Quiet 0 r → Quiet 0 q → (x ≡ y) × (r ≡ q)
-one_expression ts us r q x y a b e h k =
-    let g : Gives (λ p. p.expression_at (ts ++ r)) (x, r) = (parses 0 ts x a).expression_at r h in
-    let f : Gives (λ p. p.expression_at (us ++ q)) (y, q) = (parses 0 us y b).expression_at q k in
-    let f2 : Gives (λ p. p.expression_at (ts ++ r)) (y, q) = subst (λ (v : List Token). Gives (λ p. p.expression_at v) (y, q)) (sym e) f in
-    parted x y r q (one_result g f2)
-
-one_target : (ts us r q : List Token) (x y : NormalExpr) → Spells 13 ts x → Spells 13 us y → ts ++ r ≡ us ++ q → Quiet 13 r → Quiet 13 q → (x ≡ y) × (r ≡ q)
-one_target ts us r q x y a b e h k =
-    let g : Gives (λ p. selected_at p (ts ++ r)) (x, r) = (parses 13 ts x a).selects_at (omega arith) r (x, r) (quieter 13 14 r (omega arith) h) (now (λ p. stop_selects p x r h)) in
-    let f : Gives (λ p. selected_at p (us ++ q)) (y, q) = (parses 13 us y b).selects_at (omega arith) q (y, q) (quieter 13 14 q (omega arith) k) (now (λ p. stop_selects p y q k)) in
-    let f2 : Gives (λ p. selected_at p (ts ++ r)) (y, q) = subst (λ (v : List Token). Gives (λ p. selected_at p v) (y, q)) (sym e) f in
-    parted x y r q (one_result g f2)
-
--- What stands behind the condition of a loop.
+-- What stands after the condition of a loop.
 abbrev pub step_of : List ℕ → List Token → List Token
 step_of i r = Word i ∷ (Mark Assign ∷ (Word i ∷ (Operator Plus ∷ (Number (codes "1") ∷ (Mark CloseParen ∷ r)))))
-
-pub semicolon_quiet : (r : List Token) → Quiet 0 (Mark Semicolon ∷ r)
-unfolding lead
-semicolon_quiet r = tt
 
 one_loop : (xs cs us ds r q : List Token) (i j : List ℕ) (x c y d e f : NormalExpr) → Spells 0 xs x → Spells 0 cs (Binary Less (Name i) e) → Spells 0 us y → Spells 0 ds (Binary Less (Name j) f) → i ≡ j →
     xs ++ (Mark Semicolon ∷ (cs ++ (Mark Semicolon ∷ step_of i r))) ≡ us ++ (Mark Semicolon ∷ (ds ++ (Mark Semicolon ∷ step_of j q))) → (IsLoop i x e ≡ IsLoop j y f) × (r ≡ q)
 one_loop xs cs us ds r q i j x c y d e f a b a' b' same h =
-    let s = one_expression xs us _ _ x y a a' h (semicolon_quiet _) (semicolon_quiet _) in
+    let s = one_expression xs us _ _ x y a a' h tt tt in
     let tails = s.1 in
     let t : cs ++ (Mark Semicolon ∷ step_of i r) ≡ ds ++ (Mark Semicolon ∷ step_of j q) = cc tails in
-    let z = one_expression cs ds _ _ _ _ b b' t (semicolon_quiet _) (semicolon_quiet _) in
+    let z = one_expression cs ds _ _ _ _ b b' t tt tt in
     let conditions = z.0 in let rests = z.1 in
     let w : e ≡ f = cc conditions in
     let v : r ≡ q = cc rests in
@@ -165,7 +146,7 @@ pub apart : (phrase : Phrase) (ts us r q : List Token) (m n : Meaning) → IsPhr
 apart phrase ts us r q m n (expression {x = x} a) (expression {x = y} b) e h k =
     let s = one_expression ts us r q x y a b e (quiet_expression r h) (quiet_expression q k) in (ap IsExpression s.0, s.1)
 apart phrase ts us r q m n (target {x = x} a) (target {x = y} b) e h k =
-    let s = one_target ts us r q x y a b e (quiet_target r h) (quiet_target q k) in (ap IsExpression s.0, s.1)
+    let s = one_phrase item.Target 13 ts us r q x y part.target a b e (quiet_target r h) (quiet_target q k) in (ap IsExpression s.0, s.1)
 apart phrase ts us r q m n (loop_head {xs = xs} {cs = cs} {x = x} {e = d} i a b) (loop_head {xs = ys} {cs = ds} {x = y} {e = f} j a' b') e h k =
     let same : i ≡ j = cc e in
     let inner : (xs ++ (Mark Semicolon ∷ (cs ++ (Mark Semicolon ∷ step_of i [])))) ++ r ≡ (ys ++ (Mark Semicolon ∷ (ds ++ (Mark Semicolon ∷ step_of j [])))) ++ q = cc e in

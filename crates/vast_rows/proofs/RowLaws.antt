@@ -27,7 +27,7 @@ apart_at x (y ∷ rows) (suc i) row a e r = apart_at x rows i row (both (if nat_
 
 -- The first row of a rule, and from there the one that is taken.
 
--- The rows of the rule begin at the first of these, where the row before them is of the rule too, or behind some of them.
+-- The rows of the rule begin at the first of these, where the row before them is of the rule too, or after some of them.
 abbrev Reached : (facts : ℕ → Fact) (xs : List Row) (before from n rule k : ℕ) → Type 0
 Reached facts xs before from n rule k =
     ((rule ≡ before) × (row_from xs rule k from ≡ Some n))

@@ -41,7 +41,7 @@ unshared x y k n a b =
     let f : bit_at 0 k ≡ 0 = bit_at-zero k in
     omega (arith, c, d, e, f)
 
--- What is behind the last token.
+-- What is after the last token.
 pub end_within : (x : ℕ) → has x 0 ≡ true → within (only 0) x ≡ true
 end_within x h =
     let a : bit_at x 0 ≡ 1 = eqb-true (bit_at x 0) 1 h in

@@ -6,7 +6,7 @@ use Rattle.vast_literal.specs.FileGrammar.{IsJoined, last_item, next_item}
 use Rattle.vast_rows.specs.declared.action.Action.TheVariants.{NoMore, OneMore}
 use Rattle.vast_rows.specs.declared.action.Listed.{Listed}
 use Rattle.vast_rows.specs.declared.grammar.Item.{Item}
-use Rattle.vast_rows.specs.declared.grammar.Item.TheVariants.{Token, Rule, Phrase}
+use Rattle.vast_rows.specs.declared.grammar.Item.TheVariants.{Rule, Phrase}
 use Rattle.vast_rows.specs.declared.grammar.Phrase as code
 use Rattle.vast_rows.specs.declared.rule.Rule.{Rule as RuleName}
 use Rattle.vast_rows.specs.Events.{Event, Makes, Reads, made_by}
@@ -30,7 +30,7 @@ Node name ts es fs = Spelled (Rule (rule_number name) ∷ []) ts es fs
 pub along : {s : List Item} {ts us : List tokens.Token} {es fs : List Event} → ts ≡ us → Spelled s ts es fs → Spelled s us es fs
 along {s} {es = es} {fs = fs} e p = subst (λ (v : List tokens.Token). Spelled s v es fs) e p
 
--- Items behind others.
+-- Items after others.
 pub thens : {s s' : List Item} {ts us : List tokens.Token} {es fs gs : List Event} → Spelled s ts es fs → Spelled s' us fs gs → Spelled (s ++ s') (ts ++ us) es gs
 thens no_items q = q
 thens (a_token t e p) q = a_token t e (thens p q)
@@ -51,7 +51,7 @@ closed_by p = thens p (a_token (tokens.Mark CloseParen) refl no_items)
 pub at : {ts : List tokens.Token} {es fs : List Event} {row : Row} (name : RuleName) (which : ℕ) → slice_get page (row_of name which) ≡ Some row → Spelled row.items ts es fs → Spelled (Rule row.rule ∷ []) ts (made_by row.action es) fs
 at {ts = ts} {row = row} name which e p = along (append-nil ts) (a_rule (row_of name which) row e refl p no_items)
 
--- What is told of a list behind its first row.
+-- What is told of a list after its first row.
 abbrev pub listed_behind : {A : Type 0} → Listed → (A → List Event → List Event) → List A → List Event → List Event
 listed_behind what one [] es = es
 listed_behind what one (x ∷ xs) es = one x (trace_list what one xs es)

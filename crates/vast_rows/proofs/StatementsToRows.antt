@@ -15,7 +15,7 @@ use Rattle.vast_rows.specs.Symbols.{key, rule}
 use Rattle.vast_rows.specs.Trace.{read, trace_statement, trace_statements, trace_arms, trace_labels}
 use Rattle.vast_rows.proofs.Spelling.{Node, Spelled, stop, tok, phr, nod, at, along}
 
--- What may be unique, and the case behind it.
+-- What may be unique, and the case after it.
 unique_to : {us ys : List Token} {u : Bool} {s : List Item} {fs : List Event} (k : Key) (x : NormalExpr) (a : Labels) (es : List Event) → IsUnique us u → Spelled s ys (trace_statement (CaseStatement false k x a) es) fs →
     Spelled (rule Unique ∷ s) (us ++ ys) (trace_statement (CaseStatement u k x a) es) fs
 unfolding trace_statement
@@ -28,9 +28,9 @@ assignment_to (assigns true p q) = at Assignment 0 refl (phr (target p) (nod (at
 assignment_to (assigns false p q) = at Assignment 0 refl (phr (target p) (nod (at Arrow 1 refl (tok _ refl stop)) (phr (expression q) (tok _ refl stop))))
 
 -- The head of a conditional before its block and what follows.
-headed : {cs us : List Token} {c : NormalExpr} {es fs : List Event} → Spells 0 cs c → Spelled (rule Statements ∷ (rule Else ∷ [])) us es fs →
+choice_head : {cs us : List Token} {c : NormalExpr} {es fs : List Event} → Spells 0 cs c → Spelled (rule Statements ∷ (rule Else ∷ [])) us es fs →
     Node Choice (Reserved IfKey ∷ (Mark OpenParen ∷ (cs ++ (Mark CloseParen ∷ (Reserved BeginKey ∷ us))))) (Makes Conditional ∷ read c ∷ es) fs
-headed p rest = at Choice 0 refl (tok _ refl (tok _ refl (phr (expression p) (tok _ refl (tok _ refl rest)))))
+choice_head p rest = at Choice 0 refl (tok _ refl (tok _ refl (phr (expression p) (tok _ refl (tok _ refl rest)))))
 
 mutual
   unfolding trace_statement trace_statements trace_arms trace_labels
@@ -51,9 +51,9 @@ mutual
   statements_to (then s ss) = at Statements 1 refl (nod (statement_to s) (statements_to ss))
 
   pub choice_to : {ts : List Token} {a : Arms} {es : List Event} → IsChoice ts a → Node Choice ts (trace_arms a es) es
-  choice_to (only {bs = bs} p b) = headed p (along (append-nil bs) (nod (statements_to b) (at Else 0 refl stop)))
-  choice_to (otherwise p b d) = headed p (nod (statements_to b) (at Else 1 refl (tok _ refl (at Branch 0 refl (tok _ refl (statements_to d))))))
-  choice_to (or p b a) = headed p (nod (statements_to b) (at Else 1 refl (tok _ refl (at Branch 1 refl (choice_to a)))))
+  choice_to (only {bs = bs} p b) = choice_head p (along (append-nil bs) (nod (statements_to b) (at Else 0 refl stop)))
+  choice_to (otherwise p b d) = choice_head p (nod (statements_to b) (at Else 1 refl (tok _ refl (at Branch 0 refl (tok _ refl (statements_to d))))))
+  choice_to (or p b a) = choice_head p (nod (statements_to b) (at Else 1 refl (tok _ refl (at Branch 1 refl (choice_to a)))))
 
   arms_to : {ts : List Token} {a : Labels} {es : List Event} → IsLabels false ts a → Node CaseArms ts (trace_labels a es) es
   arms_to no_labels = at CaseArms 0 refl (tok _ refl stop)

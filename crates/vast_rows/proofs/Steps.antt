@@ -33,43 +33,43 @@ none_some : {A B : Type 0} (a : A) → None ≡ Some a → B
 none_some a e = absurd (cc)
 
 -- What a derivation with a rule in front chose.
-record Choosing (rows : List Row) (r : ℕ) (s : List Item) (ts : List tokens.Token) (cs : List Event) : Type 0 where
-  number : ℕ
-  row : Row
-  more : List Event
-  chosen : cs ≡ made_by row.action more
-  found : slice_get rows number ≡ Some row
-  ruled : row.rule ≡ r
-  rest : Derives rows (row.items ++ s) ts more
+pub record Choosing (rows : List Row) (r : ℕ) (s : List Item) (ts : List tokens.Token) (cs : List Event) : Type 0 where
+  pub number : ℕ
+  pub row : Row
+  pub more : List Event
+  pub chosen : cs ≡ made_by row.action more
+  pub found : slice_get rows number ≡ Some row
+  pub ruled : row.rule ≡ r
+  pub rest : Derives rows (row.items ++ s) ts more
 
-chose : {rows : List Row} {r : ℕ} {s : List Item} {ts : List tokens.Token} {cs : List Event} → Derives rows (Rule r ∷ s) ts cs → Choosing rows r s ts cs
+pub chose : {rows : List Row} {r : ℕ} {s : List Item} {ts : List tokens.Token} {cs : List Event} → Derives rows (Rule r ∷ s) ts cs → Choosing rows r s ts cs
 chose (choice {es = cs} n row e ruled d) = record { number = n; row = row; more = cs; chosen = refl; found = e; ruled = ruled; rest = d }
 
 -- What one with a token in front took.
-record Took (rows : List Row) (k : ℕ) (s : List Item) (ts : List tokens.Token) (cs : List Event) : Type 0 where
-  first : tokens.Token
-  behind : List tokens.Token
-  more : List Event
-  split : ts ≡ first ∷ behind
-  kinds : token_kind first ≡ k
-  named : cs ≡ named_by (name_of first) more
-  rest : Derives rows s behind more
+pub record Took (rows : List Row) (k : ℕ) (s : List Item) (ts : List tokens.Token) (cs : List Event) : Type 0 where
+  pub first : tokens.Token
+  pub behind : List tokens.Token
+  pub more : List Event
+  pub split : ts ≡ first ∷ behind
+  pub kinds : token_kind first ≡ k
+  pub named : cs ≡ named_by (name_of first) more
+  pub rest : Derives rows s behind more
 
-took : {rows : List Row} {k : ℕ} {s : List Item} {ts : List tokens.Token} {cs : List Event} → Derives rows (Token k ∷ s) ts cs → Took rows k s ts cs
+pub took : {rows : List Row} {k : ℕ} {s : List Item} {ts : List tokens.Token} {cs : List Event} → Derives rows (Token k ∷ s) ts cs → Took rows k s ts cs
 took (token {ts = ts} {es = es} t e d) = record { first = t; behind = ts; more = es; split = refl; kinds = e; named = refl; rest = d }
 
 -- What one with a phrase in front read.
-record Phrased (rows : List Row) (part : code.Phrase) (s : List Item) (ts : List tokens.Token) (cs : List Event) : Type 0 where
-  front : List tokens.Token
-  behind : List tokens.Token
-  meaning : Meaning
-  more : List Event
-  is_phrase : IsPhrase part front meaning
-  split : ts ≡ front ++ behind
-  steps : cs ≡ Reads meaning ∷ more
-  rest : Derives rows s behind more
+pub record Phrased (rows : List Row) (part : code.Phrase) (s : List Item) (ts : List tokens.Token) (cs : List Event) : Type 0 where
+  pub front : List tokens.Token
+  pub behind : List tokens.Token
+  pub meaning : Meaning
+  pub more : List Event
+  pub is_phrase : IsPhrase part front meaning
+  pub split : ts ≡ front ++ behind
+  pub steps : cs ≡ Reads meaning ∷ more
+  pub rest : Derives rows s behind more
 
-phrased : {rows : List Row} {part : code.Phrase} {s : List Item} {ts : List tokens.Token} {cs : List Event} → Derives rows (Phrase part ∷ s) ts cs → Phrased rows part s ts cs
+pub phrased : {rows : List Row} {part : code.Phrase} {s : List Item} {ts : List tokens.Token} {cs : List Event} → Derives rows (Phrase part ∷ s) ts cs → Phrased rows part s ts cs
 phrased (phrase {ts = ts} {es = es} ps m i e d) = record { front = ps; behind = ts; meaning = m; more = es; is_phrase = i; split = e; steps = refl; rest = d }
 
 ended : {rows : List Row} {ts : List tokens.Token} {cs : List Event} → Derives rows [] ts cs → (ts ≡ []) × (cs ≡ [])

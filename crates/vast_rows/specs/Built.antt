@@ -289,7 +289,7 @@ seen_phrase (IsExpression x) = SeenExpression x
 seen_phrase (IsLoop i x e) = SeenLoop i x e
 seen_phrase (IsPath p) = SeenPath p
 
--- What an event makes of what those behind it built.
+-- What an event makes of what those after it built.
 abbrev pub happens : Event → List Seen → Option (List Seen)
 happens (Makes action) vs = make action vs
 happens (Reads m) vs = Some (seen_phrase m ∷ vs)

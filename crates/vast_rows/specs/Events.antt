@@ -4,7 +4,7 @@ use Rattle.vast_literal.specs.Tokens as tokens
 use Rattle.vast_rows.specs.Phrases.{Meaning}
 use Rattle.vast_rows.specs.declared.action.Action.{Action}
 
--- A row makes something of what its items make, which is told behind it; a phrase was read; a name was taken.
+-- A row makes something of what its items make, which is told after it; a phrase was read; a name was taken.
 pub data Event : Type 0 where
   Makes : Action → Event
   Reads : Meaning → Event

@@ -5,5 +5,4 @@ pub mod PhraseKinds
 pub mod Predictive
 pub mod Derives
 pub mod Reading
-pub mod Trial
 pub mod Actions

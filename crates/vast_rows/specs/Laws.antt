@@ -29,7 +29,7 @@ pub record IsRead {K : Type 0} (after : K → List Event → K → Type 0) (rows
 abbrev pub IsUnspelled : List Row → (rule : ℕ) → List Token → Type 0
 IsUnspelled rows rule ts = (es : List Event) → Tells rows rule ts es → ⊥
 
--- A rule behind which nothing may stand tells one thing of the tokens at most.
+-- A rule after which nothing may stand tells one thing of the tokens at most.
 abbrev pub TellsOnce : (ℕ → Fact) → List Row → Type 0
 TellsOnce facts rows = (rule : ℕ) (ts : List Token) (es fs : List Event) → has (facts rule).follow 0 ≡ true → Tells rows rule ts es → Tells rows rule ts fs → es ≡ fs
 

@@ -1,5 +1,5 @@
 -- The grammar of files above expressions, row by row: the machine's table, and what `FileGrammar` says of typed trees (`laws`).
--- Behind ⟹ stands what a row makes of what its items make, as the events that are told of it say (`Built`): a part that may be left
+-- After ⟹ stands what a row makes of what its items make, as the events that are told of it say (`Built`): a part that may be left
 -- out, a sign or a kind before a declaration, and its names, act on what follows them.
 -- `tools/rows` reads this page and writes the flat table of it, with what the check of the table wants to know.
 use Rattle.std.specs.Prelude.{List, [], ◌∷◌}

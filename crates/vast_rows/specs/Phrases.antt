@@ -5,7 +5,6 @@ use Rattle.vast_rows.specs.Numbers.{OpenParen, CloseParen, Semicolon, Assign}
 use Rattle.vast_literal.specs.Tokens.{Token, Reserved, Word, Number, Quoted, Operator, Mark}
 use Rattle.vast_literal.specs.NormalExpr.{NormalExpr, Name, Binary}
 use Rattle.vast_literal.specs.Grammar.{Spells}
-use Rattle.vast_rows.specs.declared.grammar.Item.TheVariants as item
 use Rattle.vast_rows.specs.declared.grammar.Phrase.{Phrase}
 use Rattle.vast_rows.specs.declared.grammar.Phrase.TheVariants.{Expression, Target, LoopHead, Path}
 

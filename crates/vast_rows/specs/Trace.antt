@@ -69,7 +69,7 @@ unfoldable pub trace_type : Option (List ℕ) → List Event → List Event
 trace_type None es = es
 trace_type (Some t) es = Makes NameBefore ∷ Names t ∷ es
 
--- What follows the kind. Where a word stands first, it is told as a name before what follows, also where that is but the groups behind it.
+-- What follows the kind. Where a word stands first, it is told as a name before what follows, also where that is but the groups after it.
 unfoldable pub trace_named : (package_name type_name : Option (List ℕ)) (sign : Option Key) (groups : List Group) (name : List ℕ) (behind : List Group) → List Event → List Event
 trace_named None None None [] n h es = Makes NameBefore ∷ Names n ∷ Makes Declares ∷ trace_groups h (Makes Nothing ∷ es)
 trace_named p t s g n h es = trace_package p (trace_type t (trace_key SignOf s (Makes Declares ∷ trace_groups g (Names n ∷ trace_groups h es))))

@@ -45,7 +45,7 @@ pub enum Action {
     OneMore(Listed),
     /// A module of its name, parameters, ports and members.
     ModuleItem,
-    /// An include of its path, behind the macro's name.
+    /// An include of its path, after the macro's name.
     IncludeItem,
     /// A parameter of a header, of its declaration and value.
     HeaderParameter,
@@ -78,7 +78,7 @@ pub enum Action {
     NameBefore,
     /// The declaration that follows, of a package whose name is still to come.
     Packaged,
-    /// A declaration of its groups, its name and the groups behind that; groups alone where no name
+    /// A declaration of its groups, its name and the groups after that; groups alone where no name
     /// follows.
     Declares,
     /// A group of one expression or of two.

@@ -40,7 +40,7 @@ pub(crate) struct Row {
 }
 
 /// What is known of a rule: what begins it, or what follows it if it is empty; what may follow it;
-/// whether it may be empty; a rank above that of the rules that begin it; and its first row, behind
+/// whether it may be empty; a rank above that of the rules that begin it; and its first row, after
 /// which the others stand.
 #[derive(Clone, Copy)]
 pub(crate) struct Fact {

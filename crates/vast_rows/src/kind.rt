@@ -8,7 +8,7 @@ use vast_literal::{Key, Mark, Sign};
 /// What a rule sees of a token.
 #[derive(Clone, Copy)]
 pub enum Kind {
-    /// Behind the last token.
+    /// After the last token.
     End,
     /// A name.
     Word,

@@ -2,19 +2,17 @@
 //! nothing.
 
 ghost use Rattle.vast_literal.specs.FileGrammar.{OneFile};
+ghost use Rattle.vast_literal.specs.WorkedTexts.{WorkedTexts};
 ghost use Rattle.vast_rows.specs.Laws.{RowsAreTheGrammar, TellsOnce, TraceBuilds, TraceIsOne};
 ghost use Rattle.vast_rows.specs.Tables.{facts_of, rows_of};
 
 use crate::grammar::Table;
-use crate::table::files;
 
 /// The page of rows spells as a file exactly the tokens that the grammar of files does, and tells of
 /// them the file's trace.
 pub fn rows_are_the_grammar()
     ensures { RowsAreTheGrammar }
-{
-    let _files = files();
-}
+{}
 
 /// A table tells one thing of tokens at most.
 pub fn telling_is_one(table: &Table)
@@ -36,6 +34,9 @@ pub fn trace_is_one()
 /// Tokens spell one file at most.
 pub fn file_is_one()
     ensures { OneFile }
-{
-    let _files = files();
-}
+{}
+
+/// What some texts derive, and the normal forms of some trees.
+pub fn worked_texts()
+    ensures { WorkedTexts }
+{}

@@ -16,8 +16,6 @@ mod sink;
 mod source;
 mod stack;
 mod table;
-#[cfg(test)]
-mod trial;
 
 pub use action::{Action, Listed};
 pub use grammar::{Phrase, Table};

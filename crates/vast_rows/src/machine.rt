@@ -174,9 +174,6 @@ pub(crate) fn open<S: Source, K: Sink<S>>(
 ///
 /// Where it does not spell them, the sink heard of a front of them, and no clause says how far the
 /// source was read.
-///
-/// # Errors
-/// Out of memory.
 pub fn read<S: Source, K: Sink<S>>(
     alloc: Global,
     table: &Table,
@@ -212,9 +209,6 @@ pub fn read<S: Source, K: Sink<S>>(
 }
 
 /// Whether the tokens of the source are those of a file; a sink hears the file's trace.
-///
-/// # Errors
-/// Out of memory.
 pub fn read_file<S: Source, K: Sink<S>>(
     alloc: Global,
     source: &mut S,
@@ -229,9 +223,6 @@ pub fn read_file<S: Source, K: Sink<S>>(
 }
 
 /// Whether the tokens of the source are those of a file.
-///
-/// # Errors
-/// Out of memory.
 pub fn is_file<S: Source>(alloc: Global, source: &mut S) -> Result<bool, AllocError>
     ensures { IfOk result (λ spelled. MatchBool spelled
         ((t : NormalFile) × IsFile (S.left source.old) t)

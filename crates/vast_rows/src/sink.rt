@@ -13,24 +13,15 @@ use std::alloc::AllocError;
 pub trait Sink<S: Source> {
     ghost after: { Self → List Event → Self → Type 0 };
 
-    /// A row was chosen that makes something of what its items make, which is told behind it.
-    ///
-    /// # Errors
-    /// Out of memory.
+    /// A row was chosen that makes something of what its items make, which is told after it.
     fn makes(&mut self, action: Action) -> Result<(), AllocError>
         ensures { IfOk result (λ _. after self.old (Makes action ∷ []) self.new) };
 
     /// A phrase was read.
-    ///
-    /// # Errors
-    /// Out of memory.
     fn reads(&mut self, made: S::Made) -> Result<(), AllocError>
         ensures { IfOk result (λ _. after self.old (Reads (S.sees made) ∷ []) self.new) };
 
     /// A name was taken.
-    ///
-    /// # Errors
-    /// Out of memory.
     fn names(&mut self, name: S::Name) -> Result<(), AllocError>
         ensures { IfOk result (λ _. after self.old (Names (S.text name) ∷ []) self.new) };
 

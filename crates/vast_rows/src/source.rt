@@ -35,9 +35,6 @@ pub trait Source {
             (λ name. first_name (left self.old) ≡ Some (text name)) };
 
     /// Reads a phrase. Where none stands before a token that may follow, it may read one or none.
-    ///
-    /// # Errors
-    /// Out of memory.
     fn phrase(&mut self, phrase: Phrase) -> Result<Option<Self::Made>, AllocError>
         ensures { IfOk result (λ made. MatchOption made
             (HasNone phrase (left self.old))

@@ -58,7 +58,7 @@ many k b answers ns = and_then (all_found k answers ns) (λ xs. if_own (list_all
 unfoldable pub one_and_many : {A B : Type 0} → Kind A → Kind B → Bench → List Answer → ℕ → List ℕ → Result (A × List B) Cause
 one_and_many j k b answers n ms = and_then (found j answers n) (λ x. and_then (all_found k answers ms) (λ ys. if_own (j.is_own b x && list_all (k.is_own b) ys) (x, ys)))
 
--- The same of code that answers vectors.
+-- The same of code that returns vectors.
 abbrev pub FindsAll : {A : Type 0} → Result (Vec A Global) StepFault → Result (List A) Cause → Type 0
 FindsAll (Ok xs) looked = looked ≡ Ok xs.items
 FindsAll (Err fault) looked = IsCause (cause_of fault) looked

@@ -15,7 +15,7 @@ pub data Cause : Type 0 where
   NotMet : Cause
   InWords : List ℕ → Cause
 
--- A step answers this and leaves this bench, or it is at fault and leaves all as it was.
+-- A step returns this and leaves this bench, or it is at fault and leaves all as it was.
 pub data Outcome : Type 0 where
   Made : Answer → Bench → Outcome
   AtFault : Cause → Outcome
@@ -24,7 +24,7 @@ pub data Outcome : Type 0 where
 abbrev pub Call : Type 0
 Call = Bench → List Answer → Outcome
 
--- The call makes this part of the file, and answers its handle.
+-- The call makes this part of the file, and returns its handle.
 abbrev pub makes : {H : Type 0} → (H → Answer) → (Bench → H) → (Bench → Bench) → Bench → Outcome
 makes answer handle after b = Made (answer (handle b)) (after b)
 

@@ -163,7 +163,7 @@ pub(crate) fn instantiation(made: Result<Instantiation, AllocError>) -> Result<A
     Ok(Answer::Instantiation(made?))
 }
 
-/// Nothing, of a call that answers nothing.
+/// Nothing, of a call that returns nothing.
 pub(crate) fn nothing(made: Result<(), AllocError>) -> Result<Answer, StepFault>
     ensures { Wraps made result (λ _. Nothing) }
 {
@@ -199,7 +199,7 @@ pub(crate) fn refusable_always(made: Result<VastAlwaysBase, VastFault>) -> Resul
     Ok(Answer::VastAlwaysBase(made?))
 }
 
-/// Nothing, of a call which may be refused that answers nothing.
+/// Nothing, of a call which may be refused that returns nothing.
 pub(crate) fn refusable_nothing(made: Result<(), VastFault>) -> Result<Answer, StepFault>
     ensures { WrapsRefusable made result (λ _. Nothing) }
 {

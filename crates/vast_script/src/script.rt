@@ -37,7 +37,7 @@ pub fn replay_step(
     }
 }
 
-/// Makes the calls in order, and answers what each answers.
+/// Makes the calls in order, and returns what each returns.
 ///
 /// # Errors
 /// The first step at fault, with its cause: the file is as the steps before it left it. `Memory` where a growth was

@@ -39,7 +39,7 @@ impl From<AllocError> for InputFault {
 /// counts as one.
 ///
 /// # Errors
-/// A failed read, more than 16,777,216 bytes, no end after the last read, want of memory. No more than 16,777,217 bytes
+/// A failed read, more than 16,777,216 bytes, no end after the last read, out of memory. No more than 16,777,217 bytes
 /// are read then.
 pub fn read_input<R: Read>(alloc: Global, input: &mut R) -> Result<Vec<u8>, InputFault>
     ensures all { IfOk result (λ bytes.

@@ -42,7 +42,7 @@ pub fn write_whole<W: Write>(bytes: &[u8], out: &mut W) -> Result<(), WriteFault
     }
 }
 
-/// Tells the line, or a front of it where a write fails, and answers what becomes of the run.
+/// Tells the line, or a front of it where a write fails, and returns what becomes of the run.
 pub fn tell<O, E: Write>(line: &str, outcome: O, err: &mut E) -> O
     ensures outcome { result ≡ outcome }
     ensures told { AppendsFront (E.contents err.old) (E.contents err.new) line.now }
@@ -51,7 +51,7 @@ pub fn tell<O, E: Write>(line: &str, outcome: O, err: &mut E) -> O
     outcome
 }
 
-/// Tells the fault in a line, and answers what becomes of the run.
+/// Tells the fault in a line, and returns what becomes of the run.
 pub fn fail<F: Display + Drop, O, E: Write>(fault: F, outcome: O, err: &mut E) -> O
     ensures { result ≡ outcome }
 {
@@ -59,7 +59,7 @@ pub fn fail<F: Display + Drop, O, E: Write>(fault: F, outcome: O, err: &mut E) -
     outcome
 }
 
-/// Prints the text, or says why there is none, and answers the status: 0, or 1 where there is none or a write failed.
+/// Prints the text, or says why there is none, and returns the status: 0, or 1 where there is none or a write failed.
 pub fn print<F: Display + Drop, W: Write, E: Write>(
     text: Result<String, F>,
     out: &mut W,

@@ -1,4 +1,4 @@
-//! The words behind a program's name.
+//! The words after a program's name.
 
 ghost use Rattle.std.specs.Prelude.{◌≡◌, IfOk, map, string_bytes};
 
@@ -7,7 +7,7 @@ use std::env::Env;
 use std::{env, io};
 use thiserror::Error;
 
-/// What `answer` makes of the words behind the program's name.
+/// What `answer` makes of the words after the program's name.
 ///
 /// # Errors
 /// A word that is not UTF-8, and out of memory.

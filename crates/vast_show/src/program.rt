@@ -9,7 +9,7 @@ use std::io::Write;
 use vast_examples::example;
 use vast_shell::print;
 
-/// Prints the example that each word names, in their order, and answers the status: 0, or 1 at the first word that
+/// Prints the example that each word names, in their order, and returns the status: 0, or 1 at the first word that
 /// names none, at a refusal or a fault, whose words go to `err`.
 pub(crate) fn run<W: Write, E: Write>(alloc: Global, words: &[&str], out: &mut W, err: &mut E) -> u8
     ensures status { result ≤ 1 }

@@ -3,7 +3,7 @@ use Rattle.std.proofs.Common.{◌≡◌, ℕ, List, [], ◌++◌, Option, Some, 
 use Rattle.std.specs.Prelude.{IfErr, IfOk, codes}
 use Rattle.vast_list.specs.declared.fault.Fault.{Fault}
 use Rattle.vast_list.specs.declared.fault.Fault.TheVariants.{Line, Memory}
-use Rattle.vast_list.specs.declared.session.Given.{Given}
+use Rattle.vast_list.specs.declared.session.LineResult.{LineResult}
 use Rattle.vast_list.specs.declared.session.Session.{Session}
 use Rattle.vast_list.specs.Lines.{HasKind, NamesDialect, Passed}
 use Rattle.vast_list.specs.Replies.{AddsGiven, fault_object, line_front}
@@ -13,7 +13,7 @@ use Rattle.vast_talk.specs.Internal.Replies.{AddsAnswer, AddsReply, AddsFault}
 use Rattle.vast_talk.specs.Internal.Warnings.{AddsWarningList}
 use Rattle.vast_talk.specs.declared.warnings.LineWarning.{LineWarning}
 
--- What the line gave or its fault stands in a text that was empty, and a line break behind it.
+-- What the line gave or its fault stands in a text that was empty, and a line break after it.
 pub replied :
     (IsTold : List ℕ → Type 0) (taken : Result (Unit {0}) Fault) (given told reply : List ℕ) → AddsReply [] given taken IsTold → AddsFault given told taken →
     reply ≡ told ++ codes "\n" → (object : List ℕ) × IsTold object × (reply ≡ object ++ codes "\n")
@@ -34,7 +34,7 @@ first_fault text (Some session) number line fault is_empty none full passes no_d
 -- A line that a session took.
 
 pub taken_line :
-    (old new : Session) (line : List ℕ) (taken : Result Given Fault) → Takes old new line taken → IfOk taken (IsGivenBy line) → IfErr taken (IsCausedBy old new line) → IfErr taken (NamesCall old line) →
+    (old new : Session) (line : List ℕ) (taken : Result LineResult Fault) → Takes old new line taken → IfOk taken (IsGivenBy line) → IfErr taken (IsCausedBy old new line) → IfErr taken (NamesCall old line) →
     IsNumbered old line taken → IfErr taken (λ fault. HasKind line Passed → ⊥) → IsTaken old new line taken
 taken_line old new line (Ok given) takes is cause call numbered full = record { takes = takes; given = is; fault = tt; numbered = numbered }
 taken_line old new line (Err fault) takes is cause call numbered full = record { takes = takes; given = tt; fault = (full, cause, call); numbered = numbered }
@@ -45,7 +45,7 @@ replied_fault old new text line number (Line fault) taken of_line = ((Err (Line 
 replied_fault old new text line number Memory taken of_line = tt
 
 pub replied_given :
-    (old new : Session) (before after line : List ℕ) (number : ℕ) (given : Given) → IsTaken old new line (Ok given) → AddsGiven new before after number given → AddsReply before after (Ok tt) (RepliesToLine old new number line)
+    (old new : Session) (before after line : List ℕ) (number : ℕ) (given : LineResult) → IsTaken old new line (Ok given) → AddsGiven new before after number given → AddsReply before after (Ok tt) (RepliesToLine old new number line)
 replied_given old new before after line number given taken (object, is, grown) = (object, (Ok given, taken, is), grown)
 
 -- What is told without warnings is told with a lint, too.

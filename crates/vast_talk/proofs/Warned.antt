@@ -7,7 +7,7 @@ use Rattle.vast_talk.specs.declared.warnings.LineWarning.{LineWarning}
 use Rattle.vast_talk.specs.Warnings.{AreMoreWarnings, IsWarningObject, rule_members, warning_front}
 use Rattle.vast_talk.specs.Internal.Warnings.{AddsMoreWarnings, AddsWarning}
 
--- A warning was appended, its rule in words behind where it is shown.
+-- A warning was appended, its rule in words after where it is shown.
 pub worded :
     (old front new why tools : List ℕ) (warning : LineWarning) (done : Result (Unit {0}) AllocError) → front ≡ old ++ warning_front warning → OnOk done (new ≡ front ++ rule_members why tools) →
     OnOk done (AddsWarning old new warning)
@@ -18,7 +18,7 @@ worded old front new why tools warning (Err refused) shown told = tt
 pub no_more : (old : List ℕ) → AddsMoreWarnings old old []
 no_more old = ([], refl, sym (append-nil old))
 
--- One more behind those that stand there.
+-- One more after those that stand there.
 one_behind : (warnings : List LineWarning) (more : List ℕ) (warning : LineWarning) (object : List ℕ) → AreMoreWarnings warnings more → IsWarningObject warning object → AreMoreWarnings (warnings ++ warning ∷ []) (more ++ (codes "," ++ object))
 one_behind [] more warning object none is = (object, [], is, refl, rw none (sym (ap (λ (xs : List ℕ). codes "," ++ xs) (append-nil object))))
 one_behind (w ∷ ws) more warning object (first, rest, is_first, are, same) is =

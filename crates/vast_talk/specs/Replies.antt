@@ -6,7 +6,7 @@ use Rattle.vast_literal.specs.declared.kind.VastFileType.{VastFileType}
 use Rattle.vast_list.specs.declared.fault.Fault.{Fault}
 use Rattle.vast_list.specs.declared.fault.Fault.TheVariants.{Line, Memory}
 use Rattle.vast_list.specs.declared.fault.LineFault.{LineFault}
-use Rattle.vast_list.specs.declared.session.Given.{Given}
+use Rattle.vast_list.specs.declared.session.LineResult.{LineResult}
 use Rattle.vast_list.specs.declared.session.Session.{Session}
 use Rattle.vast_talk.specs.declared.warnings.LineWarning.{LineWarning}
 use Rattle.vast_list.specs.Lines.{HasKind, NamesDialect, Passed, dialect_word, without_return}
@@ -24,7 +24,7 @@ abbrev pub text_object : (line : ℕ) → (name content : List ℕ) → List ℕ
 text_object line name content = line_front line ++ text_member name content ++ codes "}"
 
 -- What is told of a line that a session took: what it gave, or its fault.
-abbrev pub IsObjectOf : Session → (line : ℕ) → Result Given Fault → (object : List ℕ) → Type 0
+abbrev pub IsObjectOf : Session → (line : ℕ) → Result LineResult Fault → (object : List ℕ) → Type 0
 IsObjectOf session line (Ok given) object = IsGivenObject session line given object
 IsObjectOf session line (Err (Line fault)) object = (fault.line ≡ line) × (object ≡ fault_object fault)
 IsObjectOf session line (Err Memory) object = ⊥
@@ -34,7 +34,7 @@ abbrev pub IsTrueOf : (old new : Session) → (line : List ℕ) → Fault → Ty
 IsTrueOf old new line fault = (HasKind line Passed → ⊥) × IsCausedBy old new line fault × NamesCall old line fault
 
 -- What comes of a line that a session takes.
-pub record IsTaken (old new : Session) (line : List ℕ) (taken : Result Given Fault) : Type 0 where
+pub record IsTaken (old new : Session) (line : List ℕ) (taken : Result LineResult Fault) : Type 0 where
   pub takes : Takes old new line taken
   pub given : IfOk taken (IsGivenBy line)
   pub fault : IfErr taken (IsTrueOf old new line)
@@ -43,7 +43,7 @@ pub record IsTaken (old new : Session) (line : List ℕ) (taken : Result Given F
 -- The session took the line, and the object tells what came of it.
 abbrev pub RepliesToLine : (old new : Session) → (number : ℕ) → (line object : List ℕ) → Type 0
 RepliesToLine old new number line object =
-    (taken : Result Given Fault) × IsTaken old new line taken × IsObjectOf new number taken object
+    (taken : Result LineResult Fault) × IsTaken old new line taken × IsObjectOf new number taken object
 
 -- The object itself, or with a list of warnings as its last member.
 abbrev pub IsWarned : (object told : List ℕ) → Type 0

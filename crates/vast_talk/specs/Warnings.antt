@@ -21,7 +21,7 @@ rule_members why tools = text_member (codes ",\"why\":") why ++ text_member (cod
 abbrev pub IsWarningObject : LineWarning → (object : List ℕ) → Type 0
 IsWarningObject warning object = (why : List ℕ) × (tools : List ℕ) × (object ≡ warning_front warning ++ rule_members why tools)
 
--- Warnings, each behind a comma.
+-- Warnings, each after a comma.
 abbrev pub AreMoreWarnings : List LineWarning → (text : List ℕ) → Type 0
 AreMoreWarnings [] text = text ≡ []
 AreMoreWarnings (warning ∷ warnings) text =

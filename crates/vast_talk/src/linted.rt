@@ -10,7 +10,7 @@ ghost use Rattle.vast_talk.specs.Internal.Linted.{is_memory};
 use crate::LineWarning;
 use std::alloc::{AllocError, Global};
 use vast_lint::{Lint, Warning};
-use vast_list::{Fault, Given, Session, name_of_call};
+use vast_list::{Fault, LineResult, Session, name_of_call};
 use vast_literal::VastFault;
 use vast_script::{Step, one};
 use xlsynth_vast::{Expr, VastFileType};
@@ -46,7 +46,7 @@ impl SessionLint {
     /// call prints.
     ///
     /// # Errors
-    /// Want of memory; the lint is then behind the session.
+    /// Out of memory; the lint is then behind the session.
     pub(crate) fn answered(
         &mut self,
         session: &Session,
@@ -70,9 +70,6 @@ impl SessionLint {
     }
 
     /// Appends what would be told of the list at its end, if it ended here: what no later call has mended.
-    ///
-    /// # Errors
-    /// Want of memory.
     pub(crate) fn end(
         &self,
         session: &Session,
@@ -112,7 +109,7 @@ pub(crate) fn take_linted<'l>(
     number: usize,
     line: &'l [u8],
     warnings: &mut Vec<LineWarning>,
-) -> Result<Given<'l>, Fault>
+) -> Result<LineResult<'l>, Fault>
     ensures level { IsLevel lint.old session.old → is_memory result ≡ false
         → IsLevel lint.new session.new }
     ensures taken { is_memory result ≡ false → IsTaken session.old session.new line.now result }
@@ -133,7 +130,7 @@ fn take_step<'l>(
     line: &'l [u8],
     step: Option<&Step>,
     warnings: &mut Vec<LineWarning>,
-) -> Result<Given<'l>, Fault>
+) -> Result<LineResult<'l>, Fault>
     ensures level { IsLevel lint.old session.old → is_memory result ≡ false
         → IsLevel lint.new session.new }
     ensures taken { is_memory result ≡ false → IsTaken session.old session.new line.now result }
@@ -141,8 +138,8 @@ fn take_step<'l>(
 {
     let given = session.line(number, line)?;
     match &given {
-        Given::Nothing | Given::Answer { call: _, value: _ } => Ok(given),
-        Given::Step { number: _, call: _ } | Given::Helper { number: _, call: _ } => {
+        LineResult::Nothing | LineResult::Answer { call: _, value: _ } => Ok(given),
+        LineResult::Step { number: _, call: _ } | LineResult::Helper { number: _, call: _ } => {
             match lint.answered(session, number, line, step, warnings) {
                 Ok(()) => Ok(given),
                 Err(_) => Err(Fault::Memory),

@@ -66,13 +66,10 @@ impl Talk {
         talk
     }
 
-    /// Takes the next line, without its line feed, and answers what it gave, an object of JSON with a line break.
+    /// Takes the next line, without its line feed, and returns what it gave, an object of JSON with a line break.
     ///
     /// The first line that is neither blank nor a comment names the dialect, `{"line":1,"dialect":"verilog"}`. A header,
     /// `== TITLE`, begins anew, `{"line":9,"title":"TITLE"}`. A line with a fault counts for nothing but its number.
-    ///
-    /// # Errors
-    /// Want of memory.
     #[tactic(auto, using(crate::proofs::Replied::replies))]
     pub fn reply(&mut self, line: &[u8]) -> Result<String, AllocError>
         ensures talking { IsTalking self.old → OnOk result (IsTalking self.new) }
@@ -110,7 +107,7 @@ impl Talk {
         }
     }
 
-    /// Begins anew, behind a header.
+    /// Begins anew, after a header.
     fn begin(&mut self, title: &[u8], text: &mut String) -> Result<(), Fault>
         ensures talking { IsTalking self.new }
         ensures lint { self.new.has_lint ≡ self.old.has_lint }
@@ -200,7 +197,7 @@ fn asks_for_warnings(line: &[u8]) -> bool
     line.strip_suffix(b"\r").unwrap_or(line) == ASKED
 }
 
-/// The same, and behind it what the line's call prints; or what the end of the list would tell, where the line asks.
+/// The same, and after it what the line's call prints; or what the end of the list would tell, where the line asks.
 fn push_linted(
     text: &mut String,
     session: &mut Session,

@@ -39,11 +39,8 @@ impl fmt::Display for LineWarning {
     }
 }
 
-/// The warnings of a list, those of its lines in order, and behind them those that only its end tells. Lines that are
+/// The warnings of a list, those of its lines in order, and after them those that only its end tells. Lines that are
 /// refused, and those that use them, are passed over, as where the list is answered.
-///
-/// # Errors
-/// Want of memory.
 pub fn list_warnings(alloc: Global, list: &ListLines<'_>) -> Result<Vec<LineWarning>, AllocError> {
     let mut warnings = Vec::new(alloc);
     let (dialect, lines) = match dialect_line(alloc, list) {
@@ -75,7 +72,7 @@ struct Taking {
 }
 
 impl Taking {
-    /// Takes the line, and appends what its call prints, if it is one that was made. Behind a header steps behind the
+    /// Takes the line, and appends what its call prints, if it is one that was made. After a header steps after the
     /// first that is refused are not made.
     fn take(
         &mut self,
@@ -102,9 +99,6 @@ impl Taking {
 
 /// The list's line of JSON with the warnings as its last member: `"warnings":[{"line":12,"call":"MakeIndex",
 /// "text":"(a + b)[1]","why":"a select of ..","tools":".."}]`, `"text"` where an expression shows it.
-///
-/// # Errors
-/// Want of memory.
 pub fn json_with_warnings(
     alloc: Global,
     line: &str,
@@ -150,7 +144,7 @@ pub(crate) fn push_warnings(text: &mut String, warnings: &[LineWarning]) -> Resu
     text.push(']')
 }
 
-/// Appends warnings behind the first.
+/// Appends warnings after the first.
 #[tactic(auto, using(crate::proofs::Warned::warned))]
 fn push_more(text: &mut String, warnings: &[LineWarning]) -> Result<(), AllocError>
     ensures { OnOk result

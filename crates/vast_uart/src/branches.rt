@@ -15,7 +15,7 @@ pub(crate) struct Branches {
     pub(crate) at_clock: VastStatementBlock,
 }
 
-/// What happens behind the last clock of a bit, and what at each other.
+/// What happens after the last clock of a bit, and what at each other.
 #[derive(Drop)]
 pub(crate) struct Clocks {
     pub(crate) at_end: VastStatementBlock,

@@ -20,10 +20,10 @@ use sender::add_sender;
 use signals::{add_outputs, add_ports, add_state};
 use xlsynth_vast::{VastFile, VastModule};
 
-/// Adds the module `uart_tx`, which sends a bit in so many clocks, and answers it.
+/// Adds the module `uart_tx`, which sends a bit in so many clocks, and returns it.
 ///
 /// # Errors
-/// `Clocks` where a bit has no clock; want of memory.
+/// `Clocks` where a bit has no clock; out of memory.
 pub fn add_uart(file: &mut VastFile, clocks: i64) -> Result<VastModule, UartFault>
     ensures answer { IfOk result (λ m. OwnsModule file.new m) }
     ensures kept { Keeps file.old file.new }

@@ -137,7 +137,7 @@ fn make_framed(byte: Expr, file: &mut VastFile) -> Result<Expr, UartFault>
     Ok(file.make_concat(&[&high, &byte, &low])?)
 }
 
-/// One clock more, and behind the last the next bit.
+/// One clock more, and after the last the next bit.
 fn fill_clock(
     block: VastStatementBlock,
     state: &State,
@@ -168,7 +168,7 @@ fn make_bit_ends(state: &State, clocks: i64, file: &mut VastFile) -> Result<Expr
     Ok(file.make_eq(&state.timer, &last)?)
 }
 
-/// The next bit, with a high one behind the last.
+/// The next bit, with a high one after the last.
 fn fill_end(block: VastStatementBlock, state: &State, file: &mut VastFile) -> Result<(), UartFault>
     requires block { OwnsBlock file.old block }
     requires frame { OwnsExpr file.old state.now.frame }

@@ -73,7 +73,7 @@ count-over ds i d read total below each at is some same over =
     large : (n : ℕ) → (n < 2 ^ 64 → ⊥) → pos (2 ^ 64) ≤ℤ pos n
     large n h = by_lt_z (pos n) (pos (2 ^ 64)) (λ below. absurd (h (omega (arith, ints)))) (λ above. above)
 
--- Checks one behind another.
+-- Checks one after another.
 
 pub first_refuses : (first : Result (Unit {0}) (List ℕ)) (next : Unit {0} → Result (Unit {0}) (List ℕ)) (fault : VastFault) → RefusedBy first fault → RefusedBy (and_then first next) fault
 first_refuses (Ok _) next (Refused e) h = absurd cc

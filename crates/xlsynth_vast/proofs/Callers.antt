@@ -1,4 +1,4 @@
--- For callers: what was a file's stays the file's after any call, what a call answers is the file's, and names stay free.
+-- For callers: what was a file's stays the file's after any call, what a call returns is the file's, and names stay free.
 --
 -- A call leaves lists with an element more or with an element changed; so each law is one of a list, at the terms that a
 -- condition reads. A caller names `callers`.
@@ -265,6 +265,6 @@ pub ruleset names = (names_after_member, names_after_parameter, names_after_port
 -- All of it.
 pub ruleset callers = (roots, trees, records, containers, names)
 
--- What `emit` answers is a file's text. A function whose contract says so of its own answer names this law.
+-- What `emit` returns is a file's text. A function whose contract says so of its own answer names this law.
 pub emitted_text : (file : FileTree) (text : String Global) (answer : Result (String Global) VastFault) → Emits (layout file) answer → answer ≡ Ok text → IsFileText (string_bytes text)
 emitted_text file text answer h e = let m = subst (λ (r : Result (String Global) VastFault). Emits (layout file) r) e h in (file, m.0, m.1)

@@ -1,4 +1,4 @@
--- Laws of what inspections answer.
+-- Laws of what inspections return.
 use Rattle.std.proofs.Common.{◌≡◌, ℕ, zero, suc, ℤ, pos, negsuc, Bool, true, IsTrue, Option, Some, None, List, [], ◌∷◌, take, filter, All, refl, ap, arith}
 use Rattle.std.proofs.lemmas.Int.{ints}
 use Rattle.std.proofs.lemmas.Bool.Decides.{nat_tests}

@@ -1,7 +1,7 @@
 -- What a file keeps as it grows.
 use Rattle.std.proofs.Common.{◌≡◌, ℕ, Bool, true, false, cond, Result, Ok, Err, refl, sym, ap, ◌∙◌, subst, arith}
 use Rattle.std.specs.declared.alloc.AllocError.{AllocError}
-use Rattle.vast_core.specs.Raw.{Raw}
+use Rattle.vast_core.specs.ArenaState.{ArenaState}
 use Rattle.vast_core.specs.View.{bench}
 use Rattle.vast_core.specs.Nodes.{Root}
 use Rattle.vast_core.specs.Records.{ModuleRecord, changed_at}
@@ -165,7 +165,7 @@ pub kept-from : (a b c d : Bench) → c ≡ d → b ≡ a → Keeps b d → Keep
 kept-from a b c d end start k = subst (λ x. Keeps x c) start (subst (λ x. Keeps b x) (sym end) k)
 
 pub kept_by :
-    {A : Type 0} (old new : Raw) (file : Bench) (result : Result A AllocError) (answer : Bench → A) (after : Bench → Bench) →
+    {A : Type 0} (old new : ArenaState) (file : Bench) (result : Result A AllocError) (answer : Bench → A) (after : Bench → Bench) →
     GrowsTo old new result answer after → bench old ≡ file → Keeps (bench old) (after (bench old)) → Keeps file (bench new)
 kept_by old new file (Ok x) answer after h start k = kept-from file (bench old) (bench new) (after (bench old)) h.1 start k
 kept_by old new file (Err fault) answer after h start k = kept-from file (bench old) (bench new) (bench old) h start (keeps-same (bench old))

@@ -26,7 +26,7 @@ use Rattle.xlsynth_vast.proofs.KeptWords.{member-kept, loop_member-kept}
 
 pub keeps-unused : (b c : Bench) → HasUnused b c → Keeps b c
 keeps-unused b c h =
-    let d : Bench = with_unused h.roots h.assignments h.containers h.spare b in
+    let d : Bench = with_unused h.roots h.assignments h.containers h.detached b in
     subst (λ x. Keeps b x) (sym h.after) (keeps-grown b d (record {
       nodes = record { same_id = refl; same_roots = λ i r e. slice_get-append b.nodes.roots h.roots i r e };
       ports = omega arith;

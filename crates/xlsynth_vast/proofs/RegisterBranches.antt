@@ -226,7 +226,7 @@ branches-read condition registers block b d i m low h all own s =
       stands-read e d m i (second_block condition block b).id.index _ both.1 (omega (arith, low, place)) s,
     ) refl
 
--- A block of assignments, and behind them perhaps a conditional.
+-- A block of assignments, and after them perhaps a conditional.
 
 plain-read : (b : Bench) (i : ℕ) (trees : List StatementTree) → Stands b i trees → IsBlockOf b i trees
 unfolding families

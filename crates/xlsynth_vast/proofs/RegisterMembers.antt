@@ -14,7 +14,7 @@ use Rattle.vast_core.specs.Nests.{BlockRecord}
 use Rattle.vast_core.specs.Bench.{Bench, OwnsExpr, OwnsBlock, tree_of}
 use Rattle.vast_core.specs.Sound.{EventSound}
 use Rattle.vast_core.specs.Growth.{next_expr, with_expr}
-use Rattle.vast_core.specs.Containers.{MemberEnters, with_entry, next_block, with_spare_block}
+use Rattle.vast_core.specs.Containers.{MemberEnters, with_entry, next_block, with_detached_block}
 use Rattle.vast_core.specs.Loops.{next_always}
 use Rattle.vast_core.specs.Unattached.{always_over}
 use Rattle.vast_core.specs.FileTree.{member_tree}
@@ -38,29 +38,29 @@ use Rattle.xlsynth_vast.proofs.RegisterBranches.{StaysFrom, IsBlockOf, maybe-res
 -- The block of the registers.
 
 abbrev pub filled : List RegisterDefinition → Bench → Bench
-filled registers b = with_all_assigned Unreset (next_block b) registers (with_spare_block b)
+filled registers b = with_all_assigned Unreset (next_block b) registers (with_detached_block b)
 
-pub block-changes : (reset : Option Reset) (registers : List RegisterDefinition) (b : Bench) → Changes (length b.nests) (with_spare_block b) (with_register_block reset registers b)
+pub block-changes : (reset : Option Reset) (registers : List RegisterDefinition) (b : Bench) → Changes (length b.nests) (with_detached_block b) (with_register_block reset registers b)
 unfolding with_register_block
 block-changes reset registers b =
     let i : ℕ = length b.nests in
-    changes-then i i (with_spare_block b) (filled registers b) (with_register_block reset registers b) (all-assigned-changes Unreset (next_block b) registers (with_spare_block b))
+    changes-then i i (with_detached_block b) (filled registers b) (with_register_block reset registers b) (all-assigned-changes Unreset (next_block b) registers (with_detached_block b))
     (maybe-reset-changes reset registers (next_block b) (filled registers b)) (inl refl)
 
 pub block-unused : (reset : Option Reset) (registers : List RegisterDefinition) (b : Bench) → HasUnused b (with_register_block reset registers b)
 block-unused reset registers b = (block-changes reset registers b).unused b (unused-block b) (omega arith)
 
-pub spare-owned : (b : Bench) → OwnsBlock (with_spare_block b) (next_block b)
-spare-owned b = next_block_owned b
+pub detached-owned : (b : Bench) → OwnsBlock (with_detached_block b) (next_block b)
+detached-owned b = next_block_owned b
 
-pub spare-registers : (b : Bench) (registers : List RegisterDefinition) → All (OwnsRegister b) registers → All (OwnsRegister (with_spare_block b)) registers
-spare-registers b registers h = registers-owned b (with_spare_block b) (unused-wider b (with_spare_block b) (unused-block b)) registers h
+pub detached-registers : (b : Bench) (registers : List RegisterDefinition) → All (OwnsRegister b) registers → All (OwnsRegister (with_detached_block b)) registers
+detached-registers b registers h = registers-owned b (with_detached_block b) (unused-wider b (with_detached_block b) (unused-block b)) registers h
 
 pub filled-wider : (b : Bench) (registers : List RegisterDefinition) → Wider b (filled registers b)
-filled-wider b registers = wider-wider b (with_spare_block b) (filled registers b) (unused-wider b (with_spare_block b) (unused-block b)) ((all-assigned-changes Unreset (next_block b) registers (with_spare_block b)).wider)
+filled-wider b registers = wider-wider b (with_detached_block b) (filled registers b) (unused-wider b (with_detached_block b) (unused-block b)) ((all-assigned-changes Unreset (next_block b) registers (with_detached_block b)).wider)
 
 pub filled-owned : (b : Bench) (registers : List RegisterDefinition) → OwnsBlock (filled registers b) (next_block b)
-filled-owned b registers = (all-assigned-changes Unreset (next_block b) registers (with_spare_block b)).blocks (next_block b) (spare-owned b)
+filled-owned b registers = (all-assigned-changes Unreset (next_block b) registers (with_detached_block b)).blocks (next_block b) (detached-owned b)
 
 maybe-reset-owned : (b c : Bench) → Wider b c → (reset : Option Reset) → IfSome reset (OwnsReset b) → IfSome reset (OwnsReset c)
 maybe-reset-owned b c w None h = tt
@@ -75,7 +75,7 @@ block-read :
     IsBlockOf (with_register_block reset registers b) (length b.nests) (assigned_all unreset_value (register_trees b registers) ++ by_reset (maybe_reset_tree b reset) (register_trees b registers))
 unfolding with_register_block
 block-read reset registers b h all =
-    let c : Bench = with_spare_block b in
+    let c : Bench = with_detached_block b in
     let d : Bench = filled registers b in
     let w : Wider b c = unused-wider b c (unused-block b) in
     let v : Wider b d = filled-wider b registers in
@@ -100,8 +100,8 @@ edge-changes i b clk = changes-root i b (ExprRoot (PosEdgeTree (tree_of b clk)))
 pub edge-unused : (old b : Bench) (clk : Expr) → HasUnused old b → HasUnused old (with_expr (PosEdgeTree (tree_of b clk)) b)
 edge-unused old b clk h = (edge-changes (length old.nests) b clk).unused old h (omega arith)
 
-pub block-spare : (reset : Option Reset) (registers : List RegisterDefinition) (b : Bench) → (with_register_block reset registers b).spare ≡ Some (next_block b)
-block-spare reset registers b = (block-changes reset registers b).spare
+pub block-detached : (reset : Option Reset) (registers : List RegisterDefinition) (b : Bench) → (with_register_block reset registers b).detached ≡ Some (next_block b)
+block-detached reset registers b = (block-changes reset registers b).detached
 
 pub scope-owned : (old now : Bench) (scope : RegisterScope) → HasUnused old now → OwnsScope old scope → OwnsScope now scope
 scope-owned old now (ModuleScope owner) h k = rw h.after k
@@ -147,7 +147,7 @@ member-read scope clk reset registers b owned own h all =
     let body = block-read reset registers b h all d (clocked-stays scope clk (next_block b) (length b.nests) c (scope-older b scope owned) refl) in
     rw (there, body, event, clock) refl
 
--- What the call answers.
+-- What the call returns.
 
 adds-one : (old new : Bench) (clk : Expr) (reset : Option Reset) (registers : List RegisterDefinition) (scope : RegisterScope) → new ≡ with_registers clk reset registers scope old → AddsOneAlways old new scope
 unfolding with_registers

@@ -11,7 +11,7 @@ use Rattle.vast_core.specs.Records.{changed_at}
 use Rattle.vast_core.specs.Nests.{NestRecord, BlockRecord}
 use Rattle.vast_core.specs.Bench.{Bench, OwnsExpr, OwnsBlock, tree_of}
 use Rattle.vast_core.specs.Growth.{with_root, with_assignment}
-use Rattle.vast_core.specs.Containers.{NestedEntry, with_entry, with_nest, with_nest_entry, with_spare_block}
+use Rattle.vast_core.specs.Containers.{NestedEntry, with_entry, with_nest, with_nest_entry, with_detached_block}
 use Rattle.vast_core.proofs.Lists.{slice_get-append}
 use Rattle.vast_core.proofs.NodeLaws.{Extends, Extends-same, Extends-root, HasExpr-kept, expr_in-kept}
 use Rattle.vast_core.proofs.NestLaws.{entered_block_owned, old_block_owned}
@@ -90,7 +90,7 @@ pub registers-kept : (b c : Bench) → Wider b c → (rs : List RegisterDefiniti
 registers-kept b c w [] h = refl
 registers-kept b c w (r ∷ rs) h = rw (register-kept b c w r (h 0 r (omega arith)), registers-kept b c w rs (λ k d below. h (suc k) d (omega arith))) refl
 
--- Lists behind others, and with one element changed.
+-- Lists after others, and with one element changed.
 
 pub changed-behind : {A : Type 0} (f : A → A) (xs ys : List A) (k i : ℕ) → i ≡ k + length xs → changed_at i f (xs ++ ys) ≡ xs ++ changed_at k f ys
 changed-behind f [] ys k i e = let same : i ≡ k = omega (arith, e) in rw same refl
@@ -117,7 +117,7 @@ get-within (y ∷ xs) (suc i) x e = let h = get-within xs i x e in omega (arith,
 -- What is unused since a file stays so.
 
 pub unused-none : (b : Bench) → HasUnused b b
-unused-none b = record { roots = []; assignments = []; containers = []; spare = b.spare; after = rw (append-nil b.nodes.roots, append-nil b.assignments, append-nil b.nests) refl }
+unused-none b = record { roots = []; assignments = []; containers = []; detached = b.detached; after = rw (append-nil b.nodes.roots, append-nil b.assignments, append-nil b.nests) refl }
 
 pub unused-wider : (old now : Bench) → HasUnused old now → Wider old now
 unused-wider old now h = rw h.after (record { nodes = record { same_id = refl; same_roots = λ i r e. slice_get-append old.nodes.roots h.roots i r e }; assignments = λ i a e. slice_get-append old.assignments h.assignments i a e })
@@ -126,33 +126,33 @@ pub unused-count : (old now : Bench) → HasUnused old now → length old.nests 
 unused-count old now h = rw h.after (omega (arith, length-append old.nests h.containers))
 
 unused-root : (b c : Bench) (r : Root) → HasUnused b c → HasUnused b (with_root c r)
-unused-root b c r h = rw h.after (record { roots = h.roots ++ r ∷ []; assignments = h.assignments; containers = h.containers; spare = h.spare; after = rw (append_assoc b.nodes.roots h.roots (r ∷ [])) refl })
+unused-root b c r h = rw h.after (record { roots = h.roots ++ r ∷ []; assignments = h.assignments; containers = h.containers; detached = h.detached; after = rw (append_assoc b.nodes.roots h.roots (r ∷ [])) refl })
 
 unused-assignment : (b c : Bench) (a : Assignment) → HasUnused b c → HasUnused b (with_assignment a c)
-unused-assignment b c a h = rw h.after (record { roots = h.roots; assignments = h.assignments ++ a ∷ []; containers = h.containers; spare = h.spare; after = rw (append_assoc b.assignments h.assignments (a ∷ [])) refl })
+unused-assignment b c a h = rw h.after (record { roots = h.roots; assignments = h.assignments ++ a ∷ []; containers = h.containers; detached = h.detached; after = rw (append_assoc b.assignments h.assignments (a ∷ [])) refl })
 
 unused-nest : (b c : Bench) (n : NestRecord) → HasUnused b c → HasUnused b (with_nest n c)
-unused-nest b c n h = rw h.after (record { roots = h.roots; assignments = h.assignments; containers = h.containers ++ n ∷ []; spare = h.spare; after = rw (append_assoc b.nests h.containers (n ∷ [])) refl })
+unused-nest b c n h = rw h.after (record { roots = h.roots; assignments = h.assignments; containers = h.containers ++ n ∷ []; detached = h.detached; after = rw (append_assoc b.nests h.containers (n ∷ [])) refl })
 
 unused-entry : (b c : Bench) (i : ℕ) (e : NestedEntry) → HasUnused b c → length b.nests ≤ i → HasUnused b (with_nest_entry i e c)
 unused-entry b c i e h past =
     let k : ℕ = i - length b.nests in
     let place : i ≡ k + length b.nests = omega (arith, past) in
-    rw h.after (record { roots = h.roots; assignments = h.assignments; containers = changed_at k (with_entry e) h.containers; spare = h.spare; after = rw (changed-behind (with_entry e) b.nests h.containers k i place) refl })
+    rw h.after (record { roots = h.roots; assignments = h.assignments; containers = changed_at k (with_entry e) h.containers; detached = h.detached; after = rw (changed-behind (with_entry e) b.nests h.containers k i place) refl })
 
-pub unused-block : (b : Bench) → HasUnused b (with_spare_block b)
-unused-block b = record { roots = []; assignments = []; containers = BlockRecord [] ∷ []; spare = (with_spare_block b).spare; after = rw (append-nil b.nodes.roots, append-nil b.assignments) refl }
+pub unused-block : (b : Bench) → HasUnused b (with_detached_block b)
+unused-block b = record { roots = []; assignments = []; containers = BlockRecord [] ∷ []; detached = (with_detached_block b).detached; after = rw (append-nil b.nodes.roots, append-nil b.assignments) refl }
 
 -- Of what the file had only the container i changed. It has expressions, assignments and containers more.
 pub record Changes (i : ℕ) (b c : Bench) : Type 0 where
   pub wider : Wider b c
   pub containers : (k : ℕ) (n : NestRecord) → k ≢ i → slice_get b.nests k ≡ Some n → slice_get c.nests k ≡ Some n
   pub blocks : (x : VastStatementBlock) → OwnsBlock b x → OwnsBlock c x
-  pub spare : c.spare ≡ b.spare
+  pub detached : c.detached ≡ b.detached
   pub unused : (start : Bench) → HasUnused start b → length start.nests ≤ i → HasUnused start c
 
 pub changes-none : (i : ℕ) (b : Bench) → Changes i b b
-changes-none i b = record { wider = record { nodes = Extends-same b.nodes; assignments = λ k a e. e }; containers = λ k n other e. e; blocks = λ x h. h; spare = refl; unused = λ start h past. h }
+changes-none i b = record { wider = record { nodes = Extends-same b.nodes; assignments = λ k a e. e }; containers = λ k n other e. e; blocks = λ x h. h; detached = refl; unused = λ start h past. h }
 
 -- Then a container changes that is the same, or that the file hadn't.
 pub changes-then : (i j : ℕ) (b c d : Bench) → Changes i b c → Changes j c d → (j ≡ i) ⊎ (length b.nests ≤ j) → Changes i b d
@@ -161,7 +161,7 @@ changes-then i j b c d h k (inl same) =
       wider = wider-wider b c d h.wider k.wider;
       containers = λ x n other e. k.containers x n (rw same other) (h.containers x n other e);
       blocks = λ x o. k.blocks x (h.blocks x o);
-      spare = k.spare ∙ h.spare;
+      detached = k.detached ∙ h.detached;
       unused = λ start u past. k.unused start (h.unused start u past) (rw same past);
     }
 changes-then i j b c d h k (inr behind) =
@@ -169,12 +169,12 @@ changes-then i j b c d h k (inr behind) =
       wider = wider-wider b c d h.wider k.wider;
       containers = λ x n other e. let here = get-within b.nests x n e in k.containers x n (λ same. absurd (omega (arith, here, behind, same))) (h.containers x n other e);
       blocks = λ x o. k.blocks x (h.blocks x o);
-      spare = k.spare ∙ h.spare;
+      detached = k.detached ∙ h.detached;
       unused = λ start u past. let count = unused-count start b u in k.unused start (h.unused start u past) (omega (arith, count, behind));
     }
 
 pub changes-root : (i : ℕ) (b : Bench) (r : Root) → Changes i b (with_root b r)
-changes-root i b r = record { wider = record { nodes = Extends-root b.nodes r; assignments = λ k a e. e }; containers = λ k n other e. e; blocks = λ x h. h; spare = refl; unused = λ start h past. unused-root start b r h }
+changes-root i b r = record { wider = record { nodes = Extends-root b.nodes r; assignments = λ k a e. e }; containers = λ k n other e. e; blocks = λ x h. h; detached = refl; unused = λ start h past. unused-root start b r h }
 
 pub changes-assignment : (i : ℕ) (b : Bench) (a : Assignment) → Changes i b (with_assignment a b)
 changes-assignment i b a =
@@ -182,7 +182,7 @@ changes-assignment i b a =
       wider = record { nodes = Extends-same b.nodes; assignments = λ k x e. slice_get-append b.assignments (a ∷ []) k x e };
       containers = λ k n other e. e;
       blocks = λ x h. h;
-      spare = refl;
+      detached = refl;
       unused = λ start h past. unused-assignment start b a h;
     }
 
@@ -192,7 +192,7 @@ changes-nest i b n =
       wider = record { nodes = Extends-same b.nodes; assignments = λ k a e. e };
       containers = λ k x other e. slice_get-append b.nests (n ∷ []) k x e;
       blocks = λ x h. old_block_owned b n x h;
-      spare = refl;
+      detached = refl;
       unused = λ start h past. unused-nest start b n h;
     }
 
@@ -202,6 +202,6 @@ changes-entry i b e =
       wider = record { nodes = Extends-same b.nodes; assignments = λ k a h. h };
       containers = λ k n other h. get-unchanged (with_entry e) b.nests k i other ∙ h;
       blocks = λ x h. entered_block_owned b i e x h;
-      spare = refl;
+      detached = refl;
       unused = λ start h past. unused-entry start b i e h past;
     }

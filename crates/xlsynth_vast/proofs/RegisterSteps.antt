@@ -1,4 +1,4 @@
--- What the steps answer by which the block of registers is made: each leaves what its equation says, or leaves unused what was.
+-- What the steps return by which the block of registers is made: each leaves what its equation says, or leaves unused what was.
 use Rattle.std.proofs.Common.{◌≡◌, ℕ, ◌≤◌, ◌⊎◌, true, false, List, length, Option, Some, None, slice_get, Result, Ok, Err, IsErr, refl, sym, ◌∙◌, inl, inr, arith}
 use Rattle.std.specs.List.{list_any}
 use Rattle.std.specs.declared.alloc.AllocError.{AllocError}
@@ -11,7 +11,7 @@ use Rattle.vast_core.specs.Bench.{Bench, OwnsExpr, OwnsBlock, OwnsConditional, t
 use Rattle.vast_core.specs.Sound.{EventSound}
 use Rattle.vast_core.specs.Growth.{next_expr, with_assignment, with_expr}
 use Rattle.vast_core.specs.Artifacts.{next_statement}
-use Rattle.vast_core.specs.Containers.{with_statement, with_conditional, with_else, next_conditional, next_block, with_spare_block, has_else}
+use Rattle.vast_core.specs.Containers.{with_statement, with_conditional, with_else, next_conditional, next_block, with_detached_block, has_else}
 use Rattle.xlsynth_vast.specs.declared.helpers.registers.Reset.{Reset}
 use Rattle.xlsynth_vast.specs.declared.helpers.registers.RegisterDefinition.{RegisterDefinition}
 use Rattle.xlsynth_vast.specs.declared.helpers.registers.Share.{Share}
@@ -99,7 +99,7 @@ both b c d condition block x first second own opened then closed =
     let k : Some (first_block b) ≡ Some first = rw (opened-then condition block b own) at t in
     record { after = closed.1 ∙ rw (opened.0, e) refl; first_is = cc; second_is = closed.0 ∙ rw e refl }
 
--- The same behind the condition of a reset.
+-- The same after the condition of a reset.
 
 pub condition-changes : (reset : Reset) (block : VastStatementBlock) (old b : Bench) → b ≡ with_active reset old → Changes block.id.index old b
 condition-changes reset block old b e = rw e (active-changes block.id.index reset old)
@@ -164,15 +164,15 @@ pub block-refused : (old new : Bench) (r : Result VastStatementBlock AllocError)
 block-refused old new (Ok x) reset registers e h = absurd cc
 block-refused old new (Err x) reset registers e h = h
 
-pub start-unused : (old b new : Bench) (block : VastStatementBlock) → (block ≡ next_block old) × (b ≡ with_spare_block old) → StaysUnused block b new → HasUnused old new
+pub start-unused : (old b new : Bench) (block : VastStatementBlock) → (block ≡ next_block old) × (b ≡ with_detached_block old) → StaysUnused block b new → HasUnused old new
 start-unused old b new block e h = h old (rw e.1 (unused-block old)) (rw e.0 (omega arith))
 
 pub filled-unused : (old now new : Bench) (block : VastStatementBlock) (registers : List RegisterDefinition) → block ≡ next_block old → now ≡ filled registers old → StaysUnused block now new → HasUnused old new
 filled-unused old now new block registers e f h =
-    let k = all-assigned-changes Unreset (next_block old) registers (with_spare_block old) in
+    let k = all-assigned-changes Unreset (next_block old) registers (with_detached_block old) in
     h old (rw f (k.unused old (unused-block old) (omega arith))) (rw e (omega arith))
 
-pub filled-is : (old b now : Bench) (block : VastStatementBlock) (registers : List RegisterDefinition) → (block ≡ next_block old) × (b ≡ with_spare_block old) → now ≡ with_all_assigned Unreset block registers b → now ≡ filled registers old
+pub filled-is : (old b now : Bench) (block : VastStatementBlock) (registers : List RegisterDefinition) → (block ≡ next_block old) × (b ≡ with_detached_block old) → now ≡ with_all_assigned Unreset block registers b → now ≡ filled registers old
 filled-is old b now block registers e f = f ∙ rw (e.0, e.1) refl
 
 pub block-plain :

@@ -116,7 +116,7 @@ alone v active rs i r None is none d named e =
     in-append v (name_in r.target) (assigned_all unreset_value rs) [] None
     ∙ rw (share-value v unreset_value rs i r None d named e, is, running v r r.enable refl named) refl
 
--- Behind a conditional.
+-- After a conditional.
 branched :
     (v : ExprTree → Bool) (active : Bool) (rs : List RegisterTree) (i : ℕ) (r : RegisterTree) (o : Option ExprTree) → r.reset_value ≡ o → AreDistinct (names rs) → IsTrue (is_name r.target) → slice_get rs i ≡ Some r →
     (if active then assigned_in v (name_in r.target) (block_of (assigned_all value_at_reset rs)) (after v (unreset_value r) None) else assigned_in v (name_in r.target) (block_of (assigned_all value_outside_reset rs)) (after v (unreset_value r) None))

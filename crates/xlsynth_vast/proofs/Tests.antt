@@ -1,4 +1,4 @@
--- What the tests of conditions answer.
+-- What the tests of conditions return.
 use Rattle.std.proofs.Common.{◌≡◌, ℕ, ℤ, pos, Bool, true, false, not, IsTrue, List, Option, Some, None, slice_get, subst, refl, sym}
 use Rattle.std.specs.Prelude.{◌↔◌, ◌≤ℤ◌, int_le, IfSome}
 use lib.Dec.{T}

@@ -13,7 +13,7 @@ use Rattle.xlsynth_vast.proofs.Unseen.{tree-unseen}
 
 pub nodes-unused : (b c : Bench) → HasMoreNodes b c → HasUnused b c
 nodes-unused b c h =
-    record { roots = h.more; assignments = []; containers = []; spare = b.spare; after = h.after ∙ rw (append-nil b.assignments, append-nil b.nests) refl }
+    record { roots = h.more; assignments = []; containers = []; detached = b.detached; after = h.after ∙ rw (append-nil b.assignments, append-nil b.nests) refl }
 
 pub tree-made : (old new : Bench) (r : Result Expr VastFault) (rule : Result ExprTree (List ℕ)) → RecordsSound old → MakesTree old new r rule → tree new ≡ tree old
 tree-made old new (Ok e) rule s h = tree-unseen old new s (nodes-unused old new h.1)

@@ -16,7 +16,7 @@ use Rattle.vast_print.specs.Text.{expr_text}
 use Rattle.vast_print.specs.Emits.{EmitsText, words_of}
 use Rattle.xlsynth_vast.specs.Widths.{unless_refused, no_literal, no_known_width, undeclared, uncounted, declared_width, flat_bits}
 
--- The refusal of a text that was made, or want of memory where it was not.
+-- The refusal of a text that was made, or out of memory where it was not.
 pub worded :
     (made : Result (String Global) AllocError) (words : List ℕ) (fault : VastFault) → IfOk made (λ t. string_bytes t ≡ words) →
     MatchResult made (λ t. HasText fault (string_bytes t)) (λ error. fault ≡ Memory error) → HasText fault words

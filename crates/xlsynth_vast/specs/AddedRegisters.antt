@@ -14,7 +14,7 @@ use Rattle.vast_core.specs.declared.node.Statement.TheVariants.{Assignment as As
 use Rattle.vast_core.specs.Bench.{Bench, tree_of}
 use Rattle.vast_core.specs.Growth.{next_id, next_expr, with_assignment, with_member, with_expr}
 use Rattle.vast_core.specs.Artifacts.{next_statement}
-use Rattle.vast_core.specs.Containers.{next_block, next_conditional, with_spare_block, with_statement, with_conditional, with_else}
+use Rattle.vast_core.specs.Containers.{next_block, next_conditional, with_detached_block, with_statement, with_conditional, with_else}
 use Rattle.vast_core.specs.Loops.{next_always, with_loop_member}
 use Rattle.vast_core.specs.Unattached.{with_always_over}
 use Rattle.vast_core.specs.FileTree.{member_tree}
@@ -109,10 +109,10 @@ abbrev pub with_maybe_reset : Option Reset → List RegisterDefinition → VastS
 with_maybe_reset None registers block b = b
 with_maybe_reset (Some reset) registers block b = if list_any is_resettable registers then with_reset reset registers block b else b
 
--- The block of the registers, which is the file's spare one.
+-- The block of the registers, which is the file's detached one.
 unfoldable pub with_register_block : Option Reset → List RegisterDefinition → Bench → Bench
 with_register_block reset registers b =
-    with_maybe_reset reset registers (next_block b) (with_all_assigned Unreset (next_block b) registers (with_spare_block b))
+    with_maybe_reset reset registers (next_block b) (with_all_assigned Unreset (next_block b) registers (with_detached_block b))
 
 -- A member more at the end of the scope's members.
 abbrev pub with_last_member : RegisterScope → Member → Bench → Bench

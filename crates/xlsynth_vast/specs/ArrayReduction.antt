@@ -23,7 +23,7 @@ abbrev pub declared_dimensions : MaybeType → Option (List ℤ)
 declared_dimensions Untyped = None
 declared_dimensions (Typed type) = Some (packed_dimensions type)
 
--- Those of a name's type or of the type of a cast; behind an index they are without the first. Of other expressions
+-- Those of a name's type or of the type of a cast; after an index they are without the first. Of other expressions
 -- nothing is known.
 abbrev pub known_dimensions : ExprTree → Option (List ℤ)
 known_dimensions (NameTree name type) = declared_dimensions type

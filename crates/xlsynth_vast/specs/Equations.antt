@@ -1,4 +1,4 @@
--- The equations of calls whose result depends on more than the arena: what they answer, and what they leave.
+-- The equations of calls whose result depends on more than the arena: what they return, and what they leave.
 use Rattle.std.specs.Prelude.{ℕ, ℤ, pos, Bool, false, List, [], Option, Some, None, slice_get, cond, ◌==◌}
 use Rattle.vast_literal.specs.Tree.{ScalarTree}
 use Rattle.vast_core.specs.declared.handle.VastDataType.{VastDataType}
@@ -11,7 +11,7 @@ abbrev pub is_one : ℤ → Bool
 is_one (pos n) = n == 1
 is_one _ = false
 
--- one bit is a scalar, more are a vector behind the literal of its width
+-- one bit is a scalar, more are a vector after the literal of its width
 abbrev pub next_bit_vector : ℤ → Bench → VastDataType
 next_bit_vector bits b = cond (is_one bits) (next_type b) (next_vector bits b)
 

@@ -4,7 +4,7 @@ use Rattle.vast_literal.specs.declared.error.VastFault.{VastFault}
 use Rattle.vast_literal.specs.Fault.{RefusedBy, OnlyRefusedBy}
 use Rattle.vast_core.specs.Bench.{Bench}
 
--- The rule allows the call, which answers this and leaves this, all of what the file held; or it is refused, exactly as
+-- The rule allows the call, which returns this and leaves this, all of what the file held; or it is refused, exactly as
 -- the rule says; or memory was refused. After a refusal nothing changed.
 abbrev pub MayBuild : {A B : Type 0} → (old new : Bench) → Result A VastFault → (Bench → Result B (List ℕ)) → (Bench → A) → (B → Bench → Bench) → Type 0
 MayBuild old new (Ok x) rule answer after =
@@ -15,7 +15,7 @@ MayBuild old new (Err fault) rule answer after = RefusedBy (rule old) fault × (
 abbrev pub no_refusal : Bench → Result (Unit {0}) (List ℕ)
 no_refusal _ = Ok tt
 
--- A call that changes nothing answers what the rule answers; or its refusal, for whose words alone memory was wanted.
+-- A call that changes nothing returns what the rule returns; or its refusal, for whose words alone memory is taken.
 abbrev pub AnswersBy : {A : Type 0} → Result A (List ℕ) → Result A VastFault → Type 0
 AnswersBy rule (Ok x) = rule ≡ Ok x
 AnswersBy rule (Err fault) = OnlyRefusedBy rule fault

@@ -90,7 +90,7 @@ block_of (s ∷ ss) = MoreStatements s (block_of ss)
 abbrev pub active_tree : ResetTree → ExprTree
 active_tree reset = if reset.active_low then UnaryTree LogicalNotOp reset.signal else reset.signal
 
--- What stands behind the assignments of the registers without reset values: `if (signal) .. else ..`, where a register has
+-- What stands after the assignments of the registers without reset values: `if (signal) .. else ..`, where a register has
 -- one.
 abbrev pub by_reset : Option ResetTree → List RegisterTree → List StatementTree
 by_reset None registers = []
@@ -199,21 +199,21 @@ abbrev pub OwnsScope : Bench → RegisterScope → Type 0
 OwnsScope b (ModuleScope owner) = OwnsModule b owner
 OwnsScope b (LoopScope owner) = OwnsLoop b owner
 
--- The file has these expressions, assignments and containers more, which no list names, and perhaps another spare block. All
+-- The file has these expressions, assignments and containers more, which no list names, and perhaps another detached block. All
 -- else is as it was.
 abbrev pub with_unused : List Root → List Assignment → List NestRecord → Option VastStatementBlock → Bench → Bench
-with_unused roots assignments containers spare b =
+with_unused roots assignments containers detached b =
     record b {
       nodes = record { id = b.nodes.id; roots = b.nodes.roots ++ roots };
       assignments = b.assignments ++ assignments;
       nests = b.nests ++ containers;
-      spare = spare;
+      detached = detached;
     }
 
--- The file has nodes and containers more that no list names, and perhaps another spare block.
+-- The file has nodes and containers more that no list names, and perhaps another detached block.
 pub record HasUnused (old new : Bench) : Type 0 where
   pub roots : List Root
   pub assignments : List Assignment
   pub containers : List NestRecord
-  pub spare : Option VastStatementBlock
-  pub after : new ≡ with_unused roots assignments containers spare old
+  pub detached : Option VastStatementBlock
+  pub after : new ≡ with_unused roots assignments containers detached old

@@ -1,4 +1,4 @@
--- The widths and bit counts that calls answer: a number, or the words of a refusal.
+-- The widths and bit counts that calls return: a number, or the words of a refusal.
 use Rattle.std.specs.Prelude.{ℕ, ℤ, pos, ◌^◌, int_lt, List, [], ◌++◌, codes, Option, Some, None, Result, Ok, Err, if◌then◌else◌}
 use Rattle.std.specs.Option.{ok_or}
 use Rattle.vast_literal.specs.Tree.{TypeTree, VectorTree, ExternalTree, PackageTree}

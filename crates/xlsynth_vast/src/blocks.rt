@@ -11,7 +11,9 @@ ghost use Rattle.xlsynth_vast.specs.Keeps.{Keeps};
 
 use crate::file::VastFile;
 use std::alloc::AllocError;
-use vast_core::{AssignmentForm, Expr, Spot, Statement, VastStatement, VastStatementBlock};
+use vast_core::{
+    AssignmentForm, Expr, InsertionPoint, Statement, VastStatement, VastStatementBlock,
+};
 use vast_names::Text;
 
 impl VastFile {
@@ -34,9 +36,9 @@ impl VastFile {
             b)) }
         ensures kept { Keeps self.old self.new }
     {
-        let spot = Spot::Block(block);
+        let point = InsertionPoint::Block(block);
         self.ast
-            .append_assignment(spot, AssignmentForm::Blocking, *lhs, *rhs)
+            .append_assignment(point, AssignmentForm::Blocking, *lhs, *rhs)
     }
 
     /// The assignment `lhs <= rhs`, as the block's last statement.
@@ -57,9 +59,9 @@ impl VastFile {
             (with_assignment (record { lhs = lhs.now; rhs = rhs.now; nonblocking = true }) b)) }
         ensures kept { Keeps self.old self.new }
     {
-        let spot = Spot::Block(block);
+        let point = InsertionPoint::Block(block);
         self.ast
-            .append_assignment(spot, AssignmentForm::Nonblocking, *lhs, *rhs)
+            .append_assignment(point, AssignmentForm::Nonblocking, *lhs, *rhs)
     }
 
     /// The assignment `assign lhs = rhs`, as the block's last statement.
@@ -81,9 +83,9 @@ impl VastFile {
             b)) }
         ensures kept { Keeps self.old self.new }
     {
-        let spot = Spot::Block(block);
+        let point = InsertionPoint::Block(block);
         self.ast
-            .append_assignment(spot, AssignmentForm::Continuous, *lhs, *rhs)
+            .append_assignment(point, AssignmentForm::Continuous, *lhs, *rhs)
     }
 
     /// A comment, as the block's last statement; each line of the text becomes a line of its own.

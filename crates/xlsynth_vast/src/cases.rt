@@ -74,7 +74,7 @@ impl VastFile {
             .append_block_case(block, CaseKind::CaseX, *selector)
     }
 
-    /// An arm with this label and an empty block, as the case statement's last; answers the block.
+    /// An arm with this label and an empty block, as the case statement's last; returns the block.
     ///
     /// # Errors
     /// `AllocError` where a growth was refused; the file is unchanged.
@@ -92,7 +92,7 @@ impl VastFile {
         self.ast.case_add_arm(case, Some(*pattern))
     }
 
-    /// A `default` arm with an empty block, as the case statement's last; answers the block. There may be more than
+    /// A `default` arm with an empty block, as the case statement's last; returns the block. There may be more than
     /// one.
     ///
     /// # Errors

@@ -11,7 +11,7 @@ ghost use Rattle.xlsynth_vast.specs.Inspections.{then_block_at};
 
 use crate::file::VastFile;
 use std::alloc::AllocError;
-use vast_core::{Conditional, Expr, Scope, Spot, VastModule, VastStatementBlock};
+use vast_core::{Conditional, Expr, InsertionPoint, Scope, VastModule, VastStatementBlock};
 
 impl VastFile {
     /// A conditional with an empty block, as the module's last member.
@@ -31,7 +31,7 @@ impl VastFile {
         ensures kept { Keeps self.old self.new }
     {
         self.ast
-            .push_conditional(Spot::Scope(Scope::Module(owner)), *condition)
+            .push_conditional(InsertionPoint::Scope(Scope::Module(owner)), *condition)
     }
 
     /// A conditional with an empty block, as the block's last statement.
@@ -50,7 +50,8 @@ impl VastFile {
             (with_conditional condition.now b)) }
         ensures kept { Keeps self.old self.new }
     {
-        self.ast.push_conditional(Spot::Block(block), *condition)
+        self.ast
+            .push_conditional(InsertionPoint::Block(block), *condition)
     }
 
     /// The block of the conditional's first arm, which is the file's.
@@ -71,7 +72,7 @@ impl VastFile {
         self.ast.conditional_has_else(conditional)
     }
 
-    /// An arm `else if` with an empty block, as the conditional's last; answers the block. The conditional has no
+    /// An arm `else if` with an empty block, as the conditional's last; returns the block. The conditional has no
     /// `else` yet; [`VastFile::conditional_has_else`] is the test.
     ///
     /// # Errors
@@ -92,7 +93,7 @@ impl VastFile {
         self.ast.conditional_add_else_if(conditional, *condition)
     }
 
-    /// The conditional's `else` with an empty block; answers the block. The conditional has none yet;
+    /// The conditional's `else` with an empty block; returns the block. The conditional has none yet;
     /// [`VastFile::conditional_has_else`] is the test.
     ///
     /// # Errors

@@ -79,7 +79,7 @@ impl VastFile {
         Err(VastFault::Refused(VastError(text)))
     }
 
-    /// A wire, as the module's last member; answers its name as an expression. That the name is free is the caller's
+    /// A wire, as the module's last member; returns its name as an expression. That the name is free is the caller's
     /// to know; [`VastFile::name_is_free`] is the test.
     ///
     /// # Errors
@@ -101,7 +101,7 @@ impl VastFile {
             .push_declaration(owner, DataKind::Wire, name, *data_type)
     }
 
-    /// A reg, as the module's last member; answers its name as an expression.
+    /// A reg, as the module's last member; returns its name as an expression.
     ///
     /// # Errors
     /// `Refused` where the module has the name already: `FAILED_PRECONDITION: Attempted to declare reg with name
@@ -127,7 +127,7 @@ impl VastFile {
         )
     }
 
-    /// A logic, as the module's last member; answers its name as an expression.
+    /// A logic, as the module's last member; returns its name as an expression.
     ///
     /// # Errors
     /// As [`VastFile::add_reg`], with `logic` in the place of `reg`.

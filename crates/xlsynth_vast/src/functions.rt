@@ -117,7 +117,7 @@ impl VastFile {
         Err(VastFault::Refused(VastError(text)))
     }
 
-    /// An input of this type with the kind word `reg`, as the function's last; answers its name as an expression.
+    /// An input of this type with the kind word `reg`, as the function's last; returns its name as an expression.
     ///
     /// # Errors
     /// `Refused` where the function's result, an input or a local has the name already: `FAILED_PRECONDITION: Attempted
@@ -144,7 +144,7 @@ impl VastFile {
         )
     }
 
-    /// An input of this type with the kind word `logic`, as the function's last; answers its name as an expression.
+    /// An input of this type with the kind word `logic`, as the function's last; returns its name as an expression.
     ///
     /// # Errors
     /// As [`VastFile::function_add_input`].
@@ -169,7 +169,7 @@ impl VastFile {
         )
     }
 
-    /// A reg, as the function's last local; answers its name as an expression.
+    /// A reg, as the function's last local; returns its name as an expression.
     ///
     /// # Errors
     /// As [`VastFile::function_add_input`], with `reg` in the place of `input`.
@@ -194,7 +194,7 @@ impl VastFile {
         )
     }
 
-    /// A logic, as the function's last local; answers its name as an expression.
+    /// A logic, as the function's last local; returns its name as an expression.
     ///
     /// # Errors
     /// As [`VastFile::function_add_input`], with `logic` in the place of `input`.

@@ -19,8 +19,8 @@ use crate::file::VastFile;
 use std::alloc::{AllocError, Global};
 use vast_core::{
     AssignmentForm, Comment, Conditional, Def, Expr, GenerateLoop, InlineVerilogStatement,
-    Instantiation, LocalparamRef, LogicRef, MacroStatement, Member, ParameterForm, Scope, Spot,
-    VastModule, VastStatement,
+    InsertionPoint, Instantiation, LocalparamRef, LogicRef, MacroStatement, Member, ParameterForm,
+    Scope, VastModule, VastStatement,
 };
 use vast_names::Word;
 
@@ -96,7 +96,7 @@ impl VastFile {
         self.ast.generate_loop(generate).genvar
     }
 
-    /// `localparam NAME = VALUE`, as the loop's last member; answers its name.
+    /// `localparam NAME = VALUE`, as the loop's last member; returns its name.
     ///
     /// # Errors
     /// `AllocError` where a growth was refused; the file is unchanged.
@@ -116,7 +116,7 @@ impl VastFile {
         self.ast.push_localparam(Scope::Loop(generate), form, *rhs)
     }
 
-    /// A local parameter with the definition's kind, type and name, as the loop's last member; answers its name.
+    /// A local parameter with the definition's kind, type and name, as the loop's last member; returns its name.
     ///
     /// # Errors
     /// `AllocError` where a growth was refused; the file is unchanged.
@@ -156,9 +156,9 @@ impl VastFile {
             b)) }
         ensures kept { Keeps self.old self.new }
     {
-        let spot = Spot::Scope(Scope::Loop(generate));
+        let point = InsertionPoint::Scope(Scope::Loop(generate));
         self.ast
-            .append_assignment(spot, AssignmentForm::Continuous, *lhs, *rhs)
+            .append_assignment(point, AssignmentForm::Continuous, *lhs, *rhs)
     }
 
     /// A conditional with an empty block, as the loop's last member.
@@ -178,7 +178,7 @@ impl VastFile {
         ensures kept { Keeps self.old self.new }
     {
         self.ast
-            .push_conditional(Spot::Scope(Scope::Loop(generate)), *condition)
+            .push_conditional(InsertionPoint::Scope(Scope::Loop(generate)), *condition)
     }
 
     /// A blank line, as the loop's last member.

@@ -1,6 +1,6 @@
 //! Verilog and SystemVerilog syntax trees and their emitter.
 //!
-//! A [`VastFile`] owns every node of one file, and answers small copyable handles. [`VastFile::emit`] prints the
+//! A [`VastFile`] owns every node of one file, and returns small copyable handles. [`VastFile::emit`] prints the
 //! file; the text is the written layout of the tree that the calls built, byte for byte.
 #![tactic(auto)]
 

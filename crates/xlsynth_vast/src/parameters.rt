@@ -20,7 +20,7 @@ use vast_core::{
 use vast_names::Word;
 
 impl VastFile {
-    /// A parameter without a type, as the last of the module's header; answers its name as an expression.
+    /// A parameter without a type, as the last of the module's header; returns its name as an expression.
     ///
     /// # Errors
     /// `AllocError` where a growth was refused; the file is unchanged.
@@ -39,7 +39,7 @@ impl VastFile {
         self.ast.push_parameter_port(owner, name, None, *value)
     }
 
-    /// A parameter of this type, as the last of the module's header; answers its name as an expression.
+    /// A parameter of this type, as the last of the module's header; returns its name as an expression.
     ///
     /// # Errors
     /// `AllocError` where a growth was refused; the file is unchanged.
@@ -61,7 +61,7 @@ impl VastFile {
             .push_parameter_port(owner, name, Some(*data_type), *value)
     }
 
-    /// `parameter NAME = VALUE`, as the module's last member; answers its name.
+    /// `parameter NAME = VALUE`, as the module's last member; returns its name.
     ///
     /// # Errors
     /// `AllocError` where a growth was refused; the file is unchanged.
@@ -81,7 +81,7 @@ impl VastFile {
         self.ast.push_parameter(owner, form, *rhs)
     }
 
-    /// A parameter with the definition's kind, type and name, as the module's last member; answers its name.
+    /// A parameter with the definition's kind, type and name, as the module's last member; returns its name.
     ///
     /// # Errors
     /// `AllocError` where a growth was refused; the file is unchanged.
@@ -102,7 +102,7 @@ impl VastFile {
         self.ast.push_parameter(owner, defined, *rhs)
     }
 
-    /// `localparam NAME = VALUE`, as the module's last member; answers its name.
+    /// `localparam NAME = VALUE`, as the module's last member; returns its name.
     ///
     /// # Errors
     /// `AllocError` where a growth was refused; the file is unchanged.
@@ -122,7 +122,7 @@ impl VastFile {
         self.ast.push_localparam(Scope::Module(owner), form, *rhs)
     }
 
-    /// `localparam int NAME = VALUE`, as the module's last member; answers its name.
+    /// `localparam int NAME = VALUE`, as the module's last member; returns its name.
     ///
     /// # Errors
     /// `AllocError` where a growth was refused; the file is unchanged.
@@ -143,7 +143,7 @@ impl VastFile {
             .push_localparam(Scope::Module(owner), int_form, *rhs)
     }
 
-    /// A local parameter with the definition's kind, type and name, as the module's last member; answers its name.
+    /// A local parameter with the definition's kind, type and name, as the module's last member; returns its name.
     ///
     /// # Errors
     /// `AllocError` where a growth was refused; the file is unchanged.

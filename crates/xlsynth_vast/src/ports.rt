@@ -48,7 +48,7 @@ impl VastFile {
             .push_port(owner, direction, DataKind::Logic, name, data_type)
     }
 
-    /// An input, as the module's last port; answers its name as an expression.
+    /// An input, as the module's last port; returns its name as an expression.
     ///
     /// # Errors
     /// `AllocError` where a growth was refused; the file is unchanged.
@@ -68,7 +68,7 @@ impl VastFile {
         self.wire_port(owner, ModulePortDirection::Input, name, *data_type)
     }
 
-    /// An output, as the module's last port; answers its name as an expression.
+    /// An output, as the module's last port; returns its name as an expression.
     ///
     /// # Errors
     /// `AllocError` where a growth was refused; the file is unchanged.
@@ -88,7 +88,7 @@ impl VastFile {
         self.wire_port(owner, ModulePortDirection::Output, name, *data_type)
     }
 
-    /// A port of both directions, as the module's last port; answers its name as an expression.
+    /// A port of both directions, as the module's last port; returns its name as an expression.
     ///
     /// # Errors
     /// `AllocError` where a growth was refused; the file is unchanged.
@@ -108,7 +108,7 @@ impl VastFile {
         self.wire_port(owner, ModulePortDirection::InOut, name, *data_type)
     }
 
-    /// An input that is declared with the word `logic`, as the module's last port; answers its name as an expression.
+    /// An input that is declared with the word `logic`, as the module's last port; returns its name as an expression.
     ///
     /// # Errors
     /// `AllocError` where a growth was refused; the file is unchanged.
@@ -128,7 +128,7 @@ impl VastFile {
         self.logic_port(owner, ModulePortDirection::Input, name, *data_type)
     }
 
-    /// An output that is declared with the word `logic`, as the module's last port; answers its name as an expression.
+    /// An output that is declared with the word `logic`, as the module's last port; returns its name as an expression.
     ///
     /// # Errors
     /// `AllocError` where a growth was refused; the file is unchanged.

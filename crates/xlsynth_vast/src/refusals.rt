@@ -13,7 +13,7 @@ use vast_core::{Ast, Expr, TypeNode, VastDataType};
 use vast_literal::{VastError, VastFault};
 use vast_print::print_expr;
 
-/// The refusal of this text, or want of memory where the text could not be made.
+/// The refusal of this text, or out of memory where the text could not be made.
 pub(crate) fn refusal(text: Result<String, AllocError>) -> VastFault
     ensures { MatchResult text (λ t. HasText result (string_bytes t))
         (λ error. result ≡ VastFault.Memory error) }

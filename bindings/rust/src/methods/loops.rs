@@ -111,7 +111,7 @@ impl VastFile {
         ))
     }
 
-    /// `localparam NAME = VALUE`, as the loop's last member; answers its name.
+    /// `localparam NAME = VALUE`, as the loop's last member; returns its name.
     pub fn generate_add_localparam(
         &mut self,
         generate: GenerateLoop,
@@ -125,7 +125,7 @@ impl VastFile {
         }))
     }
 
-    /// A local parameter with the definition's kind, type and name, as the loop's last member; answers its
+    /// A local parameter with the definition's kind, type and name, as the loop's last member; returns its
     /// name.
     pub fn generate_add_typed_localparam(
         &mut self,

@@ -31,7 +31,7 @@ impl VastFile {
         VastModule(self.made("AddModule", "", |line| line.text(name)))
     }
 
-    /// An input, as the module's last port; answers its name as an expression.
+    /// An input, as the module's last port; returns its name as an expression.
     ///
     /// # Panics
     /// With `module ports must have unique names`, where that is not so.
@@ -56,7 +56,7 @@ impl VastFile {
         LogicRef(made)
     }
 
-    /// An output, as the module's last port; answers its name as an expression.
+    /// An output, as the module's last port; returns its name as an expression.
     ///
     /// # Panics
     /// With `module ports must have unique names`, where that is not so.
@@ -81,7 +81,7 @@ impl VastFile {
         LogicRef(made)
     }
 
-    /// A port of both directions, as the module's last port; answers its name as an expression.
+    /// A port of both directions, as the module's last port; returns its name as an expression.
     ///
     /// # Panics
     /// With `module ports must have unique names`, where that is not so.
@@ -106,7 +106,7 @@ impl VastFile {
         LogicRef(made)
     }
 
-    /// An input that is declared with the word `logic`, as the module's last port; answers its name as an
+    /// An input that is declared with the word `logic`, as the module's last port; returns its name as an
     /// expression.
     ///
     /// # Panics
@@ -134,7 +134,7 @@ impl VastFile {
         LogicRef(made)
     }
 
-    /// An output that is declared with the word `logic`, as the module's last port; answers its name as an
+    /// An output that is declared with the word `logic`, as the module's last port; returns its name as an
     /// expression.
     ///
     /// # Panics
@@ -162,7 +162,7 @@ impl VastFile {
         LogicRef(made)
     }
 
-    /// A wire, as the module's last member; answers its name as an expression. That the name is free is the
+    /// A wire, as the module's last member; returns its name as an expression. That the name is free is the
     /// caller's to know; [`VastFile::name_is_free`] is the test.
     ///
     /// # Panics
@@ -182,7 +182,7 @@ impl VastFile {
         )
     }
 
-    /// A reg, as the module's last member; answers its name as an expression.
+    /// A reg, as the module's last member; returns its name as an expression.
     ///
     /// # Errors
     /// Where the library refuses the call, in its words.
@@ -199,7 +199,7 @@ impl VastFile {
         })?))
     }
 
-    /// A logic, as the module's last member; answers its name as an expression.
+    /// A logic, as the module's last member; returns its name as an expression.
     ///
     /// # Errors
     /// Where the library refuses the call, in its words.
@@ -216,7 +216,7 @@ impl VastFile {
         })?))
     }
 
-    /// A parameter without a type, as the last of the module's header; answers its name as an expression.
+    /// A parameter without a type, as the last of the module's header; returns its name as an expression.
     pub fn add_parameter_port(&mut self, owner: VastModule, name: &str, value: &Expr) -> LogicRef {
         let owner_step = self.own(owner.0);
         let value_step = self.own(value.0);
@@ -225,7 +225,7 @@ impl VastFile {
         }))
     }
 
-    /// A parameter of this type, as the last of the module's header; answers its name as an expression.
+    /// A parameter of this type, as the last of the module's header; returns its name as an expression.
     pub fn add_typed_parameter_port(
         &mut self,
         owner: VastModule,
@@ -244,7 +244,7 @@ impl VastFile {
         }))
     }
 
-    /// `parameter NAME = VALUE`, as the module's last member; answers its name.
+    /// `parameter NAME = VALUE`, as the module's last member; returns its name.
     pub fn add_parameter(&mut self, owner: VastModule, name: &str, rhs: &Expr) -> ParameterRef {
         let owner_step = self.own(owner.0);
         let rhs_step = self.own(rhs.0);
@@ -253,7 +253,7 @@ impl VastFile {
         }))
     }
 
-    /// A parameter with the definition's kind, type and name, as the module's last member; answers its name.
+    /// A parameter with the definition's kind, type and name, as the module's last member; returns its name.
     pub fn add_parameter_with_def(
         &mut self,
         owner: VastModule,
@@ -268,7 +268,7 @@ impl VastFile {
         }))
     }
 
-    /// `localparam NAME = VALUE`, as the module's last member; answers its name.
+    /// `localparam NAME = VALUE`, as the module's last member; returns its name.
     pub fn add_localparam(&mut self, owner: VastModule, name: &str, rhs: &Expr) -> LocalparamRef {
         let owner_step = self.own(owner.0);
         let rhs_step = self.own(rhs.0);
@@ -277,7 +277,7 @@ impl VastFile {
         }))
     }
 
-    /// `localparam int NAME = VALUE`, as the module's last member; answers its name.
+    /// `localparam int NAME = VALUE`, as the module's last member; returns its name.
     pub fn add_int_localparam(
         &mut self,
         owner: VastModule,
@@ -291,7 +291,7 @@ impl VastFile {
         }))
     }
 
-    /// A local parameter with the definition's kind, type and name, as the module's last member; answers its
+    /// A local parameter with the definition's kind, type and name, as the module's last member; returns its
     /// name.
     pub fn add_typed_localparam(
         &mut self,

@@ -27,7 +27,7 @@ impl VastFile {
         })?))
     }
 
-    /// An input of this type with the kind word `reg`, as the function's last; answers its name as an
+    /// An input of this type with the kind word `reg`, as the function's last; returns its name as an
     /// expression.
     ///
     /// # Errors
@@ -45,7 +45,7 @@ impl VastFile {
         })?))
     }
 
-    /// An input of this type with the kind word `logic`, as the function's last; answers its name as an
+    /// An input of this type with the kind word `logic`, as the function's last; returns its name as an
     /// expression.
     ///
     /// # Errors
@@ -63,7 +63,7 @@ impl VastFile {
         })?))
     }
 
-    /// A reg, as the function's last local; answers its name as an expression.
+    /// A reg, as the function's last local; returns its name as an expression.
     ///
     /// # Errors
     /// Where the library refuses the call, in its words.
@@ -80,7 +80,7 @@ impl VastFile {
         })?))
     }
 
-    /// A logic, as the function's last local; answers its name as an expression.
+    /// A logic, as the function's last local; returns its name as an expression.
     ///
     /// # Errors
     /// Where the library refuses the call, in its words.
@@ -257,7 +257,7 @@ impl VastFile {
         VastStatementBlock(self.answered("ConditionalThenBlock", conditional.0))
     }
 
-    /// An arm `else if` with an empty block, as the conditional's last; answers the block. The conditional
+    /// An arm `else if` with an empty block, as the conditional's last; returns the block. The conditional
     /// has no `else` yet; [`VastFile::conditional_has_else`] is the test.
     ///
     /// # Panics
@@ -276,7 +276,7 @@ impl VastFile {
         ))
     }
 
-    /// The conditional's `else` with an empty block; answers the block. The conditional has none yet;
+    /// The conditional's `else` with an empty block; returns the block. The conditional has none yet;
     /// [`VastFile::conditional_has_else`] is the test.
     ///
     /// # Panics
@@ -317,7 +317,7 @@ impl VastFile {
         }))
     }
 
-    /// An arm with this label and an empty block, as the case statement's last; answers the block.
+    /// An arm with this label and an empty block, as the case statement's last; returns the block.
     pub fn case_add_item(&mut self, case: CaseStatement, pattern: &Expr) -> VastStatementBlock {
         let case_step = self.own(case.0);
         let pattern_step = self.own(pattern.0);
@@ -326,7 +326,7 @@ impl VastFile {
         }))
     }
 
-    /// A `default` arm with an empty block, as the case statement's last; answers the block. There may be
+    /// A `default` arm with an empty block, as the case statement's last; returns the block. There may be
     /// more than one.
     pub fn case_add_default(&mut self, case: CaseStatement) -> VastStatementBlock {
         let case_step = self.own(case.0);

@@ -4,7 +4,7 @@ use Rattle.vast_list.specs.Session.{IsSame}
 use Rattle.vast_list.specs.declared.session.Session.{Session}
 use Rattle.vast_c.specs.declared.kept.Cause.{Cause}
 use Rattle.vast_c.specs.declared.kept.Cause.TheVariants.{Refused, Condition, Form, Memory}
-use Rattle.vast_c.specs.declared.kept.Told.{Told}
+use Rattle.vast_c.specs.declared.kept.ToldFault.{ToldFault}
 use Rattle.vast_c.specs.Seen.{IsSameTree, cause_of}
 
 -- A line that gives nothing leaves the session as it was; where memory was refused, its tree and its answers.
@@ -19,6 +19,6 @@ LeftIfAny None before after = after ≡ before
 LeftIfAny (Some cause) before after = LeftBy before after cause
 
 -- A fault of this cause is told; where none is, memory was refused.
-abbrev pub IsToldOf : Cause → Option Told → Type 0
+abbrev pub IsToldOf : Cause → Option ToldFault → Type 0
 IsToldOf cause None = cause ≡ Memory
 IsToldOf cause (Some told) = cause_of told.fault.cause ≡ cause

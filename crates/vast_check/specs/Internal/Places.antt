@@ -9,7 +9,7 @@ is_break byte = eqb byte 10
 abbrev pub is_no_break : ℕ → Bool
 is_no_break byte = not (eqb byte 10)
 
--- what stands behind the last line break
+-- what stands after the last line break
 abbrev pub last_line : List ℕ → List ℕ
 last_line bytes = drop (length bytes - suffix_len is_no_break bytes) bytes
 

@@ -1,10 +1,10 @@
 -- The arenas of a file as contracts see them.
 use Rattle.std.specs.Prelude.{◌-◌, vec_capacity, vec_len}
-use Rattle.vast_core.specs.Raw.{Raw}
+use Rattle.vast_core.specs.ArenaState.{ArenaState}
 use Rattle.vast_core.specs.declared.ast.Ast.TheInside.{Inside}
 
 -- What an `Ast` holds, read off its arenas.
-abbrev pub arenas : Inside → Raw
+abbrev pub arenas : Inside → ArenaState
 arenas a =
     record {
       file_type = a.file_type;
@@ -21,7 +21,7 @@ arenas a =
       instances = a.instances.items;
       always_blocks = a.always_blocks.items;
       items = a.items.items;
-      spare = a.spare;
+      detached = a.detached;
       assignment_room = vec_capacity a.assignments - vec_len a.assignments;
       nest_room = vec_capacity a.nests - vec_len a.nests;
       function_room = vec_capacity a.functions - vec_len a.functions;

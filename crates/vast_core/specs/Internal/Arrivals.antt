@@ -4,17 +4,17 @@ use Rattle.std.specs.Borrow.{Bor}
 use Rattle.vast_core.specs.declared.ast.growth.Entry.{Entry}
 use Rattle.vast_core.specs.declared.ast.growth.Entry.TheVariants.{Statement as StatementOf, ElseIf as ElseIfOf, Else as ElseOf, CaseArm as CaseArmOf, Member as MemberOf}
 use Rattle.vast_core.specs.declared.ast.growth.Place.{Place}
-use Rattle.vast_core.specs.declared.ast.growth.Place.TheVariants.{Nowhere as NowhereOf, File as FileOf, Header as HeaderOf, Ports as PortsOf, Module as ModuleOf, Function as FunctionOf, Nest as NestOf, Spare as SpareOf}
+use Rattle.vast_core.specs.declared.ast.growth.Place.TheVariants.{Nowhere as NowhereOf, File as FileOf, Header as HeaderOf, Ports as PortsOf, Module as ModuleOf, Function as FunctionOf, Nest as NestOf, Detached as DetachedOf}
 use Rattle.vast_core.specs.declared.node.ExprNode.{ExprNode}
 use Rattle.vast_core.specs.declared.ast.arrivals.Terms.{Terms}
 use Rattle.vast_core.specs.declared.ast.arrivals.Terms.TheVariants.{Nothing as NoTerms, One, Two, Three}
 use Rattle.vast_core.specs.declared.ast.arrivals.Node.{Node}
-use Rattle.vast_core.specs.declared.ast.arrivals.Node.TheVariants.{Nothing as NoNode, Assignment as AssignmentOf, Container as ContainerOf, Port as PortOf, Module as ModuleNode, Function as FunctionNode, Definition as DefinitionOf, Artifact as ArtifactOf, Instance as InstanceOf, Always as AlwaysOf, AlwaysOverSpare as OverSpareOf}
+use Rattle.vast_core.specs.declared.ast.arrivals.Node.TheVariants.{Nothing as NoNode, Assignment as AssignmentOf, Container as ContainerOf, Port as PortOf, Module as ModuleNode, Function as FunctionNode, Definition as DefinitionOf, Artifact as ArtifactOf, Instance as InstanceOf, Always as AlwaysOf, AlwaysOverDetached as OverDetachedOf}
 use Rattle.vast_core.specs.declared.ast.arrivals.Arrivals.{Arrivals}
 use Rattle.vast_core.specs.Records.{module_record, instance_record}
 use Rattle.vast_core.specs.Nests.{nest_record, function_record, always_record}
 use Rattle.vast_core.specs.Containers.{NestedEntry, StatementEnters, ElseIfEnters, ElseEnters, CaseArmEnters, MemberEnters}
-use Rattle.vast_core.specs.Internal.Containers.{Listing, Nowhere, InFile, InHeader, InPorts, InModule, InFunction, InNest, AsSpare, Fresh, no_fresh, fresh_assignment}
+use Rattle.vast_core.specs.Internal.Containers.{Listing, Nowhere, InFile, InHeader, InPorts, InModule, InFunction, InNest, AsDetached, Fresh, no_fresh, fresh_assignment}
 
 abbrev pub entry_of : Entry → NestedEntry
 entry_of (StatementOf s) = StatementEnters s
@@ -35,7 +35,7 @@ listing_of (PortsOf owner port name) = InPorts owner port name.now
 listing_of (ModuleOf owner member name) = InModule owner member (name_of name)
 listing_of (FunctionOf owner local v) = InFunction owner local v
 listing_of (NestOf place entry) = InNest place (entry_of entry)
-listing_of (SpareOf block) = AsSpare block
+listing_of (DetachedOf block) = AsDetached block
 
 -- The expressions and types that come.
 abbrev pub terms_of : Terms → List ExprNode
@@ -56,7 +56,7 @@ fresh_node (DefinitionOf d) = record no_fresh { definition = Some d }
 fresh_node (ArtifactOf a) = record no_fresh { artifact = Some a }
 fresh_node (InstanceOf i) = record no_fresh { instance = Some (instance_record i) }
 fresh_node (AlwaysOf a) = record no_fresh { always_block = Some (always_record a) }
-fresh_node (OverSpareOf a) = record no_fresh { always_block = Some (always_record a); takes_spare = true }
+fresh_node (OverDetachedOf a) = record no_fresh { always_block = Some (always_record a); takes_detached = true }
 
 abbrev pub fresh_of : Arrivals → Fresh
 fresh_of a = record (fresh_node a.node) { terms = terms_of a.terms; block = a.block }

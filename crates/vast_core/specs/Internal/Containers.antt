@@ -10,7 +10,7 @@ use Rattle.vast_core.specs.Nodes.{built}
 use Rattle.vast_core.specs.Internal.Nodes.{TermsSound}
 use Rattle.vast_core.specs.Records.{Port, ParameterPort, ModuleRecord, Member, FileItem, Definition, Artifact, InstanceRecord, with_listed_port, with_listed_parameter, with_listed_member, with_listed_name, changed_at}
 use Rattle.vast_core.specs.Nests.{NestRecord, BlockRecord, FunctionVariable, FunctionRecord, AlwaysRecord}
-use Rattle.vast_core.specs.Raw.{Raw}
+use Rattle.vast_core.specs.ArenaState.{ArenaState}
 use Rattle.vast_core.specs.Bench.{Bench, OwnsModule, OwnsPort, OwnsFunction, OwnsBlock, NameIsFree, IsFreeInFunction}
 use Rattle.vast_core.specs.Functions.{with_listed_variable}
 use Rattle.vast_core.specs.DeclaredNames.{NamesSound, names_by_port, names_by_member}
@@ -20,7 +20,7 @@ use Rattle.vast_core.specs.Sound.{PortSound, AssignmentSound, MemberSound, Param
 use Rattle.vast_core.specs.Containers.{NestedEntry, StatementEnters, ElseIfEnters, ElseEnters, CaseArmEnters, MemberEnters, with_entry}
 
 -- Where a new entry goes: nowhere, to the end of the file's items, of a module's header, ports or members, of a
--- function's inputs or locals, or into a container. A name is taken from then on. Or a block becomes the file's spare one.
+-- function's inputs or locals, or into a container. A name is taken from then on. Or a block becomes the file's detached one.
 pub data Listing : Type 0 where
   Nowhere : Listing
   InFile : FileItem → Listing
@@ -29,7 +29,7 @@ pub data Listing : Type 0 where
   InModule : VastModule → Member → (name : Option (List ℕ)) → Listing
   InFunction : VastFunction → (local : Bool) → FunctionVariable → Listing
   InNest : (place : ℕ) → NestedEntry → Listing
-  AsSpare : VastStatementBlock → Listing
+  AsDetached : VastStatementBlock → Listing
 
 abbrev pub with_listed : Member → Option (List ℕ) → ModuleRecord → ModuleRecord
 with_listed entry None m = with_listed_member entry m
@@ -53,9 +53,9 @@ abbrev pub listed_items : Listing → List FileItem → List FileItem
 listed_items (InFile entry) items = items ++ entry ∷ []
 listed_items _ items = items
 
-abbrev pub listed_spare : Listing → Option VastStatementBlock → Option VastStatementBlock
-listed_spare (AsSpare block) spare = Some block
-listed_spare _ spare = spare
+abbrev pub listed_detached : Listing → Option VastStatementBlock → Option VastStatementBlock
+listed_detached (AsDetached block) detached = Some block
+listed_detached _ detached = detached
 
 abbrev pub with_listing : Listing → Bench → Bench
 with_listing l b =
@@ -64,7 +64,7 @@ with_listing l b =
       functions = listed_functions l b.functions;
       nests = listed_nests l b.nests;
       items = listed_items l b.items;
-      spare = listed_spare l b.spare;
+      detached = listed_detached l b.detached;
     }
 
 -- The list with the element at its end, if there is one.
@@ -73,7 +73,7 @@ added xs None = xs
 added xs (Some x) = xs ++ x ∷ []
 
 -- What comes at once: expressions and types, the older first, at most one node of each other kind, and then perhaps an
--- empty block; and whether an always block takes the spare one.
+-- empty block; and whether an always block takes the detached one.
 pub record Fresh : Type 0 where
   pub terms : List ExprNode
   pub assignment : Option Assignment
@@ -86,15 +86,15 @@ pub record Fresh : Type 0 where
   pub artifact : Option Artifact
   pub instance : Option InstanceRecord
   pub always_block : Option AlwaysRecord
-  pub takes_spare : Bool
+  pub takes_detached : Bool
 
 abbrev pub with_empty_block : Bool → List NestRecord → List NestRecord
 with_empty_block false nests = nests
 with_empty_block true nests = nests ++ BlockRecord [] ∷ []
 
-abbrev pub spare_left : Bool → Option VastStatementBlock → Option VastStatementBlock
-spare_left false spare = spare
-spare_left true spare = None
+abbrev pub detached_left : Bool → Option VastStatementBlock → Option VastStatementBlock
+detached_left false detached = detached
+detached_left true detached = None
 
 abbrev pub with_fresh : Fresh → Bench → Bench
 with_fresh f b =
@@ -109,7 +109,7 @@ with_fresh f b =
       artifacts = added b.artifacts f.artifact;
       instances = added b.instances f.instance;
       always_blocks = added b.always_blocks f.always_block;
-      spare = spare_left f.takes_spare b.spare;
+      detached = detached_left f.takes_detached b.detached;
     }
 
 -- A module that comes declares nothing and holds nothing.
@@ -181,7 +181,7 @@ ListingSound b c (InPorts owner port name) = ListsPort b c owner port name
 ListingSound b c (InModule owner entry name) = ListsMember b c owner entry name
 ListingSound b c (InFunction f local v) = ListsVariable b c f local v
 ListingSound b c (InNest place entry) = (place < length b.nests) × EntersSound c place entry
-ListingSound b c (AsSpare block) = OwnsBlock c block
+ListingSound b c (AsDetached block) = OwnsBlock c block
 
 -- The parts that a new entry places, those that stand in new nodes, and those that are made.
 
@@ -195,7 +195,7 @@ held_by_entry (MemberEnters m) = held_by_member m
 abbrev pub held_by_listing : Listing → List Part
 held_by_listing (InModule owner entry name) = held_by_member entry
 held_by_listing (InNest place entry) = held_by_entry entry
-held_by_listing (AsSpare block) = held_by_block (Some block)
+held_by_listing (AsDetached block) = held_by_block (Some block)
 held_by_listing _ = []
 
 -- What is read off a node that may come.
@@ -215,16 +215,16 @@ made_containers n (Some x) true = ContainerPart n ∷ ContainerPart (suc n) ∷ 
 abbrev pub made : Bench → Fresh → List Part
 made b f = read_off (λ x. FunctionPart (length b.functions) ∷ []) f.function ++ (read_off (λ x. AlwaysPart (length b.always_blocks) ∷ []) f.always_block ++ made_containers (length b.nests) f.container f.block)
 
-abbrev pub spare_used : Bool → Option VastStatementBlock → List Part
-spare_used false spare = []
-spare_used true spare = held_by_block spare
+abbrev pub detached_used : Bool → Option VastStatementBlock → List Part
+detached_used false detached = []
+detached_used true detached = held_by_block detached
 
 -- What comes and the entry are the file's, and each container that comes stands in one place.
 pub record GrowthSound (b : Bench) (l : Listing) (f : Fresh) : Type 0 where
   pub fresh : FreshSound b (with_fresh f b) f
   pub listing : ListingSound b (with_fresh f b) l
-  -- What is made is placed, each once, and so is the spare block that is taken.
-  pub placed : held_by_listing l ++ held_by_fresh f ≡ made b f ++ spare_used f.takes_spare b.spare
+  -- What is made is placed, each once, and so is the detached block that is taken.
+  pub placed : held_by_listing l ++ held_by_fresh f ≡ made b f ++ detached_used f.takes_detached b.detached
 
 -- An entry of a list, together with what comes.
 abbrev pub after_growth : Listing → Fresh → Bench → Bench
@@ -240,7 +240,7 @@ block_count false = 0
 block_count true = 1
 
 -- There is room for the new nodes.
-pub record HasRoom (a : Raw) (f : Fresh) : Type 0 where
+pub record HasRoom (a : ArenaState) (f : Fresh) : Type 0 where
   pub terms : length f.terms ≤ a.term_room
   pub assignments : count_of f.assignment ≤ a.assignment_room
   pub nests : count_of f.container + block_count f.block ≤ a.nest_room
@@ -256,7 +256,7 @@ pub record HasRoom (a : Raw) (f : Fresh) : Type 0 where
 
 -- Nothing comes.
 abbrev pub no_fresh : Fresh
-no_fresh = record { terms = []; assignment = None; container = None; block = false; port = None; fresh_module = None; function = None; definition = None; artifact = None; instance = None; always_block = None; takes_spare = false }
+no_fresh = record { terms = []; assignment = None; container = None; block = false; port = None; fresh_module = None; function = None; definition = None; artifact = None; instance = None; always_block = None; takes_detached = false }
 
 abbrev pub fresh_assignment : Assignment → Fresh
 fresh_assignment a = record no_fresh { assignment = Some a }

@@ -108,8 +108,8 @@ impl Ast {
         self.push_always(scope, AlwaysKind::AlwaysComb, events)
     }
 
-    /// Adds an `always_ff` block as the scope's last member, with these events, over the file's spare block
-    /// ([`Ast::spare_block`]), which a loop must be older than. Each event is an edge or a name.
+    /// Adds an `always_ff` block as the scope's last member, with these events, over the file's detached block
+    /// ([`Ast::detached_block`]), which a loop must be older than. Each event is an edge or a name.
     ///
     /// # Errors
     /// `AllocError` where a growth was refused; nothing changed.
@@ -121,7 +121,7 @@ impl Ast {
     ) -> Result<VastAlwaysBase, AllocError>
         requires scope { OwnsScope (bench self.old) scope }
         requires events { All (EventSound (bench self.old)) events.items }
-        requires spare { (bench self.old).spare ≡ Some block }
+        requires detached { (bench self.old).detached ≡ Some block }
         requires older { IsOlder scope block }
         ensures { Grows self.old self.new result next_always
             (λ b. with_scope_member scope (AlwaysEntry (next_always b))
@@ -136,7 +136,7 @@ impl Ast {
             Member::Always(always_block),
             Arrivals {
                 terms: Terms::Nothing,
-                node: Node::AlwaysOverSpare(AlwaysBlock {
+                node: Node::AlwaysOverDetached(AlwaysBlock {
                     kind: AlwaysKind::AlwaysFF,
                     events,
                     block,

@@ -35,8 +35,8 @@ pub(crate) enum Node {
     Artifact(Artifact),
     Instance(Instance),
     Always(AlwaysBlock),
-    /// An always block over the file's spare block.
-    AlwaysOverSpare(AlwaysBlock),
+    /// An always block over the file's detached block.
+    AlwaysOverDetached(AlwaysBlock),
 }
 
 /// What comes at once; the empty block comes last.
@@ -76,13 +76,13 @@ impl Terms {
 }
 
 impl Node {
-    /// Whether it is over the spare block.
+    /// Whether it is over the detached block.
     #[inline(always)]
-    pub(crate) fn takes_spare(&self) -> bool
-        ensures { result ≡ (fresh_node self.now).takes_spare }
+    pub(crate) fn takes_detached(&self) -> bool
+        ensures { result ≡ (fresh_node self.now).takes_detached }
     {
         match self {
-            Node::AlwaysOverSpare(_) => true,
+            Node::AlwaysOverDetached(_) => true,
             _ => false,
         }
     }
@@ -182,7 +182,7 @@ pub(crate) fn settle_node(
         Node::Definition(definition) => definitions.push(definition).unwrap(),
         Node::Artifact(artifact) => artifacts.push(artifact).unwrap(),
         Node::Instance(instance) => instances.push(instance).unwrap(),
-        Node::Always(always_block) | Node::AlwaysOverSpare(always_block) => {
+        Node::Always(always_block) | Node::AlwaysOverDetached(always_block) => {
             always_blocks.push(always_block).unwrap();
         }
     }
@@ -220,7 +220,7 @@ impl Ast {
             Node::Definition(_) => self.definitions.reserve(1),
             Node::Artifact(_) => self.artifacts.reserve(1),
             Node::Instance(_) => self.instances.reserve(1),
-            Node::Always(_) | Node::AlwaysOverSpare(_) => self.always_blocks.reserve(1),
+            Node::Always(_) | Node::AlwaysOverDetached(_) => self.always_blocks.reserve(1),
         }
     }
 }

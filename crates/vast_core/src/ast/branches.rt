@@ -40,7 +40,7 @@ impl Ast {
         target.set_unique(unique);
     }
 
-    /// A conditional whose first arm is the block behind the next container.
+    /// A conditional whose first arm is the block after the next container.
     pub(crate) fn new_conditional(&self, condition: Expr) -> Nest
         ensures { nest_record result ≡ new_conditional (bench self.now) condition }
     {
@@ -106,7 +106,7 @@ impl Ast {
         )
     }
 
-    /// Adds an arm `else if` to the conditional, and answers its block, which is empty. The conditional has no `else`
+    /// Adds an arm `else if` to the conditional, and returns its block, which is empty. The conditional has no `else`
     /// yet ([`Ast::conditional_has_else`]).
     ///
     /// # Errors
@@ -130,7 +130,7 @@ impl Ast {
         Ok(block)
     }
 
-    /// Adds the `else` to the conditional, and answers its block, which is empty. The conditional has none yet
+    /// Adds the `else` to the conditional, and returns its block, which is empty. The conditional has none yet
     /// ([`Ast::conditional_has_else`]).
     ///
     /// # Errors
@@ -152,7 +152,7 @@ impl Ast {
         Ok(block)
     }
 
-    /// Adds an arm to the case statement, a default where it has no label, and answers its block, which is empty.
+    /// Adds an arm to the case statement, a default where it has no label, and returns its block, which is empty.
     ///
     /// # Errors
     /// `AllocError` where a growth was refused; nothing changed.

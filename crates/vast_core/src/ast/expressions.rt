@@ -26,7 +26,7 @@ impl Ast {
         IndexableExpr { id: e.id }
     }
 
-    /// Adds an expression. Its children are the file's, and it fits: a literal's text is one literal token, perhaps behind a
+    /// Adds an expression. Its children are the file's, and it fits: a literal's text is one literal token, perhaps after a
     /// minus, a string's one string token, the width of a part select is at least 1, and no cast is to an array.
     ///
     /// # Errors

@@ -5,14 +5,14 @@ ghost use Rattle.vast_core.specs.Records.{module_record, changed_at, with_listed
 ghost use Rattle.vast_core.specs.Nests.{nest_record, function_record};
 ghost use Rattle.vast_core.specs.Functions.{with_listed_variable};
 ghost use Rattle.vast_core.specs.Containers.{StatementEnters, ElseIfEnters, ElseEnters, CaseArmEnters, MemberEnters, with_entry};
-ghost use Rattle.vast_core.specs.Internal.Containers.{with_listed, listed_modules, listed_nests, listed_functions, listed_items, listed_spare, GrowthSound, HasRoom, after_growth};
+ghost use Rattle.vast_core.specs.Internal.Containers.{with_listed, listed_modules, listed_nests, listed_functions, listed_items, listed_detached, GrowthSound, HasRoom, after_growth};
 ghost use Rattle.vast_core.specs.Internal.Arrivals.{entry_of, name_of, listing_of, fresh_of, ListingThere};
 ghost use Rattle.vast_core.specs.Growth.{GrowsBy};
 ghost use Rattle.vast_core.specs.View.{bench};
 
 use crate::ast::Ast;
 use crate::ast::arrivals::{Arrivals, settle_block, settle_node, settle_terms};
-use crate::ast::spare::spare_left;
+use crate::ast::detached::detached_left;
 use crate::handle::{ModulePort, VastFunction, VastModule, VastStatementBlock};
 use crate::node::{
     CaseArm, ElseIf, FileItem, Function, FunctionVariable, Member, Module, Nest, ParameterPort,
@@ -42,8 +42,8 @@ pub(crate) enum Place<'a> {
     Function(VastFunction, bool, FunctionVariable),
     /// Into the container of this index.
     Nest(usize, Entry),
-    /// The block is the file's spare one from then on.
-    Spare(VastStatementBlock),
+    /// The block is the file's detached one from then on.
+    Detached(VastStatementBlock),
 }
 
 impl Nest {
@@ -282,7 +282,7 @@ fn enter(
     nests: &mut Vec<Nest>,
     functions: &mut Vec<Function>,
     items: &mut Vec<FileItem>,
-    spare: &mut Option<VastStatementBlock>,
+    detached: &mut Option<VastStatementBlock>,
     place: Place<'_>,
 ) -> Result<(), AllocError>
     requires { ListingThere (length modules.old.items) (length nests.old.items)
@@ -299,7 +299,7 @@ fn enter(
     ensures items { OnOk result
         (items.new.items
         ≡ listed_items (listing_of place.entry) items.old.items) }
-    ensures spare { OnOk result (spare.new ≡ listed_spare (listing_of place.entry) spare.old) }
+    ensures detached { OnOk result (detached.new ≡ listed_detached (listing_of place.entry) detached.old) }
     ensures err_modules { OnErr result
         (map module_record modules.new.items ≡ map module_record modules.old.items) }
     ensures err_nests { OnErr result
@@ -307,7 +307,7 @@ fn enter(
     ensures err_functions { OnErr result
         (map function_record functions.new.items ≡ map function_record functions.old.items) }
     ensures err_items { OnErr result (items.new.items ≡ items.old.items) }
-    ensures err_spare { OnErr result (spare.new ≡ spare.old) }
+    ensures err_detached { OnErr result (detached.new ≡ detached.old) }
     ensures modules_room { vec_capacity modules.new - vec_len modules.new
         ≡ vec_capacity modules.old - vec_len modules.old }
     ensures nests_room { vec_capacity nests.new - vec_len nests.new
@@ -328,8 +328,8 @@ fn enter(
             enter_function(functions, owner, local, variable)
         }
         Place::Nest(index, entry) => enter_nest(nests, index, entry),
-        Place::Spare(block) => {
-            *spare = Some(block);
+        Place::Detached(block) => {
+            *detached = Some(block);
             Ok(())
         }
     }
@@ -344,20 +344,20 @@ impl Ast {
         ensures { GrowsBy self.old self.new result
             (after_growth (listing_of place.entry) (fresh_of arrivals)) }
     {
-        let mut spare = spare_left(arrivals.node.takes_spare(), self.spare);
+        let mut detached = detached_left(arrivals.node.takes_detached(), self.detached);
         let entered = enter(
             &mut self.modules,
             &mut self.nests,
             &mut self.functions,
             &mut self.items,
-            &mut spare,
+            &mut detached,
             place,
         );
         if let Err(error) = entered {
             drop(arrivals);
             return Err(error);
         }
-        self.spare = spare;
+        self.detached = detached;
         settle_terms(&mut self.terms, arrivals.terms);
         settle_node(
             &mut self.assignments,

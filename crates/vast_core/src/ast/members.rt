@@ -13,7 +13,7 @@ use vast_literal::DataKind;
 use vast_names::Word;
 
 impl Ast {
-    /// Adds a wire, reg or logic as the module's last member, and answers its name as an expression. The name is free
+    /// Adds a wire, reg or logic as the module's last member, and returns its name as an expression. The name is free
     /// ([`Module::name_is_free`]), and is taken from then on.
     ///
     /// # Errors

@@ -7,6 +7,7 @@ ghost use Rattle.vast_core.specs.View.{bench};
 use crate::ast::Ast;
 use crate::handle::Id;
 
+#[tactic(auto, using(crate::proofs::Lengths::lengths), unfolding(crate::specs::View::bench))]
 impl Ast {
     fn id_at(&self, index: usize) -> Id
         ensures { result ≡ next_id (bench self.now) index }
@@ -17,51 +18,33 @@ impl Ast {
         }
     }
 
-    #[tactic(auto, using(crate::proofs::Lengths::lengths), unfolding(crate::specs::View::bench))]
-    fn nest_count(&self) -> usize
-        ensures count { result ≡ length (bench self.now).nests }
-        ensures small { result < 2 ^ 63 }
-    {
-        self.nests.len()
-    }
-
-    fn term_count(&self) -> usize
-        ensures count { result ≡ length (bench self.now).nodes.roots }
-        ensures small { result < 2 ^ 63 }
-    {
-        self.terms.len()
-    }
-
     /// The id of the next container.
     pub(crate) fn next_nest(&self) -> Id
         ensures id { result ≡ next_id (bench self.now) (length (bench self.now).nests) }
         ensures small { length (bench self.now).nests < 2 ^ 63 }
     {
-        self.id_at(self.nest_count())
+        self.id_at(self.nests.len())
     }
 
-    /// The id of the container behind the next one.
+    /// The id of the container after the next one.
     pub(crate) fn second_nest(&self) -> Id
         ensures { result ≡ next_id (bench self.now) (suc (length (bench self.now).nests)) }
     {
-        self.id_at(self.nest_count() + 1)
+        self.id_at(self.nests.len() + 1)
     }
 
-    #[tactic(auto, using(crate::proofs::Lengths::lengths), unfolding(crate::specs::View::bench))]
     pub(crate) fn next_assignment(&self) -> Id
         ensures { result ≡ next_id (bench self.now) (length (bench self.now).assignments) }
     {
         self.id_at(self.assignments.len())
     }
 
-    #[tactic(auto, using(crate::proofs::Lengths::lengths), unfolding(crate::specs::View::bench))]
     pub(crate) fn next_function(&self) -> Id
         ensures { result ≡ next_id (bench self.now) (length (bench self.now).functions) }
     {
         self.id_at(self.functions.len())
     }
 
-    #[tactic(auto, using(crate::proofs::Lengths::lengths), unfolding(crate::specs::View::bench))]
     pub(crate) fn next_always_block(&self) -> Id
         ensures { result ≡ next_id (bench self.now) (length (bench self.now).always_blocks) }
     {
@@ -71,52 +54,47 @@ impl Ast {
     pub(crate) fn next_term(&self) -> Id
         ensures { result ≡ next_id (bench self.now) (length (bench self.now).nodes.roots) }
     {
-        self.id_at(self.term_count())
+        self.id_at(self.terms.len())
     }
 
-    /// The id of the expression or type behind the next one.
+    /// The id of the expression or type after the next one.
     pub(crate) fn second_term(&self) -> Id
         ensures { result ≡ next_id (bench self.now) (length (bench self.now).nodes.roots + 1) }
     {
-        self.id_at(self.term_count() + 1)
+        self.id_at(self.terms.len() + 1)
     }
 
-    /// The id of the one behind these two.
+    /// The id of the one after these two.
     pub(crate) fn third_term(&self) -> Id
         ensures { result ≡ next_id (bench self.now) (length (bench self.now).nodes.roots + 2) }
     {
-        self.id_at(self.term_count() + 2)
+        self.id_at(self.terms.len() + 2)
     }
 
-    #[tactic(auto, using(crate::proofs::Lengths::lengths), unfolding(crate::specs::View::bench))]
     pub(crate) fn next_port(&self) -> Id
         ensures { result ≡ next_id (bench self.now) (length (bench self.now).ports) }
     {
         self.id_at(self.ports.len())
     }
 
-    #[tactic(auto, using(crate::proofs::Lengths::lengths), unfolding(crate::specs::View::bench))]
     pub(crate) fn next_module(&self) -> Id
         ensures { result ≡ next_id (bench self.now) (length (bench self.now).modules) }
     {
         self.id_at(self.modules.len())
     }
 
-    #[tactic(auto, using(crate::proofs::Lengths::lengths), unfolding(crate::specs::View::bench))]
     pub(crate) fn next_definition(&self) -> Id
         ensures { result ≡ next_id (bench self.now) (length (bench self.now).definitions) }
     {
         self.id_at(self.definitions.len())
     }
 
-    #[tactic(auto, using(crate::proofs::Lengths::lengths), unfolding(crate::specs::View::bench))]
     pub(crate) fn next_artifact(&self) -> Id
         ensures { result ≡ next_id (bench self.now) (length (bench self.now).artifacts) }
     {
         self.id_at(self.artifacts.len())
     }
 
-    #[tactic(auto, using(crate::proofs::Lengths::lengths), unfolding(crate::specs::View::bench))]
     pub(crate) fn next_instance(&self) -> Id
         ensures { result ≡ next_id (bench self.now) (length (bench self.now).instances) }
     {

@@ -30,7 +30,7 @@ impl Handle for LogicRef {
     ghost owned = { OwnsLogicRef };
 
     fn belongs_to(&self, ast: &Ast) -> bool {
-        ast.gave(self.id) && ast.is_name_at(self.id.index)
+        ast.made_id(self.id) && ast.is_name_at(self.id.index)
     }
 }
 
@@ -40,7 +40,7 @@ impl Handle for ParameterRef {
     ghost owned = { OwnsParameterRef };
 
     fn belongs_to(&self, ast: &Ast) -> bool {
-        ast.gave(self.id) && ast.is_name_at(self.id.index)
+        ast.made_id(self.id) && ast.is_name_at(self.id.index)
     }
 }
 
@@ -50,7 +50,7 @@ impl Handle for LocalparamRef {
     ghost owned = { OwnsLocalparamRef };
 
     fn belongs_to(&self, ast: &Ast) -> bool {
-        ast.gave(self.id) && ast.is_name_at(self.id.index)
+        ast.made_id(self.id) && ast.is_name_at(self.id.index)
     }
 }
 
@@ -60,7 +60,7 @@ impl Handle for Index {
     ghost owned = { OwnsIndex };
 
     fn belongs_to(&self, ast: &Ast) -> bool {
-        ast.gave(self.id) && ast.is_index_at(self.id.index)
+        ast.made_id(self.id) && ast.is_index_at(self.id.index)
     }
 }
 
@@ -70,7 +70,7 @@ impl Handle for Slice {
     ghost owned = { OwnsSlice };
 
     fn belongs_to(&self, ast: &Ast) -> bool {
-        ast.gave(self.id) && ast.is_slice_at(self.id.index)
+        ast.made_id(self.id) && ast.is_slice_at(self.id.index)
     }
 }
 
@@ -80,7 +80,7 @@ impl Handle for MacroRef {
     ghost owned = { OwnsMacroRef };
 
     fn belongs_to(&self, ast: &Ast) -> bool {
-        ast.gave(self.id) && ast.is_macro_at(self.id.index)
+        ast.made_id(self.id) && ast.is_macro_at(self.id.index)
     }
 }
 
@@ -90,7 +90,7 @@ impl Handle for Expr {
     ghost owned = { OwnsExpr };
 
     fn belongs_to(&self, ast: &Ast) -> bool {
-        ast.gave(self.id) && ast.is_expr_at(self.id.index)
+        ast.made_id(self.id) && ast.is_expr_at(self.id.index)
     }
 }
 
@@ -100,7 +100,7 @@ impl Handle for IndexableExpr {
     ghost owned = { OwnsIndexable };
 
     fn belongs_to(&self, ast: &Ast) -> bool {
-        ast.gave(self.id) && ast.is_expr_at(self.id.index)
+        ast.made_id(self.id) && ast.is_expr_at(self.id.index)
     }
 }
 
@@ -110,7 +110,7 @@ impl Handle for VastDataType {
     ghost owned = { OwnsType };
 
     fn belongs_to(&self, ast: &Ast) -> bool {
-        ast.gave(self.id) && ast.is_type_at(self.id.index)
+        ast.made_id(self.id) && ast.is_type_at(self.id.index)
     }
 }
 
@@ -120,7 +120,7 @@ impl Handle for VastModule {
     ghost owned = { OwnsModule };
 
     fn belongs_to(&self, ast: &Ast) -> bool {
-        ast.gave(self.id) && ast.is_module_at(self.id.index)
+        ast.made_id(self.id) && ast.is_module_at(self.id.index)
     }
 }
 
@@ -130,7 +130,7 @@ impl Handle for ModulePort {
     ghost owned = { OwnsPort };
 
     fn belongs_to(&self, ast: &Ast) -> bool {
-        ast.gave(self.id) && ast.is_port_at(self.id.index)
+        ast.made_id(self.id) && ast.is_port_at(self.id.index)
     }
 }
 
@@ -140,7 +140,7 @@ impl Handle for VastFunction {
     ghost owned = { OwnsFunction };
 
     fn belongs_to(&self, ast: &Ast) -> bool {
-        ast.gave(self.id) && ast.is_function_at(self.id.index)
+        ast.made_id(self.id) && ast.is_function_at(self.id.index)
     }
 }
 
@@ -150,7 +150,7 @@ impl Handle for Instantiation {
     ghost owned = { OwnsInstantiation };
 
     fn belongs_to(&self, ast: &Ast) -> bool {
-        ast.gave(self.id) && ast.is_instance_at(self.id.index)
+        ast.made_id(self.id) && ast.is_instance_at(self.id.index)
     }
 }
 
@@ -160,7 +160,7 @@ impl Handle for VastAlwaysBase {
     ghost owned = { OwnsAlways };
 
     fn belongs_to(&self, ast: &Ast) -> bool {
-        ast.gave(self.id) && ast.is_always_block_at(self.id.index)
+        ast.made_id(self.id) && ast.is_always_block_at(self.id.index)
     }
 }
 
@@ -170,7 +170,7 @@ impl Handle for Def {
     ghost owned = { OwnsDef };
 
     fn belongs_to(&self, ast: &Ast) -> bool {
-        ast.gave(self.id) && ast.is_definition_at(self.id.index)
+        ast.made_id(self.id) && ast.is_definition_at(self.id.index)
     }
 }
 
@@ -180,7 +180,7 @@ impl Handle for VastStatement {
     ghost owned = { OwnsStatement };
 
     fn belongs_to(&self, ast: &Ast) -> bool {
-        ast.gave(self.id) && ast.is_assignment_at(self.id.index)
+        ast.made_id(self.id) && ast.is_assignment_at(self.id.index)
     }
 }
 
@@ -190,7 +190,7 @@ impl Handle for ContinuousAssignment {
     ghost owned = { OwnsContinuous };
 
     fn belongs_to(&self, ast: &Ast) -> bool {
-        ast.gave(self.id) && ast.is_continuous_at(self.id.index)
+        ast.made_id(self.id) && ast.is_continuous_at(self.id.index)
     }
 }
 
@@ -200,7 +200,7 @@ impl Handle for BlankLine {
     ghost owned = { OwnsBlankLine };
 
     fn belongs_to(&self, ast: &Ast) -> bool {
-        ast.gave(self.id) && ast.is_blank_line_at(self.id.index)
+        ast.made_id(self.id) && ast.is_blank_line_at(self.id.index)
     }
 }
 
@@ -210,7 +210,7 @@ impl Handle for Comment {
     ghost owned = { OwnsComment };
 
     fn belongs_to(&self, ast: &Ast) -> bool {
-        ast.gave(self.id) && ast.is_comment_at(self.id.index)
+        ast.made_id(self.id) && ast.is_comment_at(self.id.index)
     }
 }
 
@@ -220,7 +220,7 @@ impl Handle for InlineVerilogStatement {
     ghost owned = { OwnsInline };
 
     fn belongs_to(&self, ast: &Ast) -> bool {
-        ast.gave(self.id) && ast.is_inline_at(self.id.index)
+        ast.made_id(self.id) && ast.is_inline_at(self.id.index)
     }
 }
 
@@ -230,7 +230,7 @@ impl Handle for MacroStatement {
     ghost owned = { OwnsMacroStatement };
 
     fn belongs_to(&self, ast: &Ast) -> bool {
-        ast.gave(self.id) && ast.is_macro_statement_at(self.id.index)
+        ast.made_id(self.id) && ast.is_macro_statement_at(self.id.index)
     }
 }
 
@@ -240,7 +240,7 @@ impl Handle for VastStatementBlock {
     ghost owned = { OwnsBlock };
 
     fn belongs_to(&self, ast: &Ast) -> bool {
-        ast.gave(self.id) && ast.is_block_at(self.id.index)
+        ast.made_id(self.id) && ast.is_block_at(self.id.index)
     }
 }
 
@@ -250,7 +250,7 @@ impl Handle for Conditional {
     ghost owned = { OwnsConditional };
 
     fn belongs_to(&self, ast: &Ast) -> bool {
-        ast.gave(self.id) && ast.is_conditional_at(self.id.index)
+        ast.made_id(self.id) && ast.is_conditional_at(self.id.index)
     }
 }
 
@@ -260,7 +260,7 @@ impl Handle for CaseStatement {
     ghost owned = { OwnsCase };
 
     fn belongs_to(&self, ast: &Ast) -> bool {
-        ast.gave(self.id) && ast.is_case_at(self.id.index)
+        ast.made_id(self.id) && ast.is_case_at(self.id.index)
     }
 }
 
@@ -270,6 +270,6 @@ impl Handle for GenerateLoop {
     ghost owned = { OwnsLoop };
 
     fn belongs_to(&self, ast: &Ast) -> bool {
-        ast.gave(self.id) && ast.is_loop_at(self.id.index)
+        ast.made_id(self.id) && ast.is_loop_at(self.id.index)
     }
 }

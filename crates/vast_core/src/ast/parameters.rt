@@ -20,7 +20,7 @@ use std::alloc::AllocError;
 use vast_names::{Text, Word};
 
 impl Ast {
-    /// Adds a parameter to the end of the module's header, and answers its name as an expression. Its name isn't
+    /// Adds a parameter to the end of the module's header, and returns its name as an expression. Its name isn't
     /// among those that the module has taken.
     ///
     /// # Errors
@@ -76,7 +76,7 @@ impl Ast {
         }
     }
 
-    /// Adds a parameter as the scope's last member, and answers its name.
+    /// Adds a parameter as the scope's last member, and returns its name.
     fn push_parameter_member(
         &mut self,
         scope: Scope,
@@ -106,7 +106,7 @@ impl Ast {
         Ok(expr)
     }
 
-    /// Adds a parameter as the module's last member, and answers its name. Its name isn't among those that the module has
+    /// Adds a parameter as the module's last member, and returns its name. Its name isn't among those that the module has
     /// taken.
     ///
     /// # Errors
@@ -127,7 +127,7 @@ impl Ast {
         Ok(ParameterRef { id: expr.id })
     }
 
-    /// Adds a local parameter as the scope's last member, and answers its name. Its name isn't among those that a module
+    /// Adds a local parameter as the scope's last member, and returns its name. Its name isn't among those that a module
     /// has taken.
     ///
     /// # Errors

@@ -15,7 +15,7 @@ use crate::handle::Id;
 use crate::node::{Artifact, Assignment, ExprNode, Nest};
 
 impl Ast {
-    pub(crate) fn gave(&self, id: Id) -> bool
+    pub(crate) fn made_id(&self, id: Id) -> bool
         ensures { IsTrue result ↔ (id.file_id ≡ (bench self.now).nodes.id) }
     {
         id.file_id == self.id()

@@ -15,7 +15,7 @@ use vast_literal::{DataKind, ModulePortDirection};
 use vast_names::Word;
 
 impl Ast {
-    /// Adds a port to the end of the module's ports, and answers its name as an expression. The name is free
+    /// Adds a port to the end of the module's ports, and returns its name as an expression. The name is free
     /// ([`Module::name_is_free`]), and is taken from then on.
     ///
     /// # Errors

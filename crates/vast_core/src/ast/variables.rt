@@ -72,7 +72,7 @@ impl Function {
 }
 
 impl Ast {
-    /// Adds an input, or a local, at the end of the function's, and answers its name as an expression. A local is a reg or
+    /// Adds an input, or a local, at the end of the function's, and returns its name as an expression. A local is a reg or
     /// logic. The name is free ([`Function::name_is_free`]), and is taken from then on.
     ///
     /// # Errors

@@ -9,7 +9,7 @@ use xlsynth_vast::{VastFault, VastFile};
 /// The tree that the reader finds in what the file prints: where the file is plain, the normal form of its own tree.
 ///
 /// # Errors
-/// Those of [`VastFile::emit`], and want of memory.
+/// Those of [`VastFile::emit`], and out of memory.
 pub(crate) fn read_back(file: &VastFile) -> Result<Option<NormalFile>, VastFault>
     ensures { ReadsBack (tree file.now) result }
 {

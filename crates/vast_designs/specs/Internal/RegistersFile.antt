@@ -17,7 +17,7 @@ use Rattle.vast_designs.specs.declared.clocked.Signals.{Signals}
 use Rattle.vast_designs.specs.declared.clocked.State.{State}
 use Rattle.vast_designs.specs.declared.clocked.Values.{Values}
 
--- The handles that the calls answer, in a file of id 1.
+-- The handles that the calls return, in a file of id 1.
 
 abbrev id : ℕ → Id
 id i = record { file_id = 1; index = i }
@@ -77,7 +77,7 @@ enabled signals state values = record { reg = record { id = state.first.id }; ne
 abbrev pub plain : State → Values → RegisterDefinition
 plain state values = record { reg = record { id = state.second.id }; next = record { id = state.second_next.id }; reset_value = Some values.second; enable = None }
 
--- The file behind each part, before the registers are added.
+-- The file after each part, before the registers are added.
 
 -- The file of `registers` after its ports were made.
 unfoldable pub signals_made : Bench

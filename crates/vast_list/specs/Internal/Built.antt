@@ -1,6 +1,6 @@
 -- Beside `specs/Built.antt`: what private contracts and proofs say, and no public one.
 use Rattle.std.specs.Prelude.{◌≡◌, ℕ, Bool, List}
-use Rattle.vast_list.specs.declared.session.Given.{Given}
+use Rattle.vast_list.specs.declared.session.LineResult.{LineResult}
 use Rattle.vast_list.specs.declared.session.Session.{Session}
 use Rattle.vast_list.specs.Session.{Gives, IsGivenBy, IsSameKnown}
 use Rattle.vast_list.specs.Built.{Between}
@@ -11,6 +11,6 @@ pub record TakesLine (again : Bool) (old new : Session) (line : List ℕ) : Type
   pub file : Between again old.file between.file
   pub answers : between.answers.items ≡ old.answers.items
   pub known : IsSameKnown old between
-  pub given : Given
+  pub given : LineResult
   pub gives : Gives between new line given
   pub is : IsGivenBy line given

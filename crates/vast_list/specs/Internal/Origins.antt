@@ -2,7 +2,7 @@
 use Rattle.std.specs.Prelude.{◌≡◌, ℕ, false, List, ◌++◌, ◌⊎◌, All, Option, Some, None}
 use Rattle.std.specs.List.{Any}
 use Rattle.vast_core.specs.FileTree.{tree}
-use Rattle.vast_list.specs.declared.answering.Answering.{Answering}
+use Rattle.vast_list.specs.declared.answering.ListRun.{ListRun}
 use Rattle.vast_list.specs.declared.origins.Origins.{Origins}
 use Rattle.vast_list.specs.declared.origins.TextLine.{TextLine}
 use Rattle.vast_list.specs.declared.output.Verdict.{Verdict}
@@ -25,6 +25,6 @@ Follows call old new =
     (begin kept made end : List TextLine) × (old ≡ begin ++ (kept ++ end)) × (new ≡ begin ++ (made ++ end)) × All (ComesFrom call kept) made
 
 -- The lines are those of the text of the list's file; where it has none, the list is at fault.
-abbrev pub IsMapOfFile : Answering → Option Origins → Verdict → Type 0
+abbrev pub IsMapOfFile : ListRun → Option Origins → Verdict → Type 0
 IsMapOfFile answering None verdict = is_made verdict ≡ false
 IsMapOfFile answering (Some origins) verdict = IsTextOf (tree answering.session.file) (text_of origins.lines.items) × (verdict ≡ answering.told.verdict)

@@ -9,6 +9,6 @@ use Rattle.vast_list.specs.Replies.{IsHelperJson, port_object}
 abbrev pub AddsHelper : Session → (number : ℕ) → (old new : List ℕ) → Type 0
 AddsHelper session number old new = (value : List ℕ) × IsHelperJson session number value × (new ≡ old ++ value)
 
--- Ports behind the first.
+-- Ports after the first.
 abbrev pub more_ports : List PortValue → List ℕ
 more_ports ports = flat_map (λ (port : PortValue). codes "," ++ port_object port) ports

@@ -21,7 +21,7 @@ use Rattle.vast_list.specs.Questions.{Asks, question_words}
 use Rattle.vast_list.specs.Written.{AreWritten}
 use Rattle.vast_list.specs.Session.{Calls, IsMade, IsSameKnown, Enters, IsFileLeft, IsFront, call_kind, next_number}
 
--- Want of memory is told as such; any other fault as a line's, unless memory for its words was refused.
+-- Refused memory is told as such; any other fault as a line's, unless memory for its words was refused.
 abbrev pub IsToldAs : StepFault → Fault → Type 0
 IsToldAs OutOfMemory told = told ≡ Memory
 IsToldAs _ told = ⊤
@@ -79,7 +79,7 @@ abbrev pub MakesName : (old new : Session) → (name : Option (List ℕ)) → Re
 MakesName old new name (Ok done) = Enters old new name (Handle (length old.answers.items))
 MakesName old new name (Err fault) = IsSameKnown old new
 
--- The text's call has the name that stands in it, and the arguments behind that; the name of its answer is free, and no blank
+-- The text's call has the name that stands in it, and the arguments after that; the name of its answer is free, and no blank
 -- stands at its front.
 abbrev pub IsRead : (named : List ℕ → Option Named) → (skipped text : List ℕ) → ReadLine → Type 0
 IsRead named skipped text line =

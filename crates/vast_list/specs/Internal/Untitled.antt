@@ -4,7 +4,7 @@ use Rattle.vast_list.specs.declared.untitled.Stage.{Stage}
 use Rattle.vast_list.specs.Lines.{Passed, line_kind}
 use Rattle.vast_list.specs.Untitled.{HaveLedTo}
 
--- Behind blank lines and comments, the line leads to this.
+-- After blank lines and comments, the line leads to this.
 abbrev pub LeadsTo : (line : List ℕ) → Stage → Type 0
 LeadsTo line stage =
     (lines : List (List ℕ)) → All (λ l. line_kind l ≡ Passed) lines → HaveLedTo (lines ++ line ∷ []) stage

@@ -7,7 +7,7 @@ use Rattle.vast_list.specs.Json.{letter_meaning}
 use Rattle.vast_list.specs.CallArguments.{Piece, Place, Number, Count}
 use Rattle.vast_list.specs.Written.{IsCode, IsPart, IsContent, IsQuoted, meaning, IsWritten, AreWritten}
 
--- What is left of a line behind a word, with the space before it.
+-- What is left of a line after a word, with the space before it.
 abbrev pub left : Option (Bor (List ℕ)) → List ℕ
 left None = []
 left (Some rest) = 32 ∷ rest.now
@@ -48,7 +48,7 @@ IsCountWord arguments word n = WritesIn arguments (Count n) word
 abbrev pub IsHandleWord : Arguments → List ℕ → ℕ → Type 0
 IsHandleWord arguments word n = WritesIn arguments (Place n) word
 
--- At the front of what stands behind a text's opening quote a text of this content ends, and this stands behind it.
+-- At the front of what stands after a text's opening quote a text of this content ends, and this stands after it.
 abbrev pub IsTextFront : (quoted content behind : List ℕ) → Type 0
 IsTextFront quoted content behind = (between : List ℕ) × IsContent between content × (quoted ≡ between ++ 34 ∷ behind)
 
@@ -64,6 +64,6 @@ IsPartFront text c behind = (written : List ℕ) × IsPart written (encode_utf8 
 abbrev pub IsCodeFront : (text : List ℕ) → (code : ℕ) → (behind : List ℕ) → Type 0
 IsCodeFront text code behind = (digits : List ℕ) × IsCode digits code × (text ≡ digits ++ behind)
 
--- The letter means this character behind a backslash.
+-- The letter means this character after a backslash.
 abbrev pub IsMeaning : (letter c : ℕ) → Type 0
 IsMeaning letter c = (letter < 128) × (c < 128) × (letter_meaning letter ≡ Some c)

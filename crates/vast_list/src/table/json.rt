@@ -8,9 +8,6 @@ use std::fmt::Write;
 /// The kinds of handles and all calls as one value of JSON, a line for each.
 ///
 /// All names are ASCII without quotes and backslashes, so they are written as they are.
-///
-/// # Errors
-/// Want of memory.
 pub fn calls_json(alloc: Global) -> Result<String, AllocError> {
     let mut text = String::from_str(alloc, "{\"kinds\":[")?;
     push_handles(&mut text)?;

@@ -1,4 +1,4 @@
-//! What stands in the place of an argument, and what calls answer.
+//! What stands in the place of an argument, and what calls return.
 
 use super::{Handle, Item, Kind, Range, Words};
 

@@ -4,10 +4,7 @@ use super::{CallRow, Group, groups};
 use std::alloc::{AllocError, Global};
 use std::fmt::Write;
 
-/// Each group's name behind `# `, and its calls, each with the names and the kinds of its parameters and what it answers.
-///
-/// # Errors
-/// Want of memory.
+/// Each group's name after `# `, and its calls, each with the names and the kinds of its parameters and what it returns.
 pub fn calls_text(alloc: Global) -> Result<String, AllocError> {
     let mut text = String::new(alloc);
     for group in groups() {

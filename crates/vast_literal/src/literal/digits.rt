@@ -132,7 +132,7 @@ pub fn push_digits(
     Ok(())
 }
 
-/// Appends a digit that has so many behind it, and an underscore where a group of four follows.
+/// Appends a digit that has so many after it, and an underscore where a group of four follows.
 #[tactic(auto, unfolding(crate::specs::Digits::separator))]
 fn push_separated(text: &mut String, digit: u8, behind: usize) -> Result<(), AllocError>
     requires { digit < 36 }

@@ -33,6 +33,6 @@ Files index names = AreFiled names index.heads.items index.links.items (get_by_t
 abbrev pub FilesNoLess : Index → Index → Type 0
 FilesNoLess old new = (names : List (List ℕ)) → Files old names → Files new names
 
--- Whatever is filed in the one is filed in the other, with this name behind it.
+-- Whatever is filed in the one is filed in the other, with this name after it.
 abbrev pub FilesOneMore : List ℕ → Index → Index → Type 0
 FilesOneMore name old new = (names : List (List ℕ)) → Files old names → Files new (names ++ name ∷ [])

@@ -1,4 +1,4 @@
--- Texts that lie behind one another in one buffer.
+-- Texts that lie after one another in one buffer.
 use Rattle.std.specs.Prelude.{◌≡◌, ℕ, ◌≤◌, List, [], ◌∷◌, length, slice_range}
 use Rattle.vast_names.specs.declared.texts.Texts.{Texts}
 

@@ -13,7 +13,7 @@ use Rattle.vast_print.specs.Printed.{Printed, plain_text, ◌⊕◌, wrapped}
 use Rattle.vast_print.specs.Text.{expr_text}
 use Rattle.vast_print.specs.Page.{written}
 use Rattle.vast_print.specs.Draft.{Writing}
-use Rattle.vast_print.specs.Ink.{Wet, Stopped, pour}
+use Rattle.vast_print.specs.Output.{Unstopped, Stopped, inline}
 
 -- more than what the pieces of an expression, without parentheses of its own, can weigh
 abbrev mutual
@@ -81,11 +81,11 @@ PiecesOwned b (p ∷ ps) = PieceOwned b p × PiecesOwned b ps
 -- a text is begun: its first words are written, and what is left of it is put on the list, lighter than the text's weight
 abbrev pub Begins : Bench → (old new : Writing) → (before after : List Piece) → Result (Unit {0}) PrintFault → Printed → (weight : ℕ) → Type 0
 Begins b old new before after (Ok _) p weight =
-    (pour old.margin (pour old.margin (Wet old.draft) (written p)) (written (pieces_text b before)) ≡ pour old.margin (Wet new.draft) (written (pieces_text b after)))
+    (inline old.margin (inline old.margin (Unstopped old.draft) (written p)) (written (pieces_text b before)) ≡ inline old.margin (Unstopped new.draft) (written (pieces_text b after)))
     × (new.margin ≡ old.margin)
     × (pieces_weight b after < pieces_weight b before + weight)
     × PiecesOwned b after
-Begins b old new before after (Err (Refused r)) p weight = pour old.margin (Wet old.draft) (written p) ≡ Stopped r
+Begins b old new before after (Err (Refused r)) p weight = inline old.margin (Unstopped old.draft) (written p) ≡ Stopped r
 Begins b old new before after (Err (Memory error)) p weight = Unit {0}
 
 -- an expression is begun

@@ -8,7 +8,7 @@ use Rattle.vast_print.specs.Printed.{plain_text, ◌⊕◌}
 use Rattle.vast_print.specs.Page.{Page, beside, written}
 use Rattle.vast_print.specs.Statements.{label_text, statements_page, block_page}
 
--- what stands behind an arm's label
+-- what stands after an arm's label
 unfoldable pub arm_body_page : CaseWord → Statements → Page
 arm_body_page word b = cond (is_bare_arm word b) (statements_page b) (block_page b)
 

@@ -8,7 +8,7 @@ abbrev pub has_text : List ℕ → Bool
 has_text [] = false
 has_text (c ∷ w) = true
 
--- a kind word with the space behind it
+-- a kind word with the space after it
 abbrev pub kind_opening : Kind → List ℕ
 kind_opening RegKind = codes "reg "
 kind_opening WireKind = codes "wire "
@@ -27,7 +27,7 @@ abbrev pub unsigned_opening : Bool → List ℕ
 unsigned_opening true = []
 unsigned_opening false = codes "unsigned "
 
--- before what is cast to a scalar, and behind it
+-- before what is cast to a scalar, and after it
 abbrev pub scalar_cast_opening : Bool → List ℕ
 scalar_cast_opening true = codes "signed'(logic'("
 scalar_cast_opening false = codes "logic'("
@@ -41,7 +41,7 @@ abbrev pub cast_sign_word : Bool → List ℕ
 cast_sign_word true = codes "signed'("
 cast_sign_word false = codes "unsigned'("
 
--- before what is cast to an integer or an int, and behind it
+-- before what is cast to an integer or an int, and after it
 abbrev pub number_cast_opening : List ℕ → Bool → List ℕ
 number_cast_opening name true = name ++ codes "'("
 number_cast_opening name false = codes "unsigned'(" ++ (name ++ codes "'(")
@@ -50,7 +50,7 @@ abbrev pub number_cast_closing : Bool → List ℕ
 number_cast_closing true = codes ")"
 number_cast_closing false = codes "))"
 
--- behind an entry of a list, where more follow
+-- after an entry of a list, where more follow
 abbrev pub comma : Bool → List ℕ
 comma true = codes ","
 comma false = []

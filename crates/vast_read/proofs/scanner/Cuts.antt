@@ -1,4 +1,4 @@
--- Where a text may be cut: behind an ASCII byte, and behind a run of them.
+-- Where a text may be cut: after an ASCII byte, and after a run of them.
 use Rattle.std.proofs.Common.{◌≡◌, zero, suc, ℕ, ◌+◌, ◌-◌, ◌<◌, ◌≤◌, List, length, drop, get_or, Bool, true, refl, sym, subst, arith}
 use Rattle.std.specs.List.{prefix_len}
 use Rattle.std.specs.Str.{IsUtf8, IsCharBoundary}
@@ -19,7 +19,7 @@ run_cut_by go small text from n (suc j) utf8 some within before e last =
     let here : get_or text (from + j) 10 < 128 = small (get_or text (from + j) 10) (rw (get_or-drop from text j 10) at passed) in
     cut_behind text (from + j) n utf8 (omega (arith, length-drop from text)) here (omega arith)
 
--- behind a run of bytes that begins behind an ASCII byte
+-- after a run of bytes that begins after an ASCII byte
 pub run_cut : (go : ℕ → Bool) → ((c : ℕ) → go c ≡ true → c < 128) → (text : List ℕ) (from n : ℕ) → IsUtf8 text → 0 < from → from ≤ length text →
     get_or text (from - 1) 10 < 128 → n ≡ from + prefix_len go (drop from text) → IsCharBoundary text n
 run_cut go small text from n utf8 some within before e = run_cut_by go small text from n (prefix_len go (drop from text)) utf8 some within before e refl

@@ -1,4 +1,4 @@
--- The longest lexeme at the front of a text, by places: the test that what stands behind a place must pass to be in it.
+-- The longest lexeme at the front of a text, by places: the test that what stands after a place must pass to be in it.
 use Rattle.std.proofs.Common.{◌≡◌, ◌≤◌, ◌<◌, ◌+◌, inl, inr, ⊎_elim, ℕ, zero-le, List, [], ◌∷◌, ◌++◌, length, take, drop, get_or, Bool, true, false, cond, refl, sym, ap, ◌∙◌, append_assoc, arith}
 use Rattle.std.specs.List.{prefix_len}
 use Rattle.std.proofs.Math.Seq.{take-add, drop-append_seam}
@@ -87,7 +87,7 @@ pub goes_more : (go more : List ℕ → Bool) (text : List ℕ) (place : ℕ) �
 goes_more go more text place within g step v =
     rw (take_more text place 10 within, append_assoc (take place text) (get_or text place 10 ∷ []) v) (g (get_or text place 10 ∷ v) ∙ step v)
 
--- behind all of it, and behind a further part
+-- after all of it, and after a further part
 pub behind_further : (text middle rest : List ℕ) → Behind text middle → Behind middle rest → Behind text rest
 behind_further text middle rest none_before k = k
 behind_further text middle rest (lexeme l m h) k = lexeme l m (behind_further _ middle rest h k)

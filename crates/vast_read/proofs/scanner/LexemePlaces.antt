@@ -1,4 +1,4 @@
--- Where a text falls into lexemes, its tokens are some and those of what is left behind some of its lexemes.
+-- Where a text falls into lexemes, its tokens are some and those of what is left after some of its lexemes.
 use Rattle.std.proofs.Common.{◌≡◌, ℕ, List, [], ◌∷◌, ◌++◌, length, drop, Bool, true, false, ◌||◌, eqb, eqb-true, Option, Some, None, refl, sym, ap, subst, ◌∙◌, append_assoc, arith}
 use Rattle.std.proofs.Math.Seq.{drop-append_seam}
 use Rattle.vast_literal.specs.Tokens.{Token, Mark}
@@ -13,7 +13,7 @@ use Rattle.vast_read.specs.Behind.{Behind, none_before, lexeme, apostrophe}
 use Rattle.vast_read.specs.Places.{PlacesPartTokens}
 use Rattle.vast_read.specs.Internal.Scanner.{opens_mark}
 
--- behind its longest lexeme such a text falls into lexemes too
+-- after its longest lexeme such a text falls into lexemes too
 nothing_front : (front behind : List ℕ) (ts : List Token) → IsLexeme front ts → [] ≡ front ++ behind → ⊥
 nothing_front [] behind ts l e = let none = lexeme_one [] ts l in cc
 nothing_front (c ∷ front) behind ts l e = cc

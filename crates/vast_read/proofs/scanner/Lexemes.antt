@@ -64,7 +64,7 @@ module _ (state : List ℕ → State) (go : ℕ → Bool) (longer : (w : List �
   run text from n at e =
       at ∙ (goes (take from text) (drop from text) ∙ rw (e, take-add, drop-drop) refl)
 
--- the byte behind a run is none of its bytes
+-- the byte after a run is none of its bytes
 stop_step : (go : ℕ → Bool) (c : ℕ) (cs : List ℕ) (b : Bool) → go c ≡ b → go (get_or cs (prefix_len go cs) 10) ≡ false → go (get_or (c ∷ cs) (cond b (1 + prefix_len go cs) 0) 10) ≡ false
 stop_step go c cs true e h = rw (one_more (prefix_len go cs)) h
 stop_step go c cs false e h = e
@@ -76,7 +76,7 @@ stop go last (c ∷ cs) = stop_step go c cs (go c) refl (stop go last cs)
 pub run_stops : (go : ℕ → Bool) → go 10 ≡ false → (text : List ℕ) (from n : ℕ) → n ≡ from + prefix_len go (drop from text) → go (get_or text n 10) ≡ false
 run_stops go last text from n e = rw (e, ← get_or-drop from text (prefix_len go (drop from text)) 10) (stop go last (drop from text))
 
--- behind the last token
+-- after the last token
 pub none_left : (rest : List ℕ) → length rest ≡ 0 → lex Gap rest ≡ []
 unfolding lex
 none_left [] e = refl

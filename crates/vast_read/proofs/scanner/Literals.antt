@@ -25,7 +25,7 @@ digits_on text n h e = run InNumber is_digit (λ w c g. rw g refl) text 1 n (num
 tick_step : (d : List ℕ) (c : ℕ) → c ≡ 39 → step (InNumber d) c ≡ keep (AfterTick d)
 tick_step d c e = rw e refl
 
--- an apostrophe behind them
+-- an apostrophe after them
 pub digits_tick : (text : List ℕ) (n : ℕ) → every is_digit (take n text) ≡ true → At (InNumber (take n text)) text n → get_or text n 10 ≡ 39 → IsTick text n
 digits_tick text n digits at e =
     let within = other_within text n (λ b. absurd (omega arith)) in

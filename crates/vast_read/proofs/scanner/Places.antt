@@ -8,7 +8,7 @@ use Rattle.vast_read.specs.Behind.{Behind, none_before, lexeme, apostrophe}
 use Rattle.vast_read.specs.Places.{BeginsWithoutGap, IsBehindFirst}
 use Rattle.vast_read.specs.Internal.Scanner.{byte_at}
 
--- what stands behind some lexemes of a text ends it
+-- what stands after some lexemes of a text ends it
 pub behind_suffix : (text rest : List ℕ) → Behind text rest → (before : List ℕ) × (text ≡ before ++ rest)
 behind_suffix text rest none_before = ([], refl)
 behind_suffix text rest (lexeme {front} {behind} l m h) =
@@ -23,7 +23,7 @@ no_other_rest P text rest h o e n =
     let s = behind_suffix text rest h in
     subst (λ x. MatchOption x ((before : List ℕ) → text ≢ before ++ rest) P) e n s.0 s.1
 
--- behind the first token: where none fits, and where none is left
+-- after the first token: where none fits, and where none is left
 pub behind_unspelled : (text rest : List ℕ) → lex Gap rest ≡ lex Gap text → lex Gap rest ≡ (unspelled ∷ []) → IsBehindFirst text []
 unfolding lex
 behind_unspelled text rest same none = inl (unspelled, sym same ∙ none)

@@ -51,7 +51,7 @@ growth_no_fail (growth.Open t) e = let o = ap (λ (s : Step). s.out) e in cc
 growth_no_fail (growth.Closed t) e = let o = ap (λ (s : Step). s.out) e in cc
 growth_no_fail growth.Comment e = let o = ap (λ (s : Step). s.out) e in cc
 
--- what goes on behind it
+-- what goes on after it
 start_goes : (w g : Option Token) (first : Step) → (first ≡ fail → ⊥) → first ≡ start_or w g → (v : List ℕ) → sign_goes (sign_state w g) v ≡ sign_goes first.state v
 start_goes (Some sign) g first some e v = rw e refl
 start_goes None (Some sign) first some e v = rw e refl

@@ -53,7 +53,7 @@ number_goes : (text : List ℕ) → is_digit (get_or text 0 10) ≡ true → Goe
 number_goes [] h v = cc
 number_goes (c ∷ cs) h v = rw (digit_letter c h, h) refl
 
--- a based literal's apostrophe stands behind the digits, and a base behind it
+-- a based literal's apostrophe stands after the digits, and a base after it
 abbrev Ticks : List ℕ → Type 0
 Ticks rest = (get_or rest 0 10 ≡ 39) × (opens_based (get_or rest 1 10) ≡ true)
 
@@ -149,7 +149,7 @@ mark_behind [] e h = absurd (omega arith)
 mark_behind (c ∷ []) e h = cc
 mark_behind (c ∷ x ∷ xs) e h = rw e (mark_by x xs (eqb x 40) (eqb x 123) refl refl h)
 
--- a based literal behind its size, at a byte that begins a base
+-- a based literal after its size, at a byte that begins a base
 and_false : (b : Bool) → b && false ≡ false
 and_false true = refl
 and_false false = refl

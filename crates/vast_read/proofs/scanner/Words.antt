@@ -22,11 +22,11 @@ word_small c h = grind (arith, nat_tests)
 pub based_small : (c : ℕ) → is_based_digit c ≡ true → c < 128
 based_small c h = grind (arith, nat_tests)
 
--- a byte that passes a test stands within the text, where behind its end none does
+-- a byte that passes a test stands within the text, where after its end none does
 pub passed_within : (test : ℕ → Bool) (text : List ℕ) (place : ℕ) → test 10 ≡ false → test (get_or text place 10) ≡ true → place < length text
 passed_within test text place last h = lt_of_not-le (λ (past : length text ≤ place). let e = get_or_past text place 10 past in cc)
 
--- behind the bytes of a word whose letter stands before `from`
+-- after the bytes of a word whose letter stands before `from`
 pub word_cut : (text : List ℕ) (from n : ℕ) → IsUtf8 text → 0 < from → is_letter (get_or text (from - 1) 10) ≡ true → n ≡ from + prefix_len is_word_byte (drop from text) → IsCharBoundary text n
 word_cut text from n utf8 some letter e =
     let within = passed_within is_letter text (from - 1) refl letter in
@@ -45,7 +45,7 @@ word_front text n h e =
 two_more : (k : ℕ) → 2 + k ≡ suc (suc k)
 two_more k = omega arith
 
--- a pending word behind a sign of its own, from its first letter on
+-- a pending word after a sign of its own, from its first letter on
 module _ (state : List ℕ → State) (token : List ℕ → Token)
     (longer : (b : ℕ) (w : List ℕ) (c : ℕ) → is_word_byte c ≡ true → step (state (b ∷ w)) c ≡ keep (state (b ∷ (w ++ (c ∷ [])))))
     (ended : (b : ℕ) (w : List ℕ) (c : ℕ) → is_word_byte c ≡ false → step (state (b ∷ w)) c ≡ follow (token (b ∷ w) ∷ []) (start c))

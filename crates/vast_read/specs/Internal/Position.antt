@@ -7,11 +7,11 @@ use Rattle.vast_read.specs.Internal.TokenView.{token_view}
 use Rattle.vast_read.specs.declared.token.Token.{Token}
 use Rattle.vast_read.specs.declared.scanner.position.Position.{Position}
 
--- A token and those of the text behind it, where there is one.
+-- A token and those of the text after it, where there is one.
 abbrev pub next_of : Option Token → List ℕ → List to.Token
 next_of None behind = []
 next_of (Some t) behind = token_view t ∷ lex Gap behind
 
--- The token that stands at a place and those behind it.
+-- The token that stands at a place and those after it.
 abbrev pub position_view : Position → List to.Token
 position_view p = next_of p.token p.behind.now

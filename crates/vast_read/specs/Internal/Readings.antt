@@ -1,41 +1,24 @@
--- The trees that stand for what is made of expressions: trees themselves, or nothing but shadows.
-use Rattle.std.specs.Prelude.{ℕ, List, []}
-use Rattle.std.specs.declared.alloc.Global.{Global}
-use Rattle.std.specs.declared.boxed.Box.{Box}
-use Rattle.vast_literal.specs.NormalExpr.{NormalExpr, NormalExprs, NoNormals, MoreNormals}
-use Rattle.vast_literal.specs.NormalExpr as normal
-use Rattle.vast_read.specs.Internal.Forms.{form_tree}
-use Rattle.vast_read.specs.Internal.Reading.{Reading}
-use Rattle.vast_read.specs.Internal.Steps.{join}
-use Rattle.vast_read.specs.View.{view, listed}
-use Rattle.vast_read.specs.declared.tree.expression.NormalExpr.{NormalExpr as Tree}
-use Rattle.vast_read.specs.declared.build.unbuilt.Shadow.{Shadow, fold-Shadow}
-use Rattle.vast_read.specs.declared.build.unbuilt.Shadow.TheOpen.{Shadow-F}
+-- What is read of an expression, and of the condition of a loop.
+use Rattle.std.specs.Prelude.{◌≡◌, ℕ, List, ◌++◌, Option, Some, None}
+use Rattle.vast_expressions.specs.Phrases.{IsRead, IsUnread, Quiet}
+use Rattle.vast_literal.specs.Grammar.{Spells}
+use Rattle.vast_literal.specs.NormalExpr.{NormalExpr, Name, Binary}
+use Rattle.vast_literal.specs.Tokens.{Token}
+use Rattle.vast_literal.specs.declared.token.Sign.TheVariants.{Less}
 
-abbrev pub trees : Reading (Box Tree Global) (List Tree) (List ℕ)
-trees = record { tree = λ x. view x.value; trees = listed; text = λ w. w }
+-- A tree of the level stands at the front and was read, or none does before what goes on with none.
+abbrev pub ReadsTree : {E : Type 0} → (E → NormalExpr) → ℕ → Option E → List Token → List Token → Type 0
+ReadsTree sees k None ts us = IsUnread k ts
+ReadsTree sees k (Some x) ts us = IsRead k ts (sees x) us
 
--- An expression, or a list of them: each shadow stands for one of the two.
-abbrev pub Seen : Type 0
-Seen = NormalExpr × NormalExprs
+-- i < e
+abbrev pub less_than : List ℕ → NormalExpr → NormalExpr
+less_than i e = Binary Less (Name i) e
 
-abbrev one : NormalExpr → Seen
-one x = (x, NoNormals)
+abbrev pub IsUnbound : List ℕ → List Token → Type 0
+IsUnbound i ts = (fs rest : List Token) (e : NormalExpr) → Spells 0 fs (less_than i e) → ts ≡ (fs ++ rest) → Quiet 0 rest → ⊥
 
-abbrev many : NormalExprs → Seen
-many xs = (normal.Name [], xs)
-
-abbrev pub step : Shadow-F Seen → Seen
-step (Shadow-F.Formed f) = one (form_tree (record { tree = λ x. x.value.0; trees = λ x. x.value.1; text = λ w. w.value.now }) f.value)
-step (Shadow-F.Tree x) = one (view x.value)
-step Shadow-F.Nothing = many NoNormals
-step (Shadow-F.More xs x) = many (join xs.value.1 (MoreNormals x.value.0 NoNormals))
-
-abbrev pub seen : Shadow → Seen
-seen = fold-Shadow Seen step
-
-abbrev pub tree_of : Shadow → NormalExpr
-tree_of x = (seen x).0
-
-abbrev pub trees_of : Shadow → NormalExprs
-trees_of x = (seen x).1
+-- The same of a tree that says that the name is less than another, which is what was made.
+abbrev pub ReadsBound : {E : Type 0} → (E → NormalExpr) → List ℕ → Option E → List Token → List Token → Type 0
+ReadsBound sees i None ts us = IsUnbound i ts
+ReadsBound sees i (Some x) ts us = IsRead 0 ts (less_than i (sees x)) us

@@ -15,7 +15,7 @@ use Rattle.vast_read.specs.declared.scanner.front.Front.TheVariants as front
 use Rattle.vast_read.specs.declared.scanner.sign.Growth.{Growth}
 use Rattle.vast_read.specs.declared.scanner.sign.Growth.TheVariants as growth
 
--- The byte at a place; behind the end a line feed, which goes into no lexeme.
+-- The byte at a place; after the end a line feed, which goes into no lexeme.
 abbrev pub byte_at : List ℕ → ℕ → ℕ
 byte_at text place = get_or text place 10
 
@@ -27,8 +27,8 @@ passes class.Digit c = is_digit c
 passes class.BasedDigit c = is_based_digit c
 passes class.Line c = not (eqb c 10)
 
--- The tokens of a text are the token at its front and those behind it, those behind a gap, or none fits; what is behind is shorter
--- and stands behind some of the text's lexemes.
+-- The tokens of a text are the token at its front and those after it, those after a gap, or none fits; what is after is shorter
+-- and stands after some of the text's lexemes.
 abbrev pub Fronts : Front → List ℕ → Type 0
 Fronts (front.Token t rest) text =
     (lex Gap text ≡ (token_view t ∷ lex Gap rest.now)) × (length rest.now < length text) × Behind text rest.now
@@ -56,7 +56,7 @@ abbrev pub growth_or_fail : Option Growth → Step
 growth_or_fail None = fail
 growth_or_fail (Some g) = growth_step g
 
--- What may stand behind the bytes before a place, in one lexeme with them.
+-- What may stand after the bytes before a place, in one lexeme with them.
 abbrev pub GoesOn : (go : List ℕ → Bool) → (text : List ℕ) → (place : ℕ) → Type 0
 GoesOn go text place = (v : List ℕ) → one (take place text ++ v) ≡ go v
 
@@ -68,34 +68,34 @@ pub record Reaches (text : List ℕ) (place : ℕ) (last : Step) : Type 0 where
   pub utf8 : IsUtf8 text
   pub boundary : IsCharBoundary text place
 
--- Whether a byte behind an apostrophe opens the digits of a based literal: a radix, or the sign before it.
+-- Whether a byte after an apostrophe opens the digits of a based literal: a radix, or the sign before it.
 abbrev pub opens_based : ℕ → Bool
 opens_based c = is_radix c || eqb c 115
 
--- Whether a based literal goes on at a place: an apostrophe, and behind it a radix or a sign.
+-- Whether a based literal goes on at a place: an apostrophe, and after it a radix or a sign.
 abbrev pub is_based_tick : List ℕ → ℕ → Bool
 is_based_tick text tick = eqb (byte_at text tick) 39 && opens_based (byte_at text (tick + 1))
 
--- What stands behind the apostrophe of a cast or a pattern: `(` or `{`.
+-- What stands after the apostrophe of a cast or a pattern: `(` or `{`.
 abbrev pub opens_mark : ℕ → Bool
 opens_mark c = eqb c 40 || eqb c 123
 
--- The place of a literal's radix, behind its apostrophe and the sign, where it has one.
+-- The place of a literal's radix, after its apostrophe and the sign, where it has one.
 abbrev pub radix_place : (next tick : ℕ) → ℕ
 radix_place next tick = cond (eqb next 115) (tick + 2) (tick + 1)
 
--- An apostrophe stands at a place, behind digits or none.
+-- An apostrophe stands at a place, after digits or none.
 pub record IsTick (text : List ℕ) (tick : ℕ) : Type 0 where
   pub scanned : lex Gap text ≡ lex (AfterTick (take tick text)) (drop (tick + 1) text)
   pub digits : every is_digit (take tick text) ≡ true
   pub within : tick < length text
   pub here : byte_at text tick ≡ 39
 
--- How many bytes go into a string at a byte that is no quote, by it and the byte behind it: two at a backslash, none where the line ends.
+-- How many bytes go into a string at a byte that is no quote, by it and the byte after it: two at a backslash, none where the line ends.
 abbrev pub string_part : ℕ → ℕ → ℕ
 string_part c d = cond (eqb c 10) 0 (cond (eqb c 92) (cond (eqb d 10) 0 2) 1)
 
--- The string at the front of a text ends at a place, behind its quote.
+-- The string at the front of a text ends at a place, after its quote.
 pub record EndsString (text : List ℕ) (end : ℕ) : Type 0 where
   pub scanned : lex Gap text ≡ (to.Quoted (take end text) ∷ lex Gap (drop end text))
   pub moved : 0 < end

@@ -1,94 +1,110 @@
-//! Generate loops up to their members.
+//! The head of a generate loop.
 
-ghost use Rattle.std.specs.Prelude.{◌≡◌, ◌≤◌, length, MatchResult, Some, None};
-ghost use Rattle.vast_literal.specs.Internal.MemberParser.{same_word};
-ghost use Rattle.vast_literal.specs.Internal.SettledMembers.{loop_start, loop_bound, number_one, loop_step};
-ghost use Rattle.vast_read.specs.Internal.Answers.{ReadsAs};
+ghost use Rattle.std.specs.Prelude.{◌≡◌, ◌≢◌, ℕ, List, IfOk, MatchOption};
+ghost use Rattle.std.specs.Bool.{MatchBool};
+ghost use Rattle.vast_literal.specs.Tokens.{Token as SpecToken};
+ghost use Rattle.vast_read.specs.Internal.LoopHeads.{ReadsClosed, ReadsClosedBound, start_of, step_of};
+ghost use Rattle.vast_read.specs.Internal.PhraseReadings.{ReadsPhrase};
+ghost use Rattle.vast_rows.specs.declared.grammar.Phrase.TheVariants.{LoopHead};
 
-use crate::build::{Build, Trees};
-use crate::fault::Fault;
+use crate::build::Build;
+use crate::phrase::Made;
 use crate::reader::Reader;
-use vast_literal::{Key, Mark};
+use crate::token::Token;
+use std::alloc::AllocError;
+use vast_literal::{Key, Mark, Sign};
 
 impl<'t> Reader<'t> {
-    /// Reads this name.
-    #[tactic(auto, using(crate::proofs::MemberRules::same_words))]
-    pub(crate) fn same_word(&mut self, word: &str) -> Result<(), Fault>
-        ensures reads { MatchResult result
-            (λ _. same_word word.now self.old ≡ Some self.new)
-            (λ _. same_word word.now self.old ≡ None) }
-        ensures fewer { length self.new ≤ length self.old }
+    /// Reads the variable of a loop, its start, its end and its step, in their parentheses.
+    #[tactic(auto, using(crate::proofs::LoopHeads::heads))]
+    pub(crate) fn loop_head<B: Build<'t>>(
+        &mut self,
+    ) -> Result<Option<Made<'t, B::Expr>>, AllocError>
+        ensures { IfOk result (λ o. ReadsPhrase B.sees LoopHead o self.old self.new) }
     {
-        let before = self.rest;
-        let found = self.word()?;
-        if word == found {
-            Ok(())
+        let Some(variable) = self.loop_variable() else {
+            return Ok(None);
+        };
+        let Some(start) = self.closed::<B>()? else {
+            return Ok(None);
+        };
+        let Some(end) = self.closed_bound::<B>(variable)? else {
+            return Ok(None);
+        };
+        if self.eat_step(variable) {
+            Ok(Some(Made::Loop(variable, start, end)))
         } else {
-            self.rest = before;
-            Err(Fault::Underived)
+            Ok(None)
         }
     }
 
-    /// Reads the number one.
-    #[tactic(auto, using(crate::proofs::MemberRules::ones))]
-    pub(crate) fn number_one(&mut self) -> Result<(), Fault>
-        ensures reads { MatchResult result
-            (λ _. number_one self.old ≡ Some self.new) (λ _. number_one self.old ≡ None) }
-        ensures fewer { length self.new ≤ length self.old }
+    /// Reads the variable of a loop, up to its start.
+    fn loop_variable(&mut self) -> Option<&'t str>
+        ensures { MatchOption result
+            ((i : List ℕ) (us : List SpecToken) → self.old ≢ start_of i us)
+            (λ i. self.old ≡ start_of i.now self.new) }
     {
-        let before = self.rest;
-        let found = self.number()?;
-        if found == "1" {
-            Ok(())
-        } else {
-            self.rest = before;
-            Err(Fault::Underived)
+        if !self.eat_all(&[Token::Mark(Mark::OpenParen), Token::Reserved(Key::Genvar)]) {
+            return None;
+        }
+        match self.first() {
+            Some(Token::Word(variable)) => {
+                self.leave_first();
+                if self.eat(Token::Mark(Mark::Assign)) {
+                    Some(variable)
+                } else {
+                    None
+                }
+            }
+            _ => None,
         }
     }
 
-    /// Reads the variable of a loop and its start.
-    #[tactic(auto, using(crate::proofs::MemberRules::loop_starts))]
-    pub(crate) fn loop_start<B: Build<'t>>(&mut self) -> Result<(&'t str, B::Expr), Fault>
-        ensures reads { ReadsAs (λ s. (s.0.now, B.sees.tree s.1)) result self.new (loop_start self.old) }
-        ensures fewer { length self.new ≤ length self.old }
+    /// Reads an expression and the semicolon after it.
+    fn closed<B: Build<'t>>(&mut self) -> Result<Option<B::Expr>, AllocError>
+        ensures { IfOk result (λ o. ReadsClosed B.sees o self.old self.new) }
     {
-        self.expect(Mark::OpenParen)?;
-        self.expect_key(Key::Genvar)?;
-        let variable = self.word()?;
-        self.expect(Mark::Assign)?;
-        let start = self.enclosed::<B>(Mark::Semicolon)?;
-        Ok((variable, start))
-    }
-
-    /// Reads the condition of a loop: the end that its variable stays below.
-    #[tactic(auto, using(crate::proofs::MemberRules::loop_bounds))]
-    pub(crate) fn loop_bound<B: Build<'t>>(&mut self, variable: &str) -> Result<B::Expr, Fault>
-        ensures reads { ReadsAs B.sees.tree result self.new (loop_bound variable.now self.old) }
-        ensures fewer { length self.new ≤ length self.old }
-    {
-        let (condition, before) = self.enclosed_before::<Trees>(Mark::Semicolon)?;
-        match Box::into_inner(condition).bound(variable) {
-            Some(end) => Ok(B::of_tree(end)),
-            None => {
-                self.rest = before;
-                Err(Fault::Underived)
+        match B::expression(self)? {
+            None => Ok(None),
+            Some(made) => {
+                if self.eat(Token::Mark(Mark::Semicolon)) {
+                    Ok(Some(made))
+                } else {
+                    Ok(None)
+                }
             }
         }
     }
 
-    /// Reads the step of a loop, which adds one to its variable.
-    #[tactic(auto, using(crate::proofs::MemberRules::loop_steps))]
-    pub(crate) fn loop_step(&mut self, variable: &str) -> Result<(), Fault>
-        ensures reads { MatchResult result
-            (λ _. loop_step variable.now self.old ≡ Some self.new)
-            (λ _. loop_step variable.now self.old ≡ None) }
-        ensures fewer { length self.new ≤ length self.old }
+    /// The same of the condition of a loop: of its end something is made.
+    fn closed_bound<B: Build<'t>>(&mut self, name: &str) -> Result<Option<B::Expr>, AllocError>
+        ensures { IfOk result (λ o. ReadsClosedBound B.sees name.now o self.old self.new) }
     {
-        self.same_word(variable)?;
-        self.expect(Mark::Assign)?;
-        self.same_word(variable)?;
-        self.expect_plus()?;
-        self.number_one()?;
-        self.expect(Mark::CloseParen)
+        match B::bound(self, name)? {
+            None => Ok(None),
+            Some(made) => {
+                if self.eat(Token::Mark(Mark::Semicolon)) {
+                    Ok(Some(made))
+                } else {
+                    Ok(None)
+                }
+            }
+        }
+    }
+
+    /// Whether the step of a loop stands next, which adds one to its variable and is then read.
+    fn eat_step(&mut self, variable: &str) -> bool
+        ensures { MatchBool result
+            (self.old ≡ step_of variable.now self.new)
+            ((us : List SpecToken) → self.old ≢ step_of variable.now us) }
+    {
+        self.eat_all(&[
+            Token::Word(variable),
+            Token::Mark(Mark::Assign),
+            Token::Word(variable),
+            Token::Operator(Sign::Plus),
+            Token::Number("1"),
+            Token::Mark(Mark::CloseParen),
+        ])
     }
 }

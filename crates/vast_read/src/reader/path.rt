@@ -1,12 +1,13 @@
 //! The path of an include, between the quotes of a string.
 
-ghost use Rattle.std.specs.Prelude.{◌≡◌, ◌≢◌, ℕ, List, ◌∷◌, MatchOption, Some, None};
-ghost use Rattle.vast_literal.specs.Internal.FileParser.{path_end, path_of};
+ghost use Rattle.std.specs.Prelude.{◌≡◌, ◌≢◌, ℕ, List, [], ◌∷◌, ◌++◌, MatchOption};
 
 /// The path between the quotes of a string.
-#[tactic(auto, using(crate::proofs::FileRules::paths))]
+#[tactic(auto, using(crate::proofs::Paths::paths))]
 pub(crate) fn path_of(text: &str) -> Option<&str>
-    ensures { MatchOption result (path_of text.now ≡ None) (λ p. path_of text.now ≡ Some p.now) }
+    ensures { MatchOption result
+        ((p : List ℕ) → text.now ≢ (34 ∷ (p ++ (34 ∷ []))))
+        (λ p. text.now ≡ (34 ∷ (p.now ++ (34 ∷ [])))) }
 {
     match behind_quote(text) {
         None => None,
@@ -14,7 +15,7 @@ pub(crate) fn path_of(text: &str) -> Option<&str>
     }
 }
 
-/// What stands behind the quote that begins a text.
+/// What stands after the quote that begins a text.
 fn behind_quote(text: &str) -> Option<&str>
     ensures { MatchOption result
         ((v : List ℕ) → text.now ≢ (34 ∷ v)) (λ v. text.now ≡ (34 ∷ v.now)) }
@@ -24,7 +25,8 @@ fn behind_quote(text: &str) -> Option<&str>
 
 /// What stands before the quote that ends a text.
 fn before_quote(text: &str) -> Option<&str>
-    ensures { MatchOption result (path_end text.now ≡ None) (λ p. path_end text.now ≡ Some p.now) }
+    ensures { MatchOption result
+        ((p : List ℕ) → text.now ≢ (p ++ (34 ∷ []))) (λ p. text.now ≡ (p.now ++ (34 ∷ []))) }
 {
     text.strip_suffix('"')
 }

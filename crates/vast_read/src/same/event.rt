@@ -11,9 +11,6 @@ use crate::same::expression::same_expression;
 use std::alloc::{AllocError, Global};
 
 /// Whether the events of two texts are the same.
-///
-/// # Errors
-/// Out of memory.
 #[tactic(auto, using(crate::proofs::FilesCompared::events))]
 pub(crate) fn same_events<'t>(
     alloc: Global,

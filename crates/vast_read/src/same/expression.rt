@@ -25,9 +25,6 @@ pub(crate) enum Pair<'t> {
 /// Whether two expressions of the reader are one normal expression.
 ///
 /// It takes memory in proportion to their depth, and no stack that grows with it.
-///
-/// # Errors
-/// Want of memory.
 pub(crate) fn same_expression(
     alloc: Global,
     left: &NormalExpr,
@@ -41,9 +38,6 @@ pub(crate) fn same_expression(
 }
 
 /// Whether two lists of expressions are one, of which either may be missing.
-///
-/// # Errors
-/// Want of memory.
 pub(crate) fn same_arguments(
     alloc: Global,
     left: Option<&[NormalExpr]>,
@@ -65,9 +59,6 @@ pub(crate) fn same_arguments(
 }
 
 /// Whether two expressions are one, of which either may be missing.
-///
-/// # Errors
-/// Want of memory.
 pub(crate) fn same_part(
     alloc: Global,
     left: Option<&NormalExpr>,

@@ -46,14 +46,14 @@ pub(crate) fn is_radix(byte: u8) -> bool
     byte == b'b' || byte == b'd' || byte == b'h'
 }
 
-/// What fills all bits behind an apostrophe: `0`, `1` or `X`.
+/// What fills all bits after an apostrophe: `0`, `1` or `X`.
 pub(crate) fn is_filler(byte: u8) -> bool
     ensures { result ≡ is_filler byte }
 {
     byte == b'0' || byte == b'1' || byte == b'X'
 }
 
-/// What stands behind the apostrophe of a cast or a pattern: `(` or `{`.
+/// What stands after the apostrophe of a cast or a pattern: `(` or `{`.
 pub(crate) fn opens_mark(byte: u8) -> bool
     ensures { result ≡ opens_mark byte }
 {
@@ -72,7 +72,7 @@ pub(crate) fn is_space(byte: u8) -> bool
 pub(crate) enum Class {
     /// White space.
     Space,
-    /// Bytes of a word behind its first letter.
+    /// Bytes of a word after its first letter.
     Word,
     /// Decimal digits.
     Digit,

@@ -5,9 +5,9 @@ use crate::token::Token;
 /// What stands at the front of a text, and what follows it.
 #[derive(Clone, Copy)]
 pub(crate) enum Front<'t> {
-    /// A token, and the text behind it.
+    /// A token, and the text after it.
     Token(Token<'t>, &'t str),
-    /// White space or a comment, and the text behind it.
+    /// White space or a comment, and the text after it.
     Gap(&'t str),
     /// What is no token.
     Unspelled,

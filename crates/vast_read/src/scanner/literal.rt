@@ -11,7 +11,7 @@ use crate::scanner::run::{byte_at, run_end};
 use crate::token::Token;
 use vast_literal::Mark;
 
-/// Whether a based literal goes on at a place: an apostrophe, and behind it a radix or a sign.
+/// Whether a based literal goes on at a place: an apostrophe, and after it a radix or a sign.
 fn opens_based(text: &str, tick: usize) -> bool
     requires { tick ≤ length text.now }
     ensures { result ≡ is_based_tick text.now tick }
@@ -20,7 +20,7 @@ fn opens_based(text: &str, tick: usize) -> bool
     byte_at(text, tick) == b'\'' && (is_radix(next) || next == b's')
 }
 
-/// The place of a literal's radix, behind its apostrophe and the sign, where it has one.
+/// The place of a literal's radix, after its apostrophe and the sign, where it has one.
 fn radix_place(next: u8, tick: usize) -> usize
     requires { tick < 2 ^ 63 }
     ensures { result ≡ radix_place next tick }
@@ -77,7 +77,7 @@ pub(crate) fn apostrophe<'t>(text: &'t str) -> Front<'t>
     }
 }
 
-/// How many bytes go into a string at a byte that is no quote, by it and the byte behind it: two at
+/// How many bytes go into a string at a byte that is no quote, by it and the byte after it: two at
 /// a backslash, none where the line ends.
 fn string_part(byte: u8, next: u8) -> usize
     ensures { result ≡ string_part byte next }
@@ -91,7 +91,7 @@ fn string_part(byte: u8, next: u8) -> usize
     }
 }
 
-/// The place behind the closing quote of a string, where it has one.
+/// The place after the closing quote of a string, where it has one.
 fn string_end(text: &str) -> Option<usize>
     requires { byte_at text.now 0 ≡ 34 }
     ensures { MatchOption result (lex Gap text.now ≡ (unspelled ∷ [])) (EndsString text.now) }

@@ -1,4 +1,4 @@
-//! Places of a text by what is behind them.
+//! Places of a text by what is after them.
 
 ghost use Rattle.std.specs.Prelude.{◌≡◌, ℕ, List, ◌++◌, IsCharBoundary};
 ghost use Rattle.vast_literal.specs.Scan.{Gap};
@@ -9,7 +9,7 @@ ghost use Rattle.vast_read.specs.Places.{BeginsWithoutGap, IsBehindFirst, IsBetw
 use crate::scanner::front::Front;
 use crate::scanner::front_of;
 
-/// The place in a text of its first token that has fewer bytes than so many behind it; where it has none, the end.
+/// The place in a text of its first token that has fewer bytes than so many after it; where it has none, the end.
 pub(crate) fn place_before(text: &str, bytes: usize) -> usize
     ensures between { IsBetweenTokens text.now result }
     ensures boundary { IsCharBoundary text.now result }
@@ -17,7 +17,7 @@ pub(crate) fn place_before(text: &str, bytes: usize) -> usize
     place_of(text, from_token(text, bytes))
 }
 
-/// The text from its first token on that has fewer bytes than so many behind it.
+/// The text from its first token on that has fewer bytes than so many after it.
 fn from_token<'t>(text: &'t str, bytes: usize) -> &'t str
     ensures { Behind text.now result.now }
 {
@@ -50,7 +50,7 @@ fn place_of(text: &str, rest: &str) -> usize
     }
 }
 
-/// The text from its first token on, and what is behind that token; nothing, where there is none.
+/// The text from its first token on, and what is after that token; nothing, where there is none.
 pub(crate) fn first_and_behind<'t>(text: &'t str) -> (&'t str, &'t str)
     ensures tokens { lex Gap result.0.now ≡ lex Gap text.now }
     ensures front { BeginsWithoutGap result.0.now }

@@ -6,7 +6,7 @@ ghost use Rattle.vast_read.specs.Internal.Scanner.{byte_at, passes};
 
 use crate::scanner::class::Class;
 
-/// The byte at a place; behind the end a line feed, which goes into no lexeme.
+/// The byte at a place; after the end a line feed, which goes into no lexeme.
 pub(crate) fn byte_at(text: &str, place: usize) -> u8
     ensures { result ≡ byte_at text.now place }
 {

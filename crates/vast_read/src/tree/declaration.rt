@@ -41,7 +41,7 @@ pub struct NormalDeclaration {
     pub groups: Children<Group>,
     /// What is declared.
     pub name: Word,
-    /// The unpacked dimensions, behind the name.
+    /// The unpacked dimensions, after the name.
     pub after: Children<Group>,
 }
 

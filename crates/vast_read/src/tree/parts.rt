@@ -39,7 +39,7 @@ impl NormalExpr {
         }
     }
 
-    /// The same while another waits: that goes into the place of the first part, behind the others.
+    /// The same while another waits: that goes into the place of the first part, after the others.
     pub(crate) fn turn(self, other: NormalExpr) -> (NormalExpr, Option<NormalExpr>)
         ensures { rounds_left result.0 result.1 < rounds_beside self + rounds_alone other }
     {

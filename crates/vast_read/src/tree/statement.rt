@@ -108,7 +108,7 @@ impl NormalStatement {
         }
     }
 
-    /// The same while a block waits: that goes into the place of one of its own, behind the others.
+    /// The same while a block waits: that goes into the place of one of its own, after the others.
     fn turn(
         self,
         block: Children<NormalStatement>,

@@ -7,7 +7,7 @@ use Rattle.vast_list.specs.Untitled.{HasTaken}
 use Rattle.vast_list.specs.declared.output.ListOutput.{ListOutput}
 use Rattle.vast_replay.specs.declared.input.InputLines.{InputLines}
 
--- The bytes so far are lines that were taken, and what is left, whatever comes behind them.
+-- The bytes so far are lines that were taken, and what is left, whatever comes after them.
 pub record HasRead (lines : InputLines) (bytes : List ℕ) : Type 0 where
   pub none : HasNoFeed lines.left.items
   pub taken : (taken : List (List ℕ)) × HasTaken taken lines.list × ((more : List ℕ) → lines_of (bytes ++ more) ≡ taken ++ lines_of (lines.left.items ++ more))

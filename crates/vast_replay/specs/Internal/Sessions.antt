@@ -10,7 +10,7 @@ use Rattle.vast_talk.specs.declared.talk.Talk.{Talk}
 abbrev pub IsWithoutFeed : (piece line : List ℕ) → Type 0
 IsWithoutFeed piece line = (piece ≡ line ++ 10 ∷ []) ⊎ ((line ≡ piece) × ((front : List ℕ) → piece ≢ front ++ 10 ∷ []))
 
--- Of these bytes the first line was read, and these are behind it; or there are none.
+-- Of these bytes the first line was read, and these are after it; or there are none.
 abbrev pub ReadsLine : (bytes : List ℕ) → (behind : Option (List ℕ)) → Option (Vec ℕ Global) → Type 0
 ReadsLine bytes behind None = bytes ≡ []
 ReadsLine bytes behind (Some line) = (rest : List ℕ) × (behind ≡ Some rest) × (lines_of bytes ≡ line.items ∷ lines_of rest)

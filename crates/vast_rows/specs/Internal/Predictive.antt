@@ -27,7 +27,7 @@ abbrev pub begins : (ℕ → Fact) → (ends : ℕ) → List Item → ℕ
 begins facts ends [] = ends
 begins facts ends (i ∷ s) = starts facts i
 
--- Behind each rule and phrase among the items is what may follow it, and none of the tokens is the end.
+-- After each rule and phrase among the items is what may follow it, and none of the tokens is the end.
 abbrev pub follows : (ℕ → Fact) → (ends : ℕ) → List Item → Bool
 follows facts ends [] = true
 follows facts ends (Token k ∷ s) = nat_lt 0 k && follows facts ends s
@@ -70,7 +70,7 @@ abbrev pub are_apart : List Row → Bool
 are_apart [] = true
 are_apart (row ∷ rest) = apart_from row rest && are_apart rest
 
--- Each row is the first of its rule, or stands behind another one of it. The rule before the rows is given, and their place.
+-- Each row is the first of its rule, or stands after another one of it. The rule before the rows is given, and their place.
 abbrev pub stand_together : (ℕ → Fact) → (before from : ℕ) → List Row → Bool
 stand_together facts before from [] = true
 stand_together facts before from (row ∷ rest) = (if nat_eq row.rule before then true else nat_eq (facts row.rule).first_row from) && stand_together facts row.rule (suc from) rest

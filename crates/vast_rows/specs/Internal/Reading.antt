@@ -5,7 +5,6 @@ use Rattle.vast_literal.specs.Tokens.{Token}
 use Rattle.vast_rows.specs.declared.action.Action.{Action}
 use Rattle.vast_rows.specs.declared.grammar.Item.{Item}
 use Rattle.vast_rows.specs.declared.grammar.Item.TheVariants as item
-use Rattle.vast_rows.specs.declared.grammar.Phrase.{Phrase}
 use Rattle.vast_rows.specs.declared.machine.Due.{Due}
 use Rattle.vast_rows.specs.declared.machine.Due.TheVariants as due
 use Rattle.vast_rows.specs.Internal.Derives.{Derives}

@@ -9,7 +9,7 @@ use Rattle.vast_rows.specs.Events.{name_of}
 use Rattle.vast_rows.specs.Phrases.{Meaning, IsPhrase}
 use Rattle.vast_rows.specs.Internal.PhraseKinds.{stops}
 
--- What is behind the first token.
+-- What is after the first token.
 abbrev pub tail : List Token → List Token
 tail [] = []
 tail (t ∷ ts) = ts

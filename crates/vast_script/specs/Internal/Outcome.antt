@@ -11,7 +11,7 @@ abbrev pub of_call : VastFault → StepFault
 of_call (CallRefused e) = Refused e
 of_call (CallMemory e) = Memory
 
--- What a call made as an answer, or want of memory.
+-- What a call made as an answer, or out of memory.
 abbrev pub Wraps : {A : Type 0} → Result A AllocError → Result Answer StepFault → (A → Answer) → Type 0
 Wraps (Ok x) result wrap = result ≡ Ok (wrap x)
 Wraps (Err error) result wrap = result ≡ Err Memory

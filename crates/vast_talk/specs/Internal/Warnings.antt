@@ -7,7 +7,7 @@ use Rattle.vast_talk.specs.Warnings.{AreMoreWarnings, IsWarningList, IsWarningOb
 abbrev pub AddsWarning : (old new : List ℕ) → LineWarning → Type 0
 AddsWarning old new warning = (object : List ℕ) × IsWarningObject warning object × (new ≡ old ++ object)
 
--- The text grew by warnings, each behind a comma.
+-- The text grew by warnings, each after a comma.
 abbrev pub AddsMoreWarnings : (old new : List ℕ) → List LineWarning → Type 0
 AddsMoreWarnings old new warnings = (more : List ℕ) × AreMoreWarnings warnings more × (new ≡ old ++ more)
 

@@ -1,4 +1,4 @@
--- A code of expressions and types: the letters of a tree, each behind those of its parts, which give the tree back. By it
+-- A code of expressions and types: the letters of a tree, each after those of its parts, which give the tree back. By it
 -- a proof tells what one file holds from what another does; no contract reads it.
 use Rattle.std.proofs.Common.{◌≡◌, ℕ, ℤ, Bool, List, [], ◌∷◌, Option, refl, ap, ◌∙◌}
 use Rattle.std.specs.Coded.{Coded, code_by, coded_list, codes}

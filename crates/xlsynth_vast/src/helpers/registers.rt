@@ -5,7 +5,7 @@ ghost use Rattle.std.specs.List.{list_any};
 ghost use Rattle.vast_core.specs.Bench.{OwnsExpr, OwnsBlock};
 ghost use Rattle.vast_core.specs.Sound.{EventSound};
 ghost use Rattle.vast_core.specs.Growth.{Builds, Leaves};
-ghost use Rattle.vast_core.specs.Containers.{next_block, with_spare_block};
+ghost use Rattle.vast_core.specs.Containers.{next_block, with_detached_block};
 ghost use Rattle.vast_core.specs.FileTree.{tree};
 ghost use Rattle.xlsynth_vast.specs.Internal.Reductions.{ChecksBy};
 ghost use Rattle.xlsynth_vast.specs.Keeps.{Keeps};
@@ -197,7 +197,7 @@ fn branch(
 
 /// An empty block, which nothing holds yet.
 fn make_empty_block(file: &mut VastFile) -> Result<VastStatementBlock, AllocError>
-    ensures { Builds file.old file.new result next_block with_spare_block }
+    ensures { Builds file.old file.new result next_block with_detached_block }
 {
     file.ast.push_block()
 }
@@ -235,7 +235,7 @@ fn attach(
 ) -> Result<(), AllocError>
     requires scope { OwnsScope file.old scope }
     requires event { EventSound file.old event }
-    requires spare { file.old.spare ≡ Some block }
+    requires detached { file.old.detached ≡ Some block }
     requires newer { IsOlderScope scope block }
     ensures { Leaves file.old file.new result (with_clocked scope event block) }
 {

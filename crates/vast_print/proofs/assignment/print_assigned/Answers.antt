@@ -1,5 +1,5 @@
-use Rattle.vast_print.proofs.ContainerLaws.{pour-assigned}
+use Rattle.vast_print.proofs.ContainerLaws.{inline-assigned}
 use Rattle.vast_print.proofs.assignment.print_assigned.Goals as goal
 
 pub returns : goal.returns
-returns c = rw (c.assignment-assignment.ensures.there, pour-assigned, ← c.assignment_operator.ensures) c.print_sides.ensures
+returns c = rw (c.assignment-assignment.ensures.there, inline-assigned, ← c.assignment_operator.ensures) c.print_sides.ensures

@@ -1,7 +1,7 @@
 use Rattle.std.proofs.Common.{◌≡◌}
 use Rattle.vast_core.specs.Bench.{tree_of}
 use Rattle.vast_core.specs.View.{bench}
-use Rattle.vast_print.specs.Ink.{Wet, pour}
+use Rattle.vast_print.specs.Output.{Unstopped, inline}
 use Rattle.vast_print.specs.Page.{written}
 use Rattle.vast_print.specs.Printed.{wrapped}
 use Rattle.vast_print.specs.Text.{expr_text}
@@ -11,7 +11,7 @@ use Rattle.vast_print.proofs.expression.print_wrapped.Given as goal
 abbrev pub invariant-loop-piece : goal.invariant-loop-piece
 invariant-loop-piece l =
     record {
-      same : pour l.fn.out.margin (Wet l.fn.out.draft) (written (wrapped l.fn.wraps (expr_text (tree_of (bench l.ast) l.fn.e)))) ≡ pour l.fn.out.margin (Wet l.out.draft) (written (pieces_text (bench l.ast) l.work.items));
+      same : inline l.fn.out.margin (Unstopped l.fn.out.draft) (written (wrapped l.fn.wraps (expr_text (tree_of (bench l.ast) l.fn.e)))) ≡ inline l.fn.out.margin (Unstopped l.out.draft) (written (pieces_text (bench l.ast) l.work.items));
       owned : PiecesOwned (bench l.ast) l.work.items;
       margin : l.out.margin ≡ l.fn.out.margin;
     }

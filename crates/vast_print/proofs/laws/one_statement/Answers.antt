@@ -1,4 +1,4 @@
-use Rattle.vast_literal.proofs.StatementsParse.{one_statement as law}
+use Rattle.vast_rows.proofs.OneEach.{one_statement as law}
 use Rattle.vast_print.proofs.laws.one_statement.Goals as goal
 
 pub returns : goal.returns

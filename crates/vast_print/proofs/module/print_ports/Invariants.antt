@@ -1,13 +1,13 @@
 use Rattle.std.proofs.Common.{◌≡◌, drop, map}
 use Rattle.vast_core.specs.FileTree.{port_tree}
 use Rattle.vast_core.specs.View.{bench}
-use Rattle.vast_print.specs.Ink.{Wet, hang}
+use Rattle.vast_print.specs.Output.{Unstopped, indented}
 use Rattle.vast_print.specs.Layout.{ports_page}
 use Rattle.vast_print.proofs.module.print_ports.Given as goal
 
 abbrev pub invariant-loop-i : goal.invariant-loop-i
 invariant-loop-i l =
     record {
-      same : hang l.fn.out.margin (Wet l.fn.out.draft) (ports_page (bench l.ast).file_type (map (port_tree (bench l.ast)) l.ports)) ≡ hang l.fn.out.margin (Wet l.out.draft) (ports_page (bench l.ast).file_type (map (port_tree (bench l.ast)) (drop l.i l.ports)));
+      same : indented l.fn.out.margin (Unstopped l.fn.out.draft) (ports_page (bench l.ast).file_type (map (port_tree (bench l.ast)) l.ports)) ≡ indented l.fn.out.margin (Unstopped l.out.draft) (ports_page (bench l.ast).file_type (map (port_tree (bench l.ast)) (drop l.i l.ports)));
       margin : l.out.margin ≡ l.fn.out.margin;
     }

@@ -2,7 +2,7 @@ use Rattle.std.proofs.Common.{◌≡◌, ◌≤◌, length, sym, ap, subst, ◌�
 use Rattle.vast_replay.specs.Input.{GivesTaken, unmarked}
 use Rattle.vast_replay.specs.Internal.Input.{GivesTextOf, ReadsOn}
 use Rattle.vast_replay.specs.declared.input.InputLines.{InputLines}
-use Rattle.vast_replay.specs.declared.input.Taken.TheVariants.{List as OneList}
+use Rattle.vast_replay.specs.declared.input.ReadInput.TheVariants.{List as OneList}
 use Rattle.vast_replay.proofs.Inputs.{long_taken, short_taken}
 use Rattle.vast_replay.proofs.input.take_input.Goals as goal
 use Rattle.vast_replay.proofs.input.take_input.Goals.{then-len-ge-FRONT_BYTES+in_ok-take_rest, else-len-ge-FRONT_BYTES}

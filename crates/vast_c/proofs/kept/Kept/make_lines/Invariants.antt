@@ -3,7 +3,7 @@ use Rattle.vast_list.specs.Lines.{lines_of}
 use Rattle.vast_c.specs.Seen.{Gave, more_lines}
 use Rattle.vast_c.proofs.kept.Kept.make_lines.Given as goal
 
--- The lines so far gave what they gave and were counted, and those behind them are the rest's.
+-- The lines so far gave what they gave and were counted, and those after them are the rest's.
 abbrev pub invariant-loop-rest : goal.invariant-loop-rest
 invariant-loop-rest l = record {
   gave : Gave l.initial.self.session (take l.taken (lines_of l.lines)) l.self.session;

@@ -1,7 +1,7 @@
 -- proofs/ast/Ast/always_block/Answers.antt
 use Rattle.std.proofs.Common.{◌<◌, length, rules}
 use Rattle.vast_core.specs.View.{bench}
-use Rattle.vast_core.proofs.NestReaders.{always-below, always-there, always-sound, events-all}
+use Rattle.vast_core.proofs.NestReaders.{always-below, always-read, events-all}
 use Rattle.vast_core.proofs.ast.Ast.always_block.Goals as goal
 
 pub index-requires : goal.index-requires
@@ -10,16 +10,10 @@ index-requires c =
     in search rules
 
 pub returns-clause-there : goal.returns-clause-there
-returns-clause-there c =
-    let below : c.args.a.id.index < length c.self.inside.always_blocks.items = always-below c.args.self.now _ c.args.a.id.index c.self.view_is c.requires.of_kind
-    in always-there c.args.self.now _ c.args.a.id.index _ c.self.view_is below c.index.ensures
+returns-clause-there c = (always-read c.args.self.now _ c.args.a.id.index _ c.self.view_is c.self.invariant (always-below c.args.self.now _ c.args.a.id.index c.self.view_is c.requires.of_kind) c.index.ensures).there
 
 pub returns-clause-events : goal.returns-clause-events
-returns-clause-events c =
-    let below : c.args.a.id.index < length c.self.inside.always_blocks.items = always-below c.args.self.now _ c.args.a.id.index c.self.view_is c.requires.of_kind
-    in events-all (bench c.args.self.now) _ (always-sound c.args.self.now _ c.args.a.id.index _ c.self.view_is c.self.invariant below c.index.ensures).events
+returns-clause-events c = events-all (bench c.args.self.now) _ (always-read c.args.self.now _ c.args.a.id.index _ c.self.view_is c.self.invariant (always-below c.args.self.now _ c.args.a.id.index c.self.view_is c.requires.of_kind) c.index.ensures).sound.events
 
 pub returns-clause-block : goal.returns-clause-block
-returns-clause-block c =
-    let below : c.args.a.id.index < length c.self.inside.always_blocks.items = always-below c.args.self.now _ c.args.a.id.index c.self.view_is c.requires.of_kind
-    in (always-sound c.args.self.now _ c.args.a.id.index _ c.self.view_is c.self.invariant below c.index.ensures).block
+returns-clause-block c = (always-read c.args.self.now _ c.args.a.id.index _ c.self.view_is c.self.invariant (always-below c.args.self.now _ c.args.a.id.index c.self.view_is c.requires.of_kind) c.index.ensures).sound.block

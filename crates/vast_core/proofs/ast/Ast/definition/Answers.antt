@@ -1,5 +1,5 @@
 use Rattle.std.proofs.Common.{◌<◌, length, rules}
-use Rattle.vast_core.proofs.Readers.{definition-below, definition-there, definition-sound}
+use Rattle.vast_core.proofs.Readers.{definition-below, definition-read}
 use Rattle.vast_core.proofs.ast.Ast.definition.Goals as goal
 
 pub index-requires : goal.index-requires
@@ -8,11 +8,7 @@ index-requires c =
     in search rules
 
 pub returns-clause-there : goal.returns-clause-there
-returns-clause-there c =
-    let below : c.args.d.id.index < length c.self.inside.definitions.items = definition-below c.args.self.now _ c.args.d.id.index c.self.view_is c.requires.of_kind
-    in definition-there c.args.self.now _ c.args.d.id.index _ c.self.view_is below c.index.ensures
+returns-clause-there c = (definition-read c.args.self.now _ c.args.d.id.index _ c.self.view_is c.self.invariant (definition-below c.args.self.now _ c.args.d.id.index c.self.view_is c.requires.of_kind) c.index.ensures).there
 
 pub returns-clause-data_type : goal.returns-clause-data_type
-returns-clause-data_type c =
-    let below : c.args.d.id.index < length c.self.inside.definitions.items = definition-below c.args.self.now _ c.args.d.id.index c.self.view_is c.requires.of_kind
-    in definition-sound c.args.self.now _ c.args.d.id.index _ c.self.view_is c.self.invariant below c.index.ensures
+returns-clause-data_type c = (definition-read c.args.self.now _ c.args.d.id.index _ c.self.view_is c.self.invariant (definition-below c.args.self.now _ c.args.d.id.index c.self.view_is c.requires.of_kind) c.index.ensures).sound

@@ -1,7 +1,7 @@
 use Rattle.std.proofs.Common.{◌≡◌, ℕ, List, Result, Ok, Err, false, subst, sym}
 use Rattle.std.specs.Prelude.{IsTrue, OnOk}
 use Rattle.std.specs.declared.alloc.AllocError.{AllocError}
-use Rattle.vast_list.specs.declared.answering.Told.{Told}
+use Rattle.vast_list.specs.declared.answering.ListReport.{ListReport}
 use Rattle.vast_list.specs.declared.json_line.Answers.{Answers}
 use Rattle.vast_list.specs.declared.session.Session.{Session}
 use Rattle.vast_list.specs.Internal.Built.{TakesLine}
@@ -15,7 +15,7 @@ answers-on :
     OnOk r (AnswersOn old new line)
 answers-on old new session line (Err fault) takes same told = tt
 answers-on old new session line (Ok done) takes same told = record {
-  verdict = λ made. subst (λ (t : Told). IsTrue (is_made t.verdict)) told made;
+  verdict = λ made. subst (λ (t : ListReport). IsTrue (is_made t.verdict)) told made;
   taken = λ made. subst (λ (s : Session). TakesLine false old.session s line) (sym same) takes;
 }
 

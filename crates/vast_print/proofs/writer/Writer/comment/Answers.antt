@@ -1,15 +1,15 @@
 use Rattle.std.proofs.Common.{rules, arith}
-use Rattle.vast_print.specs.Ink.{Wet}
+use Rattle.vast_print.specs.Output.{Unstopped}
 use Rattle.vast_print.proofs.Lines.{cut, uncut}
-use Rattle.vast_print.proofs.InkLaws.{comment-step, comment-last}
+use Rattle.vast_print.proofs.OutputLaws.{comment-step, comment-last}
 use Rattle.vast_print.proofs.writer.Writer.comment.Goals as goal
 
 pub loop-line-preserved : goal.loop-line-preserved
 loop-line-preserved c =
     let q = cut c.loop-line.rest.now (c.in-Some.line, c.in-Some.more) c.in-Some.ensures.cases in
-    (search rules, grind (arith, comment-step c.args.self.now.margin (Wet c.loop-line.self.draft) c.loop-line.rest.now c.in-Some.line.now c.in-Some.more.now q.0 q.1), grind arith)
+    (search rules, grind (arith, comment-step c.args.self.now.margin (Unstopped c.loop-line.self.draft) c.loop-line.rest.now c.in-Some.line.now c.in-Some.more.now q.0 q.1), grind arith)
 
 pub returns : goal.returns
 returns c =
     let q = uncut c.loop-line.rest.now c.in_default.ensures.cases in
-    grind (arith, comment-last c.args.self.now.margin (Wet c.loop-line.self.draft) c.loop-line.rest.now q)
+    grind (arith, comment-last c.args.self.now.margin (Unstopped c.loop-line.self.draft) c.loop-line.rest.now q)

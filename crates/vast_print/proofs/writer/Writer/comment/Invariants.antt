@@ -3,11 +3,11 @@ use denote.Text.{Utf8}
 use denote.Shadow.{shadow}
 use Rattle.vast_print.specs.Printed.{plain_text}
 use Rattle.vast_print.specs.Page.{written, commented}
-use Rattle.vast_print.specs.Ink.{Wet, hang}
+use Rattle.vast_print.specs.Output.{Unstopped, indented}
 use Rattle.vast_print.proofs.writer.Writer.comment.Given as goal
 
 abbrev pub invariant-loop-line : goal.invariant-loop-line
-invariant-loop-line l = shadow (Utf8 l.rest) × (hang l.fn.self.margin (Wet l.fn.self.draft) (commented (written (plain_text l.fn.text))) ≡ hang l.fn.self.margin (Wet l.self.draft) (commented (written (plain_text l.rest)))) × (l.self.margin ≡ l.fn.self.margin)
+invariant-loop-line l = shadow (Utf8 l.rest) × (indented l.fn.self.margin (Unstopped l.fn.self.draft) (commented (written (plain_text l.fn.text))) ≡ indented l.fn.self.margin (Unstopped l.self.draft) (commented (written (plain_text l.rest)))) × (l.self.margin ≡ l.fn.self.margin)
 
 abbrev pub decreases-loop-line : goal.decreases-loop-line
 decreases-loop-line l = length l.rest

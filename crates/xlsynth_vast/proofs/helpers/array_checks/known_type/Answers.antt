@@ -7,7 +7,7 @@ use Rattle.vast_core.specs.View.{bench}
 use Rattle.xlsynth_vast.specs.ArrayReduction.{known_dimensions}
 use Rattle.xlsynth_vast.proofs.helpers.array_checks.known_type.Goals as goal
 
--- without n dimensions more, behind one
+-- without n dimensions more, after one
 
 one_more : (n : ℕ) (dimensions : List ℤ) → drop n (drop 1 dimensions) ≡ drop (n + 1) dimensions
 one_more n [] = rw add-one (drop-nil n)

@@ -1,7 +1,7 @@
 -- proofs/helpers/registers/add_registers/Answers.antt
 use Rattle.std.proofs.Common.{rules, ◌≡◌, ◌<◌, length, Ok, Err}
 use Rattle.vast_literal.specs.declared.error.VastFault.TheVariants.{Memory}
-use Rattle.xlsynth_vast.proofs.RegisterMembers.{block-unused, block-clock, block-spare, edge-unused, scope-owned, scope-older, registers-added, check-refused}
+use Rattle.xlsynth_vast.proofs.RegisterMembers.{block-unused, block-clock, block-detached, edge-unused, scope-owned, scope-older, registers-added, check-refused}
 use Rattle.xlsynth_vast.proofs.RegisterSteps.{edged-event, is-added}
 use Rattle.xlsynth_vast.proofs.RegisterValues.{registers-take-their-values, none-take}
 use Rattle.xlsynth_vast.proofs.KeptRegisters.{keeps-unused, registers-kept}
@@ -24,8 +24,8 @@ attach-requires-clause-scope c =
 pub attach-requires-clause-event : goal.attach-requires-clause-event
 attach-requires-clause-event c = edged-event _ _ c.args.clk.now c.in_ok-event.event c.in_ok-event.ensures.built
 
-pub attach-requires-clause-spare : goal.attach-requires-clause-spare
-attach-requires-clause-spare c = rw (c.in_ok-event.ensures.built.1, c.in_ok-block.ensures.0, c.in_ok-block.ensures.1) (block-spare c.args.reset c.args.registers.now c.args.file.now)
+pub attach-requires-clause-detached : goal.attach-requires-clause-detached
+attach-requires-clause-detached c = rw (c.in_ok-event.ensures.built.1, c.in_ok-block.ensures.0, c.in_ok-block.ensures.1) (block-detached c.args.reset c.args.registers.now c.args.file.now)
 
 pub attach-requires-clause-newer : goal.attach-requires-clause-newer
 attach-requires-clause-newer c = rw c.in_ok-block.ensures.0 (scope-older c.args.file.now c.args.scope c.requires.scope)

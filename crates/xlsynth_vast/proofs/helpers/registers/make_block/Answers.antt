@@ -1,7 +1,7 @@
 -- proofs/helpers/registers/make_block/Answers.antt
 use Rattle.std.proofs.Common.{sym}
 use Rattle.xlsynth_vast.proofs.RegisterParts.{wider_owned, registers-owned, unused-none}
-use Rattle.xlsynth_vast.proofs.RegisterMembers.{spare-owned, spare-registers, filled-wider, filled-owned}
+use Rattle.xlsynth_vast.proofs.RegisterMembers.{detached-owned, detached-registers, filled-wider, filled-owned}
 use Rattle.xlsynth_vast.proofs.RegisterSteps.{block-refused, start-unused, filled-unused, filled-is, block-plain, block-bare, block-branched}
 use Rattle.xlsynth_vast.proofs.helpers.registers.make_block.Goals as goal
 
@@ -9,10 +9,10 @@ pub returns-in_err-block : goal.returns-in_err-block
 returns-in_err-block c = block-refused _ _ c.from_residual.result c.args.reset c.args.registers.now c.from_residual.ensures.0 (rw c.in_err-block.ensures (unused-none _))
 
 pub assign_all-requires-clause-registers : goal.assign_all-requires-clause-registers
-assign_all-requires-clause-registers c = rw c.in_ok-block.ensures.1 (spare-registers c.args.file.now c.args.registers.now c.requires.registers)
+assign_all-requires-clause-registers c = rw c.in_ok-block.ensures.1 (detached-registers c.args.file.now c.args.registers.now c.requires.registers)
 
 pub assign_all-requires-clause-block : goal.assign_all-requires-clause-block
-assign_all-requires-clause-block c = rw (c.in_ok-block.ensures.0, c.in_ok-block.ensures.1) (spare-owned c.args.file.now)
+assign_all-requires-clause-block c = rw (c.in_ok-block.ensures.0, c.in_ok-block.ensures.1) (detached-owned c.args.file.now)
 
 pub returns-in_err-assign_all : goal.returns-in_err-assign_all
 returns-in_err-assign_all c =

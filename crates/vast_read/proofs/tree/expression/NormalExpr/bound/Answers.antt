@@ -1,6 +1,6 @@
 use Rattle.std.proofs.Common.{◌≡◌, true, false, Some, sym, ap, ◌∙◌}
 use Rattle.vast_literal.specs.NormalExpr.{NormalExpr, Binary}
-use Rattle.vast_literal.specs.Internal.MemberParser.{bound_of}
+use Rattle.vast_read.specs.Internal.Bounds.{bound_of}
 use Rattle.vast_read.specs.Internal.Bounds.{is_bounded}
 use Rattle.vast_read.specs.Texts.{infix_of}
 use Rattle.vast_read.specs.View.{view, view_step}

@@ -1,0 +1,15 @@
+pub mod Midway
+pub mod Heard
+pub mod Determined
+pub mod Moves
+pub mod Complete
+pub mod Meaning
+pub mod Sound
+pub mod Phrases
+pub mod Uniqueness
+pub mod DerivedOnce
+pub mod Computed
+pub mod Stacked
+pub mod Less
+pub mod Fused
+pub mod Loop

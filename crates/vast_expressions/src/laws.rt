@@ -1,0 +1,14 @@
+//! Laws over the grammar of expressions and its rows. The functions compute nothing.
+
+ghost use Rattle.vast_expressions.specs.Phrases.{RunsAreDerived};
+ghost use Rattle.vast_literal.specs.Grammar.{OneExpression};
+
+/// Each token list spells at most one expression.
+pub fn one_expression()
+    ensures { OneExpression }
+{}
+
+/// What the rows run is what the grammar derives.
+pub fn runs_are_derived()
+    ensures { RunsAreDerived }
+{}

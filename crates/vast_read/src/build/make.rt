@@ -1,0 +1,325 @@
+//! What each event makes.
+
+ghost use Rattle.std.specs.Prelude.{◌≡◌, ◌∷◌, IfOk};
+ghost use Rattle.vast_expressions.specs.Internal.Values.{Grown, Tree, grown, grown_first, grown_list, grown_made, grown_named, grown_one, grown_package, grown_part, grown_push, grown_replicated, grown_three, grown_two};
+ghost use Rattle.vast_expressions.specs.Internal.Views.{event_view};
+ghost use Rattle.vast_literal.specs.NormalExpr.{Binary, Call, Cast, Concat, Index, MacroCall, Pattern, Slice, Ternary, Unary, WordCast};
+ghost use Rattle.vast_read.specs.Internal.Values.{seen};
+ghost use Rattle.vast_read.specs.View.{view};
+
+use crate::build::value::{Value, Values, pop_bytes, pop_tree, pop_trees};
+use crate::children::Children;
+use crate::fault::Fault;
+use crate::tree::NormalExpr;
+use std::alloc::Global;
+use vast_expressions::{Event, Told};
+use vast_literal::{Key, Sign};
+use vast_names::Word;
+
+/// One more value on top.
+fn put<'t>(value: Value<'t>, values: &mut Values<'t>) -> Result<(), Fault>
+    ensures { IfOk result (λ _. values.new ≡ (value.entry ∷ values.old)) }
+{
+    values.push(value)?;
+    Ok(())
+}
+
+/// A sign before a tree.
+#[tactic(auto, unfolding(vast_expressions::specs::Internal::Values::grown_one))]
+fn make_unary(alloc: Global, sign: Sign, values: &mut Values<'_>) -> Result<(), Fault>
+    ensures { IfOk result (λ _. Grown (grown_one (Unary sign) (seen values.old)) (seen values.new)) }
+{
+    let Some(operand) = pop_tree(values) else {
+        return Ok(());
+    };
+    let made = NormalExpr::unary(alloc, sign, operand)?;
+    put(Value::Tree(made), values)
+}
+
+/// A cast by a keyword.
+#[tactic(auto, unfolding(vast_expressions::specs::Internal::Values::grown_one))]
+fn make_word_cast(alloc: Global, key: Key, values: &mut Values<'_>) -> Result<(), Fault>
+    ensures { IfOk result (λ _. Grown (grown_one (WordCast key) (seen values.old)) (seen values.new)) }
+{
+    let Some(operand) = pop_tree(values) else {
+        return Ok(());
+    };
+    let made = NormalExpr::word_cast(alloc, key, operand)?;
+    put(Value::Tree(made), values)
+}
+
+/// A sign between two trees.
+#[tactic(auto, unfolding(vast_expressions::specs::Internal::Values::grown_two))]
+fn make_binary(alloc: Global, sign: Sign, values: &mut Values<'_>) -> Result<(), Fault>
+    ensures { IfOk result (λ _. Grown (grown_two (Binary sign) (seen values.old)) (seen values.new)) }
+{
+    let Some(right) = pop_tree(values) else {
+        return Ok(());
+    };
+    let Some(left) = pop_tree(values) else {
+        return Ok(());
+    };
+    let made = NormalExpr::binary(alloc, sign, left, right)?;
+    put(Value::Tree(made), values)
+}
+
+/// An index.
+#[tactic(auto, unfolding(vast_expressions::specs::Internal::Values::grown_two))]
+fn make_index(alloc: Global, values: &mut Values<'_>) -> Result<(), Fault>
+    ensures { IfOk result (λ _. Grown (grown_two Index (seen values.old)) (seen values.new)) }
+{
+    let Some(index) = pop_tree(values) else {
+        return Ok(());
+    };
+    let Some(subject) = pop_tree(values) else {
+        return Ok(());
+    };
+    let made = Box::new(alloc, NormalExpr::Index(subject, index))?;
+    put(Value::Tree(made), values)
+}
+
+/// A cast by a tree.
+#[tactic(auto, unfolding(vast_expressions::specs::Internal::Values::grown_two))]
+fn make_cast(alloc: Global, values: &mut Values<'_>) -> Result<(), Fault>
+    ensures { IfOk result (λ _. Grown (grown_two Cast (seen values.old)) (seen values.new)) }
+{
+    let Some(operand) = pop_tree(values) else {
+        return Ok(());
+    };
+    let Some(head) = pop_tree(values) else {
+        return Ok(());
+    };
+    let made = Box::new(alloc, NormalExpr::Cast(head, operand))?;
+    put(Value::Tree(made), values)
+}
+
+/// A part select of this width.
+#[tactic(auto, unfolding(vast_expressions::specs::Internal::Values::grown_part))]
+fn make_part_select(alloc: Global, width: &str, values: &mut Values<'_>) -> Result<(), Fault>
+    ensures { IfOk result (λ _. Grown (grown_part width.now (seen values.old)) (seen values.new)) }
+{
+    let Some(start) = pop_tree(values) else {
+        return Ok(());
+    };
+    let Some(subject) = pop_tree(values) else {
+        return Ok(());
+    };
+    let made = NormalExpr::part_select(alloc, subject, start, width)?;
+    put(Value::Tree(made), values)
+}
+
+/// A choice.
+#[tactic(auto, unfolding(vast_expressions::specs::Internal::Values::grown_three))]
+fn make_ternary(alloc: Global, values: &mut Values<'_>) -> Result<(), Fault>
+    ensures { IfOk result (λ _. Grown (grown_three Ternary (seen values.old)) (seen values.new)) }
+{
+    let Some(second) = pop_tree(values) else {
+        return Ok(());
+    };
+    let Some(first) = pop_tree(values) else {
+        return Ok(());
+    };
+    let Some(condition) = pop_tree(values) else {
+        return Ok(());
+    };
+    let made = Box::new(alloc, NormalExpr::Ternary(condition, first, second))?;
+    put(Value::Tree(made), values)
+}
+
+/// A slice.
+#[tactic(auto, unfolding(vast_expressions::specs::Internal::Values::grown_three))]
+fn make_slice(alloc: Global, values: &mut Values<'_>) -> Result<(), Fault>
+    ensures { IfOk result (λ _. Grown (grown_three Slice (seen values.old)) (seen values.new)) }
+{
+    let Some(low) = pop_tree(values) else {
+        return Ok(());
+    };
+    let Some(high) = pop_tree(values) else {
+        return Ok(());
+    };
+    let Some(subject) = pop_tree(values) else {
+        return Ok(());
+    };
+    let made = Box::new(alloc, NormalExpr::Slice(subject, high, low))?;
+    put(Value::Tree(made), values)
+}
+
+/// A concatenation.
+#[tactic(auto, unfolding(vast_expressions::specs::Internal::Values::grown_list))]
+fn make_concat(alloc: Global, values: &mut Values<'_>) -> Result<(), Fault>
+    ensures { IfOk result (λ _. Grown (grown_list Concat (seen values.old)) (seen values.new)) }
+{
+    let Some(xs) = pop_trees(values) else {
+        return Ok(());
+    };
+    let made = Box::new(alloc, NormalExpr::Concat(xs))?;
+    put(Value::Tree(made), values)
+}
+
+/// An array pattern.
+#[tactic(auto, unfolding(vast_expressions::specs::Internal::Values::grown_list))]
+fn make_pattern(alloc: Global, values: &mut Values<'_>) -> Result<(), Fault>
+    ensures { IfOk result (λ _. Grown (grown_list Pattern (seen values.old)) (seen values.new)) }
+{
+    let Some(xs) = pop_trees(values) else {
+        return Ok(());
+    };
+    let made = Box::new(alloc, NormalExpr::Pattern(xs))?;
+    put(Value::Tree(made), values)
+}
+
+/// A replication.
+#[tactic(auto, unfolding(vast_expressions::specs::Internal::Values::grown_replicated))]
+fn make_replicated(alloc: Global, values: &mut Values<'_>) -> Result<(), Fault>
+    ensures { IfOk result (λ _. Grown (grown_replicated (seen values.old)) (seen values.new)) }
+{
+    let Some(xs) = pop_trees(values) else {
+        return Ok(());
+    };
+    let Some(count) = pop_tree(values) else {
+        return Ok(());
+    };
+    let made = Box::new(alloc, NormalExpr::Replicated(count, xs))?;
+    put(Value::Tree(made), values)
+}
+
+/// A call.
+#[tactic(auto, unfolding(vast_expressions::specs::Internal::Values::grown_named))]
+fn make_call(alloc: Global, values: &mut Values<'_>) -> Result<(), Fault>
+    ensures { IfOk result (λ _. Grown (grown_named Call (seen values.old)) (seen values.new)) }
+{
+    let Some(xs) = pop_trees(values) else {
+        return Ok(());
+    };
+    let Some(name) = pop_bytes(values) else {
+        return Ok(());
+    };
+    let name = Word::new(alloc, name)?;
+    let made = NormalExpr::call(alloc, name, xs)?;
+    put(Value::Tree(made), values)
+}
+
+/// The use of a macro with arguments.
+#[tactic(auto, unfolding(vast_expressions::specs::Internal::Values::grown_named))]
+fn make_macro_call(alloc: Global, values: &mut Values<'_>) -> Result<(), Fault>
+    ensures { IfOk result (λ _. Grown (grown_named MacroCall (seen values.old)) (seen values.new)) }
+{
+    let Some(xs) = pop_trees(values) else {
+        return Ok(());
+    };
+    let Some(name) = pop_bytes(values) else {
+        return Ok(());
+    };
+    let name = Word::new(alloc, name)?;
+    let made = NormalExpr::macro_call(alloc, name, xs)?;
+    put(Value::Tree(made), values)
+}
+
+/// A cast by a package's type.
+#[tactic(auto, unfolding(vast_expressions::specs::Internal::Values::grown_package))]
+fn make_package_cast(alloc: Global, values: &mut Values<'_>) -> Result<(), Fault>
+    ensures { IfOk result (λ _. Grown (grown_package (seen values.old)) (seen values.new)) }
+{
+    let Some(operand) = pop_tree(values) else {
+        return Ok(());
+    };
+    let Some(name) = pop_bytes(values) else {
+        return Ok(());
+    };
+    let Some(scope) = pop_bytes(values) else {
+        return Ok(());
+    };
+    let scope = Word::new(alloc, scope)?;
+    let name = Word::new(alloc, name)?;
+    let made = NormalExpr::package_cast(alloc, scope, name, operand)?;
+    put(Value::Tree(made), values)
+}
+
+/// A list of one tree.
+#[tactic(auto, unfolding(vast_expressions::specs::Internal::Values::grown_first))]
+fn make_first(alloc: Global, values: &mut Values<'_>) -> Result<(), Fault>
+    ensures { IfOk result (λ _. Grown (grown_first (seen values.old)) (seen values.new)) }
+{
+    let Some(x) = pop_tree(values) else {
+        return Ok(());
+    };
+    let mut trees = Children::new(alloc);
+    trees.push(Box::into_inner(x))?;
+    put(Value::Trees(trees), values)
+}
+
+/// One more tree at the end of a list.
+#[tactic(auto, using(crate::proofs::Trees::listed_more), unfolding(vast_expressions::specs::Internal::Values::grown_push))]
+fn make_push(values: &mut Values<'_>) -> Result<(), Fault>
+    ensures { IfOk result (λ _. Grown (grown_push (seen values.old)) (seen values.new)) }
+{
+    let Some(x) = pop_tree(values) else {
+        return Ok(());
+    };
+    let Some(xs) = pop_trees(values) else {
+        return Ok(());
+    };
+    let mut trees = xs;
+    trees.push(Box::into_inner(x))?;
+    put(Value::Trees(trees), values)
+}
+
+/// What is made of what was made before.
+fn make(alloc: Global, told: Told, values: &mut Values<'_>) -> Result<(), Fault>
+    ensures { IfOk result (λ _. Grown (grown_made told (seen values.old)) (seen values.new)) }
+{
+    match told {
+        Told::Unary(sign) => make_unary(alloc, sign, values),
+        Told::Binary(sign) => make_binary(alloc, sign, values),
+        Told::Ternary => make_ternary(alloc, values),
+        Told::Index => make_index(alloc, values),
+        Told::Slice => make_slice(alloc, values),
+        Told::NoneYet => put(Value::Trees(Children::new(alloc)), values),
+        Told::One => make_first(alloc, values),
+        Told::Push => make_push(values),
+        Told::Concat => make_concat(alloc, values),
+        Told::Pattern => make_pattern(alloc, values),
+        Told::Replicated => make_replicated(alloc, values),
+        Told::Call => make_call(alloc, values),
+        Told::MacroCall => make_macro_call(alloc, values),
+        Told::Cast => make_cast(alloc, values),
+        Told::PackageCast => make_package_cast(alloc, values),
+        Told::WordCast(key) => make_word_cast(alloc, key, values),
+    }
+}
+
+/// A tree of no parts.
+fn put_leaf(alloc: Global, leaf: NormalExpr, values: &mut Values<'_>) -> Result<(), Fault>
+    ensures { IfOk result (λ _. seen values.new ≡ (Tree (view leaf) ∷ seen values.old)) }
+{
+    let made = Box::new(alloc, leaf)?;
+    put(Value::Tree(made), values)
+}
+
+/// What an event makes.
+pub(crate) fn hear<'t>(
+    alloc: Global,
+    event: Event<'t>,
+    values: &mut Values<'t>,
+) -> Result<(), Fault>
+    ensures { IfOk result (λ _. Grown (grown (event_view event.entry) (seen values.old))
+        (seen values.new)) }
+{
+    match event {
+        Event::Name(text) => put_leaf(alloc, NormalExpr::Name(Word::new(alloc, text)?), values),
+        Event::Literal(text) => {
+            put_leaf(alloc, NormalExpr::Literal(Word::new(alloc, text)?), values)
+        }
+        Event::Text(text) => put_leaf(alloc, NormalExpr::Text(Word::new(alloc, text)?), values),
+        Event::MacroAlone(text) => {
+            put_leaf(
+                alloc,
+                NormalExpr::MacroAlone(Word::new(alloc, text)?),
+                values,
+            )
+        }
+        Event::Word(text) => put(Value::Bytes(text), values),
+        Event::PartSelect(width) => make_part_select(alloc, width, values),
+        Event::Made(told) => make(alloc, told, values),
+    }
+}
