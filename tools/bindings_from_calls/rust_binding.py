@@ -6,6 +6,8 @@ import re
 import shutil
 import subprocess
 
+from python_words import IN_FUNCTION, REFUSALS
+
 ROOT = pathlib.Path(__file__).resolve().parent.parent.parent
 METHODS = "bindings/rust/src/methods"
 CALLS = "bindings/rust/tests/lists/calls.rs"
@@ -29,6 +31,36 @@ LOOKS = {
     "make_packed_array_type": "|state| packed_condition(state, element_step, dimensions)",
     "make_unpacked_array_type": "|_| unpacked_condition(dimensions)",
     "make_type_cast": "|state| cast_condition(state, data_type_step)",
+}
+
+# What tells for certain that a clause of a call is met, or that it is not refused, by the words of the clause or of the
+# refusal. A call waits where all of its own are told so; one with a clause that is not here is made at once.
+TELLS = {
+    "1 ≤ bit_count": "bit_count >= 1",
+    "1 ≤ width": "width >= 1",
+    "0 ≤ hi": "hi >= 0",
+    "0 ≤ lo": "lo >= 0",
+    "0 ≤ index": "index >= 0",
+    "name ≢ []": "!name.is_empty()",
+    "AreDimensions dimensions": "are_dimensions(dimensions)",
+    "NameIsFree owner name": "self.known().enter(owner_step, name)",
+    "has_else (slice_get nests conditional.id.index) ≡ false": "!self.known().has_else(conditional_step)",
+    "is_castable (type_of data_type)": "!self.known().is_array(data_type_step)",
+    # Asserted before.
+    "length parameter_names ≡ length parameter_expressions": "true",
+    "length connection_names ≡ length connection_expressions": "true",
+    REFUSALS["make_literal"]: "is_small_literal(text)",
+    REFUSALS["make_binary_pattern"]: "is_pattern(bits_msb)",
+    REFUSALS["case_set_unique"]: "!unique || self.file_type == VastFileType::SystemVerilog",
+    REFUSALS["add_reg"]: "self.known().enter(owner_step, name)",
+    REFUSALS["add_function"]: "self.known().enter(owner_step, name) && !self.known().is_array(result_type_step)",
+    IN_FUNCTION: "self.known().enter(function_step, name)",
+}
+
+# What is kept of a call that is made, to tell so of later ones.
+KEEPS = {
+    "add_function": "self.known().enter(made.step, name);",
+    "conditional_add_else": "self.known().keep_else(conditional_step);",
 }
 
 # Directions of ports, which are kept for the calls that answer handles of ports.
@@ -129,7 +161,7 @@ def argument(name, kind, form):
     if kind in ("DataKind", "&LiteralFormat"):
         return None, f".word({name}.word())"
     if kind == "Option<&str>":
-        return None, f".option({name}, Line::text)"
+        return None, f".option({name}, Lines::text)"
     if kind == "&[i64]":
         return None, f".numbers({name})"
     if kind == "&[&str]":
@@ -187,8 +219,32 @@ def asked_once(call, method):
     return f"        {method.answer}({step})"
 
 
-def body(call, name, method, forms):
+def certainty(entry):
+    """What tells for certain that nothing refuses the call: `true`, `false` or an expression of Rust."""
+    clauses = entry.conditions + ((REFUSALS[entry.method],) if entry.is_refused else ())
+    tests = [TELLS.get(clause, "false") for clause in clauses]
+    return "false" if "false" in tests else " && ".join(test for test in tests if test != "true") or "true"
+
+
+def made_by(entry, method, write):
+    """The expression that makes the call, whose arguments are written by a closure."""
+    name = entry.method
+    told = certainty(entry)
+    is_certain = told if told in ("true", "false") else "is_certain"
+    if entry.is_refused:
+        return f'self.allowed({is_certain}, "{entry.call}", {write})?'
+    if name in LOOKS:
+        return f'self.made_or({is_certain}, "{entry.call}", {write}, {LOOKS[name]})'
+    if told == "true":
+        return f'self.later("{entry.call}", {write})'
+    condition = "module ports must have unique names" if name in PORTS else CONDITIONS[name]
+    return f'self.made({is_certain}, "{entry.call}", "{condition}", {write})'
+
+
+def body(entry, method):
     """The method's body."""
+    call, name = entry.call, entry.method
+    forms = [parameter.type.form for parameter in entry.parameters]
     if name in ("make_indexable_expression", "generate_genvar", "function_body", "function_result",
                 "statement_block", "conditional_then_block"):
         return asked_once(call, method)
@@ -200,27 +256,25 @@ def body(call, name, method, forms):
         looked, writes = argument(label, kind, form)
         lines += [looked] if looked else []
         written.append(writes)
-    condition = "module ports must have unique names" if name in PORTS else CONDITIONS.get(name, "")
-    write = written_by(written)
-    if method.can_be_refused:
-        made = f'self.allowed("{call}", {write})?'
-    elif name in LOOKS:
-        made = f'self.made_or("{call}", {write}, {LOOKS[name]})'
-    else:
-        made = f'self.made("{call}", "{condition}", {write})'
+    told = certainty(entry)
+    if told not in ("true", "false"):
+        lines.append(f"let is_certain = {told};")
+    made = made_by(entry, method, written_by(written))
     answers = method.answer != "()" and name not in BLOCK_ANSWERS
-    if name in PORTS or name in WIDTHS:
+    kept = [KEEPS[name]] if name in KEEPS else []
+    if name in PORTS:
+        kept.append(f"self.keep_port(owner_step, ModulePortDirection::{PORTS[name]}, data_type_step, made);")
+    if name in WIDTHS:
+        kept.append(f"self.keep_width(made, {WIDTHS[name]});")
+    if kept:
         lines.append(f"let made = {made};")
     elif not answers:
         lines.append(f"{made};")
-    if name in PORTS:
-        lines.append(f"self.keep_port(owner_step, ModulePortDirection::{PORTS[name]}, name, data_type_step, made);")
-    if name in WIDTHS:
-        lines.append(f"self.keep_width(made, {WIDTHS[name]});")
+    lines += kept
     if name in BLOCK_ANSWERS:
         lines.append(f"VastStatement({method.parameters[0][0]}.0)")
     elif answers:
-        value = f"{method.answer}({'made' if name in PORTS or name in WIDTHS else made})"
+        value = f"{method.answer}({'made' if kept else made})"
         lines.append(f"Ok({value})" if method.can_be_refused else value)
     elif method.can_be_refused:
         lines.append("Ok(())")
@@ -229,7 +283,7 @@ def body(call, name, method, forms):
 
 def written_by(written):
     """The closure that writes the arguments."""
-    return "|line| line" + "".join(written) if written else "|line| line"
+    return "|lines| lines" + "".join(written)
 
 
 def result_of(name, method):
@@ -247,25 +301,25 @@ def text(table, group):
             continue
         name = entry.method
         method, receiver = found[name]
-        forms = [parameter.type.form for parameter in entry.parameters]
         parts.append("\n".join([comment(name, method), signature(name, method, receiver, result_of(name, method)),
-                                body(entry.call, name, method, forms), "    }"]))
+                                body(entry, method), "    }"]))
     code = "\n\n".join(parts)
     return rustfmt(HEAD % (GROUPS[group], uses(code)) + code + "\n}\n")
 
 
 # Where what the methods name stands.
 PLACES = {
-    "conditions": ["cast_condition", "packed_condition", "unpacked_condition"],
+    "conditions": ["are_dimensions", "cast_condition", "packed_condition", "unpacked_condition"],
     "error": ["VastError"],
     "file": ["VastFile"],
     "handles": ["BlankLine", "CaseStatement", "Comment", "Conditional", "ContinuousAssignment", "Def", "Expr",
                 "GenerateLoop", "Index", "IndexableExpr", "InlineVerilogStatement", "Instantiation", "LocalparamRef",
                 "LogicRef", "MacroRef", "MacroStatement", "ParameterRef", "Slice", "VastAlwaysBase", "VastDataType",
                 "VastFunction", "VastModule", "VastStatement", "VastStatementBlock"],
-    "kinds": ["DataKind", "LiteralFormat", "ModulePortDirection"],
+    "kinds": ["DataKind", "LiteralFormat", "ModulePortDirection", "VastFileType"],
     "known": ["Width"],
-    "line": ["Line"],
+    "line": ["Lines"],
+    "literal": ["is_pattern", "is_small_literal"],
 }
 
 

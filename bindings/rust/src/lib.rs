@@ -31,8 +31,11 @@ mod inspect;
 mod kinds;
 mod known;
 mod line;
+mod literal;
 mod methods;
+mod mixer;
 mod session;
+mod state;
 mod warning;
 
 pub use error::VastError;
