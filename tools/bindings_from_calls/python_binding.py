@@ -3,9 +3,10 @@ file."""
 import keyword
 import re
 
-from python_text import WIDTH, doc, wrapped
+from python_text import WIDTH, called, doc, wrapped
 from python_words import CONDITIONS, MEANINGS, NOTES, REFUSALS, SAYS
 from table import Type, parts
+from waiting import COMPARED, NAMED, clauses, tests
 
 FOLDER = "bindings/python/vast"
 HEAD = '"""{}\n\nWritten by tools/bindings_from_calls from the table of calls; not to be edited."""\n'
@@ -41,6 +42,12 @@ DEFAULTS = {
     "label": "None",
     "reset_value": "None",
     "enable": "None",
+}
+# What tells for certain that a clause is met, or that a call is not refused so.
+TELLS = {
+    **COMPARED,
+    "name ≢ []": 'name != ""',
+    REFUSALS["make_literal"]: "is_small_literal(text)",
 }
 INTEGERS = {(-(2**31), 2**31 - 1): "int32", (-(2**63), 2**63 - 1): "int64", (0, 2**64 - 1): "size"}
 
@@ -235,8 +242,8 @@ class PythonBinding:
             + [f"    {name}," for name in self.imported("\n".join(body))]
             + [
                 ")",
-                "from .writing import int32, int64, listed, optional, quoted, size, truth, word",
-                "from .writing import read_number, read_optional, read_ports, read_truth\n\n",
+                "from .writing import int32, int64, is_small_literal, listed, optional, quoted",
+                "from .writing import read_number, read_optional, read_ports, read_truth, size, truth, word\n\n",
                 "class Calls(Core):",
                 '    """Each call of the table, by its name in snake case."""\n',
             ]
@@ -315,18 +322,26 @@ class PythonBinding:
         return "\n".join(said)
 
     def body(self, call):
-        """The statement that writes the line."""
-        given = "".join(
-            " {" + self.written(parameter.type, parameter.name) + "}" for parameter in call.parameters
-        )
-        line = f'f"{call.call}{given}"' if given else f'"{call.call}"'
+        """The statements that write the line."""
+        given = [self.written(parameter.type, parameter.name) for parameter in call.parameters]
+        written = "".join(" {" + each + "}" for each in given)
+        line = f'f"{call.call}{written}"' if written else f'"{call.call}"'
         if call.is_question:
             ask = f"self._ask({line})"
             return wrapped("        return ", READERS[reader_key(call.answer)].format(ask))
-        made = f"self._{'now' if call.may_fault else 'later'}({line})"
         if call.answer.form == "nothing":
-            return wrapped("        ", made)
-        return wrapped("        return ", f"{class_of(self.kinds[call.answer.of])}(self, {made})")
+            return called("        ", "self._now" if call.may_fault else "self._later", line)
+        kind = class_of(self.kinds[call.answer.of])
+        if call.may_fault and all(clause in NAMED for clause in clauses(call)):
+            owner, name, rest = given
+            entry = f'        entry = f"{{{owner}}} {{{name}}}"'
+            return f'{entry}\n        return self._named("{call.call}", entry, {rest}, {kind})'
+        told = tests(call, TELLS)
+        if told is None:
+            return called("        return ", "self._now", line, kind)
+        if told:
+            return called("        return ", "self._if", line, kind, " and ".join(told))
+        return called("        return ", "self._later", line, kind)
 
 
 # How an answer's text is read.

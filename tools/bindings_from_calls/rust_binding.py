@@ -7,6 +7,7 @@ import shutil
 import subprocess
 
 from python_words import IN_FUNCTION, REFUSALS
+from waiting import COMPARED, tests
 
 ROOT = pathlib.Path(__file__).resolve().parent.parent.parent
 METHODS = "bindings/rust/src/methods"
@@ -33,14 +34,10 @@ LOOKS = {
     "make_type_cast": "|state| cast_condition(state, data_type_step)",
 }
 
-# What tells for certain that a clause of a call is met, or that it is not refused, by the words of the clause or of the
-# refusal. A call waits where all of its own are told so; one with a clause that is not here is made at once.
+# What tells for certain that a clause is met, or that a call is not refused so. A call waits where all of its own are told so;
+# one with a clause that is not here is made at once.
 TELLS = {
-    "1 ≤ bit_count": "bit_count >= 1",
-    "1 ≤ width": "width >= 1",
-    "0 ≤ hi": "hi >= 0",
-    "0 ≤ lo": "lo >= 0",
-    "0 ≤ index": "index >= 0",
+    **COMPARED,
     "name ≢ []": "!name.is_empty()",
     "AreDimensions dimensions": "are_dimensions(dimensions)",
     "NameIsFree owner name": "self.known().enter(owner_step, name)",
@@ -221,9 +218,10 @@ def asked_once(call, method):
 
 def certainty(entry):
     """What tells for certain that nothing refuses the call: `true`, `false` or an expression of Rust."""
-    clauses = entry.conditions + ((REFUSALS[entry.method],) if entry.is_refused else ())
-    tests = [TELLS.get(clause, "false") for clause in clauses]
-    return "false" if "false" in tests else " && ".join(test for test in tests if test != "true") or "true"
+    told = tests(entry, TELLS)
+    if told is None:
+        return "false"
+    return " && ".join(test for test in told if test != "true") or "true"
 
 
 def made_by(entry, method, write):

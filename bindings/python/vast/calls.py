@@ -42,8 +42,8 @@ from .kinds import (
     StatementBlock,
     TypeLike,
 )
-from .writing import int32, int64, listed, optional, quoted, size, truth, word
-from .writing import read_number, read_optional, read_ports, read_truth
+from .writing import int32, int64, is_small_literal, listed, optional, quoted
+from .writing import read_number, read_optional, read_ports, read_truth, size, truth, word
 
 
 class Calls(Core):
@@ -60,127 +60,127 @@ class Calls(Core):
 
     def make_not(self, expression: Operand) -> Expr:
         """The bitwise complement `~a`, as `make_bitwise_not` makes it."""
-        return Expr(self, self._later(f"MakeNot {self._value(expression)}"))
+        return self._later(f"MakeNot {self._value(expression)}", Expr)
 
     def make_bitwise_not(self, expression: Operand) -> Expr:
         """The bitwise complement `~a`."""
-        return Expr(self, self._later(f"MakeBitwiseNot {self._value(expression)}"))
+        return self._later(f"MakeBitwiseNot {self._value(expression)}", Expr)
 
     def make_negate(self, expression: Operand) -> Expr:
         """The negation `-a`."""
-        return Expr(self, self._later(f"MakeNegate {self._value(expression)}"))
+        return self._later(f"MakeNegate {self._value(expression)}", Expr)
 
     def make_logical_not(self, expression: Operand) -> Expr:
         """The logical complement `!a`."""
-        return Expr(self, self._later(f"MakeLogicalNot {self._value(expression)}"))
+        return self._later(f"MakeLogicalNot {self._value(expression)}", Expr)
 
     def make_and_reduce(self, expression: Operand) -> Expr:
         """The AND of all bits, `&a`."""
-        return Expr(self, self._later(f"MakeAndReduce {self._value(expression)}"))
+        return self._later(f"MakeAndReduce {self._value(expression)}", Expr)
 
     def make_or_reduce(self, expression: Operand) -> Expr:
         """The OR of all bits, `|a`."""
-        return Expr(self, self._later(f"MakeOrReduce {self._value(expression)}"))
+        return self._later(f"MakeOrReduce {self._value(expression)}", Expr)
 
     def make_xor_reduce(self, expression: Operand) -> Expr:
         """The XOR of all bits, `^a`."""
-        return Expr(self, self._later(f"MakeXorReduce {self._value(expression)}"))
+        return self._later(f"MakeXorReduce {self._value(expression)}", Expr)
 
     def make_add(self, lhs: Operand, rhs: Operand) -> Expr:
         """The sum `a + b`."""
-        return Expr(self, self._later(f"MakeAdd {self._value(lhs)} {self._value(rhs)}"))
+        return self._later(f"MakeAdd {self._value(lhs)} {self._value(rhs)}", Expr)
 
     def make_sub(self, lhs: Operand, rhs: Operand) -> Expr:
         """The difference `a - b`."""
-        return Expr(self, self._later(f"MakeSub {self._value(lhs)} {self._value(rhs)}"))
+        return self._later(f"MakeSub {self._value(lhs)} {self._value(rhs)}", Expr)
 
     def make_mul(self, lhs: Operand, rhs: Operand) -> Expr:
         """The product `a * b`."""
-        return Expr(self, self._later(f"MakeMul {self._value(lhs)} {self._value(rhs)}"))
+        return self._later(f"MakeMul {self._value(lhs)} {self._value(rhs)}", Expr)
 
     def make_div(self, lhs: Operand, rhs: Operand) -> Expr:
         """The quotient `a / b`."""
-        return Expr(self, self._later(f"MakeDiv {self._value(lhs)} {self._value(rhs)}"))
+        return self._later(f"MakeDiv {self._value(lhs)} {self._value(rhs)}", Expr)
 
     def make_mod(self, lhs: Operand, rhs: Operand) -> Expr:
         """The remainder `a % b`."""
-        return Expr(self, self._later(f"MakeMod {self._value(lhs)} {self._value(rhs)}"))
+        return self._later(f"MakeMod {self._value(lhs)} {self._value(rhs)}", Expr)
 
     def make_power(self, lhs: Operand, rhs: Operand) -> Expr:
         """The power `a ** b`."""
-        return Expr(self, self._later(f"MakePower {self._value(lhs)} {self._value(rhs)}"))
+        return self._later(f"MakePower {self._value(lhs)} {self._value(rhs)}", Expr)
 
     def make_bitwise_and(self, lhs: Operand, rhs: Operand) -> Expr:
         """The bitwise AND `a & b`."""
-        return Expr(self, self._later(f"MakeBitwiseAnd {self._value(lhs)} {self._value(rhs)}"))
+        return self._later(f"MakeBitwiseAnd {self._value(lhs)} {self._value(rhs)}", Expr)
 
     def make_bitwise_or(self, lhs: Operand, rhs: Operand) -> Expr:
         """The bitwise OR `a | b`."""
-        return Expr(self, self._later(f"MakeBitwiseOr {self._value(lhs)} {self._value(rhs)}"))
+        return self._later(f"MakeBitwiseOr {self._value(lhs)} {self._value(rhs)}", Expr)
 
     def make_bitwise_xor(self, lhs: Operand, rhs: Operand) -> Expr:
         """The bitwise XOR `a ^ b`."""
-        return Expr(self, self._later(f"MakeBitwiseXor {self._value(lhs)} {self._value(rhs)}"))
+        return self._later(f"MakeBitwiseXor {self._value(lhs)} {self._value(rhs)}", Expr)
 
     def make_shll(self, lhs: Operand, rhs: Operand) -> Expr:
         """The logical shift to the left, `a << b`."""
-        return Expr(self, self._later(f"MakeShll {self._value(lhs)} {self._value(rhs)}"))
+        return self._later(f"MakeShll {self._value(lhs)} {self._value(rhs)}", Expr)
 
     def make_shra(self, lhs: Operand, rhs: Operand) -> Expr:
         """The arithmetic shift to the right, `a >>> b`."""
-        return Expr(self, self._later(f"MakeShra {self._value(lhs)} {self._value(rhs)}"))
+        return self._later(f"MakeShra {self._value(lhs)} {self._value(rhs)}", Expr)
 
     def make_shrl(self, lhs: Operand, rhs: Operand) -> Expr:
         """The logical shift to the right, `a >> b`."""
-        return Expr(self, self._later(f"MakeShrl {self._value(lhs)} {self._value(rhs)}"))
+        return self._later(f"MakeShrl {self._value(lhs)} {self._value(rhs)}", Expr)
 
     def make_ne(self, lhs: Operand, rhs: Operand) -> Expr:
         """The inequality `a != b`."""
-        return Expr(self, self._later(f"MakeNe {self._value(lhs)} {self._value(rhs)}"))
+        return self._later(f"MakeNe {self._value(lhs)} {self._value(rhs)}", Expr)
 
     def make_case_ne(self, lhs: Operand, rhs: Operand) -> Expr:
         """The inequality with unknown bits compared too, `a !== b`."""
-        return Expr(self, self._later(f"MakeCaseNe {self._value(lhs)} {self._value(rhs)}"))
+        return self._later(f"MakeCaseNe {self._value(lhs)} {self._value(rhs)}", Expr)
 
     def make_eq(self, lhs: Operand, rhs: Operand) -> Expr:
         """The equality `a == b`."""
-        return Expr(self, self._later(f"MakeEq {self._value(lhs)} {self._value(rhs)}"))
+        return self._later(f"MakeEq {self._value(lhs)} {self._value(rhs)}", Expr)
 
     def make_case_eq(self, lhs: Operand, rhs: Operand) -> Expr:
         """The equality with unknown bits compared too, `a === b`."""
-        return Expr(self, self._later(f"MakeCaseEq {self._value(lhs)} {self._value(rhs)}"))
+        return self._later(f"MakeCaseEq {self._value(lhs)} {self._value(rhs)}", Expr)
 
     def make_ge(self, lhs: Operand, rhs: Operand) -> Expr:
         """The comparison `a >= b`."""
-        return Expr(self, self._later(f"MakeGe {self._value(lhs)} {self._value(rhs)}"))
+        return self._later(f"MakeGe {self._value(lhs)} {self._value(rhs)}", Expr)
 
     def make_gt(self, lhs: Operand, rhs: Operand) -> Expr:
         """The comparison `a > b`."""
-        return Expr(self, self._later(f"MakeGt {self._value(lhs)} {self._value(rhs)}"))
+        return self._later(f"MakeGt {self._value(lhs)} {self._value(rhs)}", Expr)
 
     def make_le(self, lhs: Operand, rhs: Operand) -> Expr:
         """The comparison `a <= b`."""
-        return Expr(self, self._later(f"MakeLe {self._value(lhs)} {self._value(rhs)}"))
+        return self._later(f"MakeLe {self._value(lhs)} {self._value(rhs)}", Expr)
 
     def make_lt(self, lhs: Operand, rhs: Operand) -> Expr:
         """The comparison `a < b`."""
-        return Expr(self, self._later(f"MakeLt {self._value(lhs)} {self._value(rhs)}"))
+        return self._later(f"MakeLt {self._value(lhs)} {self._value(rhs)}", Expr)
 
     def make_logical_and(self, lhs: Operand, rhs: Operand) -> Expr:
         """The logical AND `a && b`."""
-        return Expr(self, self._later(f"MakeLogicalAnd {self._value(lhs)} {self._value(rhs)}"))
+        return self._later(f"MakeLogicalAnd {self._value(lhs)} {self._value(rhs)}", Expr)
 
     def make_logical_or(self, lhs: Operand, rhs: Operand) -> Expr:
         """The logical OR `a || b`."""
-        return Expr(self, self._later(f"MakeLogicalOr {self._value(lhs)} {self._value(rhs)}"))
+        return self._later(f"MakeLogicalOr {self._value(lhs)} {self._value(rhs)}", Expr)
 
     def make_ne_x(self, lhs: Operand, rhs: Operand) -> Expr:
         """The inequality with an unknown value, written `a !== b`."""
-        return Expr(self, self._later(f"MakeNeX {self._value(lhs)} {self._value(rhs)}"))
+        return self._later(f"MakeNeX {self._value(lhs)} {self._value(rhs)}", Expr)
 
     def make_eq_x(self, lhs: Operand, rhs: Operand) -> Expr:
         """The equality with an unknown value, written `a === b`."""
-        return Expr(self, self._later(f"MakeEqX {self._value(lhs)} {self._value(rhs)}"))
+        return self._later(f"MakeEqX {self._value(lhs)} {self._value(rhs)}", Expr)
 
     def make_literal(self, text: str, format: LiteralFormat) -> Expr:
         """The literal `bits[N]:value`, written in a format.
@@ -188,7 +188,11 @@ class Calls(Core):
         `text`: `bits[WIDTH]:VALUE`, of 1 to 1,048,576 bits and a value below 2^128.
         Raises `Refused` where the text is no such literal, or the format doesn't hold its value.
         """
-        return Expr(self, self._now(f"MakeLiteral {quoted(text)} {word(LiteralFormat, format)}"))
+        return self._if(
+            f"MakeLiteral {quoted(text)} {word(LiteralFormat, format)}",
+            Expr,
+            is_small_literal(text),
+        )
 
     def make_binary_pattern(self, bits_msb: str) -> Expr:
         """The binary pattern of these digits `0`, `1` and `?`, the most significant first, as wide
@@ -197,37 +201,35 @@ class Calls(Core):
         `bits_msb`: digits `0`, `1` and `?`, the highest first.
         Raises `Refused` where there is another digit, none, or more than 1,048,576.
         """
-        return Expr(self, self._now(f"MakeBinaryPattern {quoted(bits_msb)}"))
+        return self._now(f"MakeBinaryPattern {quoted(bits_msb)}", Expr)
 
     def make_unsized_decimal_literal(self, value: int) -> Expr:
         """The number in decimal, without a width; a negative one has its minus."""
-        return Expr(self, self._later(f"MakeUnsizedDecimalLiteral {int32(value)}"))
+        return self._later(f"MakeUnsizedDecimalLiteral {int32(value)}", Expr)
 
     def make_string_literal(self, value: str) -> Expr:
         """The string of this content."""
-        return Expr(self, self._later(f"MakeStringLiteral {quoted(value)}"))
+        return self._later(f"MakeStringLiteral {quoted(value)}", Expr)
 
     def make_unsized_one_literal(self) -> Expr:
         """All ones, `'1`."""
-        return Expr(self, self._later("MakeUnsizedOneLiteral"))
+        return self._later("MakeUnsizedOneLiteral", Expr)
 
     def make_unsized_zero_literal(self) -> Expr:
         """All zeros, `'0`."""
-        return Expr(self, self._later("MakeUnsizedZeroLiteral"))
+        return self._later("MakeUnsizedZeroLiteral", Expr)
 
     def make_unsized_x_literal(self) -> Expr:
         """All bits unknown, `'X`."""
-        return Expr(self, self._later("MakeUnsizedXLiteral"))
+        return self._later("MakeUnsizedXLiteral", Expr)
 
     def make_name(self, name: str) -> Expr:
         """The bare name, which prints as it is and has no type."""
-        return Expr(self, self._later(f"MakeName {quoted(name)}"))
+        return self._later(f"MakeName {quoted(name)}", Expr)
 
     def make_indexable_expression(self, expression: Operand) -> IndexableExpr:
         """The same node, as an expression that may be selected from."""
-        return IndexableExpr(self, self._later(
-            f"MakeIndexableExpression {self._value(expression)}"
-        ))
+        return self._later(f"MakeIndexableExpression {self._value(expression)}", IndexableExpr)
 
     def make_slice(self, subject: Selectable, hi: int, lo: int) -> Slice:
         """The range `s[hi:lo]` between two numbers, for which literals are made, that of `hi`
@@ -237,7 +239,11 @@ class Calls(Core):
         `lo`: a bit's or an element's number, from 0.
         Raises `Condition` unless: hi at least 0, lo at least 0.
         """
-        return Slice(self, self._now(f"MakeSlice {self._subject(subject)} {int64(hi)} {int64(lo)}"))
+        return self._if(
+            f"MakeSlice {self._subject(subject)} {int64(hi)} {int64(lo)}",
+            Slice,
+            hi >= 0 and lo >= 0,
+        )
 
     def make_index(self, subject: Selectable, index: int) -> Index:
         """The bit `s[index]`, by a number, for which a literal is made.
@@ -245,7 +251,7 @@ class Calls(Core):
         `index`: a bit's or an element's number, from 0.
         Raises `Condition` unless: index at least 0.
         """
-        return Index(self, self._now(f"MakeIndex {self._subject(subject)} {int64(index)}"))
+        return self._if(f"MakeIndex {self._subject(subject)} {int64(index)}", Index, index >= 0)
 
     def make_slice_expr(self, subject: Selectable, hi: Operand, lo: Operand) -> Slice:
         """The range `s[hi:lo]` between two bounds that are expressions.
@@ -253,15 +259,14 @@ class Calls(Core):
         `hi`: a bit's or an element's number.
         `lo`: a bit's or an element's number.
         """
-        return Slice(self, self._later(
-            f"MakeSliceExpr {self._subject(subject)} {self._value(hi)} {self._value(lo)}"
-        ))
+        return self._later(
+            f"MakeSliceExpr {self._subject(subject)} {self._value(hi)} {self._value(lo)}",
+            Slice,
+        )
 
     def make_index_expr(self, subject: Selectable, index: Operand) -> Index:
         """The bit `s[index]`, by an expression."""
-        return Index(self, self._later(
-            f"MakeIndexExpr {self._subject(subject)} {self._value(index)}"
-        ))
+        return self._later(f"MakeIndexExpr {self._subject(subject)} {self._value(index)}", Index)
 
     def make_indexed_part_select(self, subject: Selectable, start: Operand, width: int) -> Expr:
         """The range `s[start +: width]` of so many bits upwards.
@@ -269,101 +274,105 @@ class Calls(Core):
         `width`: in bits, or in elements of an array.
         Raises `Condition` unless: width at least 1.
         """
-        return Expr(self, self._now(
-            f"MakeIndexedPartSelect {self._subject(subject)} {self._value(start)} {int64(width)}"
-        ))
+        return self._if(
+            f"MakeIndexedPartSelect {self._subject(subject)} {self._value(start)} {int64(width)}",
+            Expr,
+            width >= 1,
+        )
 
     def make_function_call(self, name: str, arguments: Sequence[Operand]) -> Expr:
         """The call `f(a, b)` of a function of this name.
 
         Raises `Condition` unless: name not empty.
         """
-        return Expr(self, self._now(
-            f"MakeFunctionCall {quoted(name)} {listed(self._value, arguments)}"
-        ))
+        return self._if(
+            f"MakeFunctionCall {quoted(name)} {listed(self._value, arguments)}",
+            Expr,
+            name != "",
+        )
 
     def make_concat(self, expressions: Sequence[Operand]) -> Expr:
         """The concatenation `{a, b}`; there may be no parts."""
-        return Expr(self, self._later(f"MakeConcat {listed(self._value, expressions)}"))
+        return self._later(f"MakeConcat {listed(self._value, expressions)}", Expr)
 
     def make_replicated_concat(self, replication: Operand, elements: Sequence[Operand]) -> Expr:
         """The replicated concatenation `{n{a, b}}`."""
-        return Expr(self, self._later(
-            f"MakeReplicatedConcat {self._value(replication)} {listed(self._value, elements)}"
-        ))
+        return self._later(
+            f"MakeReplicatedConcat {self._value(replication)} {listed(self._value, elements)}",
+            Expr,
+        )
 
     def make_replicated_concat_i64(self, replication: int, elements: Sequence[Operand]) -> Expr:
         """The replicated concatenation by a number, for which a literal is made too.
 
         `replication`: how many times.
         """
-        return Expr(self, self._later(
-            f"MakeReplicatedConcatI64 {int64(replication)} {listed(self._value, elements)}"
-        ))
+        return self._later(
+            f"MakeReplicatedConcatI64 {int64(replication)} {listed(self._value, elements)}",
+            Expr,
+        )
 
     def make_array_assignment_pattern(self, elements: Sequence[Operand]) -> Expr:
         """The array assignment pattern `'{a, b}`."""
-        return Expr(self, self._later(
-            f"MakeArrayAssignmentPattern {listed(self._value, elements)}"
-        ))
+        return self._later(f"MakeArrayAssignmentPattern {listed(self._value, elements)}", Expr)
 
     def make_ternary(self, condition: Operand, consequent: Operand, alternate: Operand) -> Expr:
         """The choice `c ? a : b`."""
-        return Expr(self, self._later(
+        return self._later(
             f"MakeTernary {self._value(condition)} {self._value(consequent)}"
-            f" {self._value(alternate)}"
-        ))
+            f" {self._value(alternate)}",
+            Expr,
+        )
 
     def make_width_cast(self, width: Operand, value: Operand) -> Expr:
         """The value, cast to a width: `w'(v)`."""
-        return Expr(self, self._later(f"MakeWidthCast {self._value(width)} {self._value(value)}"))
+        return self._later(f"MakeWidthCast {self._value(width)} {self._value(value)}", Expr)
 
     def make_type_cast(self, data_type: TypeLike, value: Operand) -> Expr:
         """The value, cast to a type that is no array; `type_can_be_cast` is the test.
 
         Raises `Condition` unless: `type_can_be_cast`.
         """
-        return Expr(self, self._now(f"MakeTypeCast {self._type(data_type)} {self._value(value)}"))
+        return self._now(f"MakeTypeCast {self._type(data_type)} {self._value(value)}", Expr)
 
     def make_pos_edge(self, expression: Operand) -> Expr:
         """The event of a rising edge, `posedge a`."""
-        return Expr(self, self._later(f"MakePosEdge {self._value(expression)}"))
+        return self._later(f"MakePosEdge {self._value(expression)}", Expr)
 
     def make_neg_edge(self, expression: Operand) -> Expr:
         """The event of a falling edge, `negedge a`."""
-        return Expr(self, self._later(f"MakeNegEdge {self._value(expression)}"))
+        return self._later(f"MakeNegEdge {self._value(expression)}", Expr)
 
     def make_macro_ref(self, name: str) -> MacroRef:
         """The use of a macro without arguments, `` `M ``."""
-        return MacroRef(self, self._later(f"MakeMacroRef {quoted(name)}"))
+        return self._later(f"MakeMacroRef {quoted(name)}", MacroRef)
 
     def make_macro_ref_with_args(self, name: str, arguments: Sequence[Operand]) -> MacroRef:
         """The use of a macro with arguments, `` `M(a, b) ``; there may be none."""
-        return MacroRef(self, self._later(
-            f"MakeMacroRefWithArgs {quoted(name)} {listed(self._value, arguments)}"
-        ))
+        return self._later(
+            f"MakeMacroRefWithArgs {quoted(name)} {listed(self._value, arguments)}",
+            MacroRef,
+        )
 
     def make_scalar_type(self) -> DataType:
         """The type of one bit."""
-        return DataType(self, self._later("MakeScalarType"))
+        return self._later("MakeScalarType", DataType)
 
     def make_integer_type(self, signed: bool = False) -> DataType:
         """Verilog's `integer`."""
-        return DataType(self, self._later(f"MakeIntegerType {truth(signed)}"))
+        return self._later(f"MakeIntegerType {truth(signed)}", DataType)
 
     def make_int_type(self, signed: bool = False) -> DataType:
         """SystemVerilog's `int`."""
-        return DataType(self, self._later(f"MakeIntType {truth(signed)}"))
+        return self._later(f"MakeIntType {truth(signed)}", DataType)
 
     def make_extern_type(self, name: str) -> DataType:
         """A type of this name that is declared elsewhere."""
-        return DataType(self, self._later(f"MakeExternType {quoted(name)}"))
+        return self._later(f"MakeExternType {quoted(name)}", DataType)
 
     def make_extern_package_type(self, package_name: str, name: str) -> DataType:
         """A type of this name that is declared in a package, `package::name`."""
-        return DataType(self, self._later(
-            f"MakeExternPackageType {quoted(package_name)} {quoted(name)}"
-        ))
+        return self._later(f"MakeExternPackageType {quoted(package_name)} {quoted(name)}", DataType)
 
     def make_bit_vector_type(self, bit_count: int, signed: bool = False) -> DataType:
         """The type of `bit_count` bits; of one bit it is a scalar.
@@ -371,16 +380,18 @@ class Calls(Core):
         `bit_count`: in bits.
         Raises `Condition` unless: bit_count at least 1.
         """
-        return DataType(self, self._now(f"MakeBitVectorType {int64(bit_count)} {truth(signed)}"))
+        return self._if(
+            f"MakeBitVectorType {int64(bit_count)} {truth(signed)}",
+            DataType,
+            bit_count >= 1,
+        )
 
     def make_bit_vector_type_expr(self, width: Operand, signed: bool = False) -> DataType:
         """The vector whose width is the expression; `width_is_usable` is the test.
 
         Raises `Condition` unless: `width_is_usable`.
         """
-        return DataType(self, self._now(
-            f"MakeBitVectorTypeExpr {self._value(width)} {truth(signed)}"
-        ))
+        return self._now(f"MakeBitVectorTypeExpr {self._value(width)} {truth(signed)}", DataType)
 
     def make_packed_array_type(self, element: TypeLike, dimensions: Sequence[int]) -> DataType:
         """The packed array of elements of a type, with its dimensions from the outermost.
@@ -388,9 +399,10 @@ class Calls(Core):
         `dimensions`: numbers of elements, the outermost dimension first.
         Raises `Condition` unless: `type_can_be_packed`, at least one dimension, each at least 1.
         """
-        return DataType(self, self._now(
-            f"MakePackedArrayType {self._type(element)} {listed(int64, dimensions)}"
-        ))
+        return self._now(
+            f"MakePackedArrayType {self._type(element)} {listed(int64, dimensions)}",
+            DataType,
+        )
 
     def make_unpacked_array_type(self, element: TypeLike, dimensions: Sequence[int]) -> DataType:
         """The unpacked array of elements of a type, with its dimensions from the outermost.
@@ -398,9 +410,10 @@ class Calls(Core):
         `dimensions`: numbers of elements, the outermost dimension first.
         Raises `Condition` unless: at least one dimension, each at least 1.
         """
-        return DataType(self, self._now(
-            f"MakeUnpackedArrayType {self._type(element)} {listed(int64, dimensions)}"
-        ))
+        return self._now(
+            f"MakeUnpackedArrayType {self._type(element)} {listed(int64, dimensions)}",
+            DataType,
+        )
 
     def add_include(self, include: str) -> None:
         """The inclusion of the file at this path, as the last item of the file."""
@@ -416,85 +429,78 @@ class Calls(Core):
 
     def add_module(self, name: str) -> Module:
         """An empty module, as the last item of the file."""
-        return Module(self, self._later(f"AddModule {quoted(name)}"))
+        return self._later(f"AddModule {quoted(name)}", Module)
 
     def add_input(self, owner: Module, name: str, data_type: TypeLike) -> LogicRef:
         """An input, as the module's last port; returns its name as an expression.
 
         Raises `Condition` unless: `name_is_free`.
         """
-        return LogicRef(self, self._now(
-            f"AddInput {self._own(owner, Module)} {quoted(name)} {self._type(data_type)}"
-        ))
+        entry = f"{self._own(owner, Module)} {quoted(name)}"
+        return self._named("AddInput", entry, self._type(data_type), LogicRef)
 
     def add_output(self, owner: Module, name: str, data_type: TypeLike) -> LogicRef:
         """An output, as the module's last port; returns its name as an expression.
 
         Raises `Condition` unless: `name_is_free`.
         """
-        return LogicRef(self, self._now(
-            f"AddOutput {self._own(owner, Module)} {quoted(name)} {self._type(data_type)}"
-        ))
+        entry = f"{self._own(owner, Module)} {quoted(name)}"
+        return self._named("AddOutput", entry, self._type(data_type), LogicRef)
 
     def add_inout(self, owner: Module, name: str, data_type: TypeLike) -> LogicRef:
         """A port of both directions, as the module's last port.
 
         Raises `Condition` unless: `name_is_free`.
         """
-        return LogicRef(self, self._now(
-            f"AddInout {self._own(owner, Module)} {quoted(name)} {self._type(data_type)}"
-        ))
+        entry = f"{self._own(owner, Module)} {quoted(name)}"
+        return self._named("AddInout", entry, self._type(data_type), LogicRef)
 
     def add_logic_input(self, owner: Module, name: str, data_type: TypeLike) -> LogicRef:
         """An input that is declared with the word `logic`, as the module's last port.
 
         Raises `Condition` unless: `name_is_free`.
         """
-        return LogicRef(self, self._now(
-            f"AddLogicInput {self._own(owner, Module)} {quoted(name)} {self._type(data_type)}"
-        ))
+        entry = f"{self._own(owner, Module)} {quoted(name)}"
+        return self._named("AddLogicInput", entry, self._type(data_type), LogicRef)
 
     def add_logic_output(self, owner: Module, name: str, data_type: TypeLike) -> LogicRef:
         """An output that is declared with the word `logic`, as the module's last port.
 
         Raises `Condition` unless: `name_is_free`.
         """
-        return LogicRef(self, self._now(
-            f"AddLogicOutput {self._own(owner, Module)} {quoted(name)} {self._type(data_type)}"
-        ))
+        entry = f"{self._own(owner, Module)} {quoted(name)}"
+        return self._named("AddLogicOutput", entry, self._type(data_type), LogicRef)
 
     def add_wire(self, owner: Module, name: str, data_type: TypeLike) -> LogicRef:
         """A wire, as the module's last member; returns its name as an expression.
 
         Raises `Condition` unless: `name_is_free`.
         """
-        return LogicRef(self, self._now(
-            f"AddWire {self._own(owner, Module)} {quoted(name)} {self._type(data_type)}"
-        ))
+        entry = f"{self._own(owner, Module)} {quoted(name)}"
+        return self._named("AddWire", entry, self._type(data_type), LogicRef)
 
     def add_reg(self, owner: Module, name: str, data_type: TypeLike) -> LogicRef:
         """A reg, as the module's last member; returns its name as an expression.
 
         Raises `Refused` where the module has the name.
         """
-        return LogicRef(self, self._now(
-            f"AddReg {self._own(owner, Module)} {quoted(name)} {self._type(data_type)}"
-        ))
+        entry = f"{self._own(owner, Module)} {quoted(name)}"
+        return self._named("AddReg", entry, self._type(data_type), LogicRef)
 
     def add_logic(self, owner: Module, name: str, data_type: TypeLike) -> LogicRef:
         """A logic, as the module's last member; returns its name as an expression.
 
         Raises `Refused` where the module has the name.
         """
-        return LogicRef(self, self._now(
-            f"AddLogic {self._own(owner, Module)} {quoted(name)} {self._type(data_type)}"
-        ))
+        entry = f"{self._own(owner, Module)} {quoted(name)}"
+        return self._named("AddLogic", entry, self._type(data_type), LogicRef)
 
     def add_parameter_port(self, owner: Module, name: str, value: Operand) -> LogicRef:
         """A parameter without a type, as the last of the module's header."""
-        return LogicRef(self, self._later(
-            f"AddParameterPort {self._own(owner, Module)} {quoted(name)} {self._value(value)}"
-        ))
+        return self._later(
+            f"AddParameterPort {self._own(owner, Module)} {quoted(name)} {self._value(value)}",
+            LogicRef,
+        )
 
     def add_typed_parameter_port(
         self,
@@ -504,42 +510,48 @@ class Calls(Core):
         value: Operand,
     ) -> LogicRef:
         """A parameter of this type, as the last of the module's header."""
-        return LogicRef(self, self._later(
+        return self._later(
             f"AddTypedParameterPort {self._own(owner, Module)} {quoted(name)}"
-            f" {self._type(data_type)} {self._value(value)}"
-        ))
+            f" {self._type(data_type)} {self._value(value)}",
+            LogicRef,
+        )
 
     def add_parameter(self, owner: Module, name: str, rhs: Operand) -> ParameterRef:
         """`parameter NAME = VALUE`, as the module's last member; returns its name."""
-        return ParameterRef(self, self._later(
-            f"AddParameter {self._own(owner, Module)} {quoted(name)} {self._value(rhs)}"
-        ))
+        return self._later(
+            f"AddParameter {self._own(owner, Module)} {quoted(name)} {self._value(rhs)}",
+            ParameterRef,
+        )
 
     def add_parameter_with_def(self, owner: Module, definition: Def, rhs: Operand) -> ParameterRef:
         """A parameter with the definition's kind, type and name, as the module's last member."""
-        return ParameterRef(self, self._later(
+        return self._later(
             f"AddParameterWithDef {self._own(owner, Module)} {self._own(definition, Def)}"
-            f" {self._value(rhs)}"
-        ))
+            f" {self._value(rhs)}",
+            ParameterRef,
+        )
 
     def add_localparam(self, owner: Module, name: str, rhs: Operand) -> LocalparamRef:
         """`localparam NAME = VALUE`, as the module's last member; returns its name."""
-        return LocalparamRef(self, self._later(
-            f"AddLocalparam {self._own(owner, Module)} {quoted(name)} {self._value(rhs)}"
-        ))
+        return self._later(
+            f"AddLocalparam {self._own(owner, Module)} {quoted(name)} {self._value(rhs)}",
+            LocalparamRef,
+        )
 
     def add_int_localparam(self, owner: Module, name: str, rhs: Operand) -> LocalparamRef:
         """`localparam int NAME = VALUE`, as the module's last member; returns its name."""
-        return LocalparamRef(self, self._later(
-            f"AddIntLocalparam {self._own(owner, Module)} {quoted(name)} {self._value(rhs)}"
-        ))
+        return self._later(
+            f"AddIntLocalparam {self._own(owner, Module)} {quoted(name)} {self._value(rhs)}",
+            LocalparamRef,
+        )
 
     def add_typed_localparam(self, owner: Module, definition: Def, rhs: Operand) -> LocalparamRef:
         """A local parameter with the definition's kind, type and name, as the module's last member."""
-        return LocalparamRef(self, self._later(
+        return self._later(
             f"AddTypedLocalparam {self._own(owner, Module)} {self._own(definition, Def)}"
-            f" {self._value(rhs)}"
-        ))
+            f" {self._value(rhs)}",
+            LocalparamRef,
+        )
 
     def hoist_module_declarations(self, owner: Module, start: int) -> None:
         """Puts the module's wires, regs and logics from the member `start` on before the other
@@ -562,10 +574,11 @@ class Calls(Core):
 
         `label`: of the loop's block; `None` for no label.
         """
-        return GenerateLoop(self, self._later(
+        return self._later(
             f"AddGenerateLoop {self._own(owner, Module)} {quoted(name)} {self._value(start)}"
-            f" {self._value(end)} {optional(quoted, label)}"
-        ))
+            f" {self._value(end)} {optional(quoted, label)}",
+            GenerateLoop,
+        )
 
     def generate_add_generate_loop(
         self,
@@ -579,20 +592,19 @@ class Calls(Core):
 
         `label`: of the loop's block; `None` for no label.
         """
-        return GenerateLoop(self, self._later(
+        return self._later(
             f"GenerateAddGenerateLoop {self._own(parent, GenerateLoop)} {quoted(name)}"
-            f" {self._value(start)} {self._value(end)} {optional(quoted, label)}"
-        ))
+            f" {self._value(start)} {self._value(end)} {optional(quoted, label)}",
+            GenerateLoop,
+        )
 
     def generate_genvar(self, generate: GenerateLoop) -> LogicRef:
         """The loop's variable as an expression, which is the file's."""
-        return LogicRef(self, self._later(f"GenerateGenvar {self._own(generate, GenerateLoop)}"))
+        return self._later(f"GenerateGenvar {self._own(generate, GenerateLoop)}", LogicRef)
 
     def generate_add_always_comb(self, generate: GenerateLoop) -> AlwaysBase:
         """An `always_comb` with an empty block, as the loop's last member."""
-        return AlwaysBase(self, self._later(
-            f"GenerateAddAlwaysComb {self._own(generate, GenerateLoop)}"
-        ))
+        return self._later(f"GenerateAddAlwaysComb {self._own(generate, GenerateLoop)}", AlwaysBase)
 
     def generate_add_always_ff(
         self,
@@ -604,10 +616,11 @@ class Calls(Core):
         `sensitivity_list`: edges, or names.
         Raises `Refused` where an event is neither an edge nor a name.
         """
-        return AlwaysBase(self, self._now(
+        return self._now(
             f"GenerateAddAlwaysFf {self._own(generate, GenerateLoop)}"
-            f" {listed(self._value, sensitivity_list)}"
-        ))
+            f" {listed(self._value, sensitivity_list)}",
+            AlwaysBase,
+        )
 
     def generate_add_always_at(
         self,
@@ -619,10 +632,11 @@ class Calls(Core):
         `sensitivity_list`: edges, or names.
         Raises `Refused` where an event is neither an edge nor a name.
         """
-        return AlwaysBase(self, self._now(
+        return self._now(
             f"GenerateAddAlwaysAt {self._own(generate, GenerateLoop)}"
-            f" {listed(self._value, sensitivity_list)}"
-        ))
+            f" {listed(self._value, sensitivity_list)}",
+            AlwaysBase,
+        )
 
     def generate_add_localparam(
         self,
@@ -631,10 +645,11 @@ class Calls(Core):
         rhs: Operand,
     ) -> LocalparamRef:
         """`localparam NAME = VALUE`, as the loop's last member; returns its name."""
-        return LocalparamRef(self, self._later(
+        return self._later(
             f"GenerateAddLocalparam {self._own(generate, GenerateLoop)} {quoted(name)}"
-            f" {self._value(rhs)}"
-        ))
+            f" {self._value(rhs)}",
+            LocalparamRef,
+        )
 
     def generate_add_typed_localparam(
         self,
@@ -643,10 +658,11 @@ class Calls(Core):
         rhs: Operand,
     ) -> LocalparamRef:
         """A local parameter with the definition's kind, type and name, as the loop's last member."""
-        return LocalparamRef(self, self._later(
+        return self._later(
             f"GenerateAddTypedLocalparam {self._own(generate, GenerateLoop)}"
-            f" {self._own(definition, Def)} {self._value(rhs)}"
-        ))
+            f" {self._own(definition, Def)} {self._value(rhs)}",
+            LocalparamRef,
+        )
 
     def generate_add_continuous_assignment(
         self,
@@ -655,16 +671,18 @@ class Calls(Core):
         rhs: Operand,
     ) -> Statement:
         """The assignment `assign lhs = rhs`, as the loop's last member."""
-        return Statement(self, self._later(
+        return self._later(
             f"GenerateAddContinuousAssignment {self._own(generate, GenerateLoop)}"
-            f" {self._value(lhs)} {self._value(rhs)}"
-        ))
+            f" {self._value(lhs)} {self._value(rhs)}",
+            Statement,
+        )
 
     def generate_add_conditional(self, generate: GenerateLoop, condition: Operand) -> Conditional:
         """A conditional with an empty block, as the loop's last member."""
-        return Conditional(self, self._later(
-            f"GenerateAddConditional {self._own(generate, GenerateLoop)} {self._value(condition)}"
-        ))
+        return self._later(
+            f"GenerateAddConditional {self._own(generate, GenerateLoop)} {self._value(condition)}",
+            Conditional,
+        )
 
     def generate_add_blank_line(self, generate: GenerateLoop) -> None:
         """A blank line, as the loop's last member."""
@@ -673,7 +691,7 @@ class Calls(Core):
     def generate_add_comment(self, generate: GenerateLoop, comment: Comment) -> None:
         """The comment, as the loop's last member."""
         self._later(
-            f"GenerateAddComment {self._own(generate, GenerateLoop)} {self._own(comment, Comment)}"
+            f"GenerateAddComment {self._own(generate, GenerateLoop)} {self._own(comment, Comment)}",
         )
 
     def generate_add_instantiation(
@@ -684,7 +702,7 @@ class Calls(Core):
         """The instantiation, as the loop's last member."""
         self._later(
             f"GenerateAddInstantiation {self._own(generate, GenerateLoop)}"
-            f" {self._own(instantiation, Instantiation)}"
+            f" {self._own(instantiation, Instantiation)}",
         )
 
     def generate_add_inline_statement(
@@ -695,7 +713,7 @@ class Calls(Core):
         """The text, as the loop's last member."""
         self._later(
             f"GenerateAddInlineStatement {self._own(generate, GenerateLoop)}"
-            f" {self._own(statement, InlineVerilogStatement)}"
+            f" {self._own(statement, InlineVerilogStatement)}",
         )
 
     def generate_add_macro_statement(
@@ -706,7 +724,7 @@ class Calls(Core):
         """The use of a macro, as the loop's last member."""
         self._later(
             f"GenerateAddMacroStatement {self._own(generate, GenerateLoop)}"
-            f" {self._own(statement, MacroStatement)}"
+            f" {self._own(statement, MacroStatement)}",
         )
 
     def add_function(self, owner: Module, name: str, result_type: TypeLike) -> Function:
@@ -714,19 +732,18 @@ class Calls(Core):
 
         Raises `Refused` where the result is an unpacked array, or the module has the name.
         """
-        return Function(self, self._now(
-            f"AddFunction {self._own(owner, Module)} {quoted(name)} {self._type(result_type)}"
-        ))
+        return self._now(
+            f"AddFunction {self._own(owner, Module)} {quoted(name)} {self._type(result_type)}",
+            Function,
+        )
 
     def function_add_input(self, function: Function, name: str, data_type: TypeLike) -> LogicRef:
         """An input of this type with the kind word `reg`, as the function's last.
 
         Raises `Refused` where the function has the name.
         """
-        return LogicRef(self, self._now(
-            f"FunctionAddInput {self._own(function, Function)} {quoted(name)}"
-            f" {self._type(data_type)}"
-        ))
+        entry = f"{self._own(function, Function)} {quoted(name)}"
+        return self._named("FunctionAddInput", entry, self._type(data_type), LogicRef)
 
     def function_add_logic_input(
         self,
@@ -738,39 +755,34 @@ class Calls(Core):
 
         Raises `Refused` where the function has the name.
         """
-        return LogicRef(self, self._now(
-            f"FunctionAddLogicInput {self._own(function, Function)} {quoted(name)}"
-            f" {self._type(data_type)}"
-        ))
+        entry = f"{self._own(function, Function)} {quoted(name)}"
+        return self._named("FunctionAddLogicInput", entry, self._type(data_type), LogicRef)
 
     def function_add_reg(self, function: Function, name: str, data_type: TypeLike) -> LogicRef:
         """A reg, as the function's last local; returns its name as an expression.
 
         Raises `Refused` where the function has the name.
         """
-        return LogicRef(self, self._now(
-            f"FunctionAddReg {self._own(function, Function)} {quoted(name)} {self._type(data_type)}"
-        ))
+        entry = f"{self._own(function, Function)} {quoted(name)}"
+        return self._named("FunctionAddReg", entry, self._type(data_type), LogicRef)
 
     def function_add_logic(self, function: Function, name: str, data_type: TypeLike) -> LogicRef:
         """A logic, as the function's last local; returns its name as an expression.
 
         Raises `Refused` where the function has the name.
         """
-        return LogicRef(self, self._now(
-            f"FunctionAddLogic {self._own(function, Function)} {quoted(name)}"
-            f" {self._type(data_type)}"
-        ))
+        entry = f"{self._own(function, Function)} {quoted(name)}"
+        return self._named("FunctionAddLogic", entry, self._type(data_type), LogicRef)
 
     def function_body(self, function: Function) -> StatementBlock:
         """The function's body, which is the file's."""
-        return StatementBlock(self, self._later(f"FunctionBody {self._own(function, Function)}"))
+        return self._later(f"FunctionBody {self._own(function, Function)}", StatementBlock)
 
     def function_result(self, function: Function) -> LogicRef:
         """The name to which the body assigns the function's result, as an expression, which is the
         file's.
         """
-        return LogicRef(self, self._later(f"FunctionResult {self._own(function, Function)}"))
+        return self._later(f"FunctionResult {self._own(function, Function)}", LogicRef)
 
     def add_always_ff(self, owner: Module, sensitivity_list: Sequence[Operand]) -> AlwaysBase:
         """An `always_ff` with these events and an empty block, as the module's last member.
@@ -778,9 +790,10 @@ class Calls(Core):
         `sensitivity_list`: edges, or names.
         Raises `Refused` where an event is neither an edge nor a name.
         """
-        return AlwaysBase(self, self._now(
-            f"AddAlwaysFf {self._own(owner, Module)} {listed(self._value, sensitivity_list)}"
-        ))
+        return self._now(
+            f"AddAlwaysFf {self._own(owner, Module)} {listed(self._value, sensitivity_list)}",
+            AlwaysBase,
+        )
 
     def add_always_at(self, owner: Module, sensitivity_list: Sequence[Operand]) -> AlwaysBase:
         """An `always @` with these events and an empty block, as the module's last member.
@@ -788,17 +801,18 @@ class Calls(Core):
         `sensitivity_list`: edges, or names.
         Raises `Refused` where an event is neither an edge nor a name.
         """
-        return AlwaysBase(self, self._now(
-            f"AddAlwaysAt {self._own(owner, Module)} {listed(self._value, sensitivity_list)}"
-        ))
+        return self._now(
+            f"AddAlwaysAt {self._own(owner, Module)} {listed(self._value, sensitivity_list)}",
+            AlwaysBase,
+        )
 
     def add_always_comb(self, owner: Module) -> AlwaysBase:
         """An `always_comb` with an empty block, as the module's last member."""
-        return AlwaysBase(self, self._later(f"AddAlwaysComb {self._own(owner, Module)}"))
+        return self._later(f"AddAlwaysComb {self._own(owner, Module)}", AlwaysBase)
 
     def statement_block(self, always: AlwaysBase) -> StatementBlock:
         """The block of the always block, which is the file's."""
-        return StatementBlock(self, self._later(f"StatementBlock {self._own(always, AlwaysBase)}"))
+        return self._later(f"StatementBlock {self._own(always, AlwaysBase)}", StatementBlock)
 
     def block_add_blocking_assignment(
         self,
@@ -807,10 +821,11 @@ class Calls(Core):
         rhs: Operand,
     ) -> Statement:
         """The assignment `lhs = rhs`, as the block's last statement."""
-        return Statement(self, self._later(
+        return self._later(
             f"BlockAddBlockingAssignment {self._own(block, StatementBlock)} {self._value(lhs)}"
-            f" {self._value(rhs)}"
-        ))
+            f" {self._value(rhs)}",
+            Statement,
+        )
 
     def block_add_nonblocking_assignment(
         self,
@@ -819,10 +834,11 @@ class Calls(Core):
         rhs: Operand,
     ) -> Statement:
         """The assignment `lhs <= rhs`, as the block's last statement."""
-        return Statement(self, self._later(
+        return self._later(
             f"BlockAddNonblockingAssignment {self._own(block, StatementBlock)} {self._value(lhs)}"
-            f" {self._value(rhs)}"
-        ))
+            f" {self._value(rhs)}",
+            Statement,
+        )
 
     def block_add_continuous_assignment(
         self,
@@ -831,10 +847,11 @@ class Calls(Core):
         rhs: Operand,
     ) -> Statement:
         """The assignment `assign lhs = rhs`, as the block's last statement."""
-        return Statement(self, self._later(
+        return self._later(
             f"BlockAddContinuousAssignment {self._own(block, StatementBlock)} {self._value(lhs)}"
-            f" {self._value(rhs)}"
-        ))
+            f" {self._value(rhs)}",
+            Statement,
+        )
 
     def block_add_comment_text(self, block: StatementBlock, text: str) -> None:
         """A comment, as the block's last statement."""
@@ -850,21 +867,24 @@ class Calls(Core):
 
     def add_conditional(self, owner: Module, condition: Operand) -> Conditional:
         """A conditional with an empty block, as the module's last member."""
-        return Conditional(self, self._later(
-            f"AddConditional {self._own(owner, Module)} {self._value(condition)}"
-        ))
+        return self._later(
+            f"AddConditional {self._own(owner, Module)} {self._value(condition)}",
+            Conditional,
+        )
 
     def block_add_cond(self, block: StatementBlock, condition: Operand) -> Conditional:
         """A conditional with an empty block, as the block's last statement."""
-        return Conditional(self, self._later(
-            f"BlockAddCond {self._own(block, StatementBlock)} {self._value(condition)}"
-        ))
+        return self._later(
+            f"BlockAddCond {self._own(block, StatementBlock)} {self._value(condition)}",
+            Conditional,
+        )
 
     def conditional_then_block(self, conditional: Conditional) -> StatementBlock:
         """The block of the conditional's first arm, which is the file's."""
-        return StatementBlock(self, self._later(
-            f"ConditionalThenBlock {self._own(conditional, Conditional)}"
-        ))
+        return self._later(
+            f"ConditionalThenBlock {self._own(conditional, Conditional)}",
+            StatementBlock,
+        )
 
     def conditional_add_else_if(
         self,
@@ -875,46 +895,52 @@ class Calls(Core):
 
         Raises `Condition` unless: not `conditional_has_else`.
         """
-        return StatementBlock(self, self._now(
-            f"ConditionalAddElseIf {self._own(conditional, Conditional)} {self._value(condition)}"
-        ))
+        return self._now(
+            f"ConditionalAddElseIf {self._own(conditional, Conditional)} {self._value(condition)}",
+            StatementBlock,
+        )
 
     def conditional_add_else(self, conditional: Conditional) -> StatementBlock:
         """The conditional's `else` with an empty block; returns the block.
 
         Raises `Condition` unless: not `conditional_has_else`.
         """
-        return StatementBlock(self, self._now(
-            f"ConditionalAddElse {self._own(conditional, Conditional)}"
-        ))
+        return self._now(
+            f"ConditionalAddElse {self._own(conditional, Conditional)}",
+            StatementBlock,
+        )
 
     def block_add_case(self, block: StatementBlock, selector: Operand) -> CaseStatement:
         """A `case` statement without arms, as the block's last statement."""
-        return CaseStatement(self, self._later(
-            f"BlockAddCase {self._own(block, StatementBlock)} {self._value(selector)}"
-        ))
+        return self._later(
+            f"BlockAddCase {self._own(block, StatementBlock)} {self._value(selector)}",
+            CaseStatement,
+        )
 
     def block_add_casez(self, block: StatementBlock, selector: Operand) -> CaseStatement:
         """A `casez` statement without arms, as the block's last statement."""
-        return CaseStatement(self, self._later(
-            f"BlockAddCasez {self._own(block, StatementBlock)} {self._value(selector)}"
-        ))
+        return self._later(
+            f"BlockAddCasez {self._own(block, StatementBlock)} {self._value(selector)}",
+            CaseStatement,
+        )
 
     def block_add_casex(self, block: StatementBlock, selector: Operand) -> CaseStatement:
         """A `casex` statement without arms, as the block's last statement."""
-        return CaseStatement(self, self._later(
-            f"BlockAddCasex {self._own(block, StatementBlock)} {self._value(selector)}"
-        ))
+        return self._later(
+            f"BlockAddCasex {self._own(block, StatementBlock)} {self._value(selector)}",
+            CaseStatement,
+        )
 
     def case_add_item(self, case: CaseStatement, pattern: Operand) -> StatementBlock:
         """An arm with this label and an empty block, as the case statement's last."""
-        return StatementBlock(self, self._later(
-            f"CaseAddItem {self._own(case, CaseStatement)} {self._value(pattern)}"
-        ))
+        return self._later(
+            f"CaseAddItem {self._own(case, CaseStatement)} {self._value(pattern)}",
+            StatementBlock,
+        )
 
     def case_add_default(self, case: CaseStatement) -> StatementBlock:
         """A `default` arm with an empty block, as the case statement's last."""
-        return StatementBlock(self, self._later(f"CaseAddDefault {self._own(case, CaseStatement)}"))
+        return self._later(f"CaseAddDefault {self._own(case, CaseStatement)}", StatementBlock)
 
     def case_set_unique(self, case: CaseStatement, unique: bool = True) -> None:
         """Makes the case statement `unique`, or not.
@@ -925,47 +951,50 @@ class Calls(Core):
 
     def make_def(self, name: str, kind: DataKind, data_type: TypeLike) -> Def:
         """A declaration's kind, type and name, which parameters can be made with."""
-        return Def(self, self._later(
-            f"MakeDef {quoted(name)} {word(DataKind, kind)} {self._type(data_type)}"
-        ))
+        return self._later(
+            f"MakeDef {quoted(name)} {word(DataKind, kind)} {self._type(data_type)}",
+            Def,
+        )
 
     def make_blank_line(self) -> BlankLine:
         """A blank line."""
-        return BlankLine(self, self._later("MakeBlankLine"))
+        return self._later("MakeBlankLine", BlankLine)
 
     def make_comment(self, text: str) -> Comment:
         """A comment; each line of the text becomes a line `// ..`."""
-        return Comment(self, self._later(f"MakeComment {quoted(text)}"))
+        return self._later(f"MakeComment {quoted(text)}", Comment)
 
     def make_inline_verilog_statement(self, text: str) -> InlineVerilogStatement:
         """A text that is written as it is, with the depth of the place before each of its lines."""
-        return InlineVerilogStatement(self, self._later(
-            f"MakeInlineVerilogStatement {quoted(text)}"
-        ))
+        return self._later(f"MakeInlineVerilogStatement {quoted(text)}", InlineVerilogStatement)
 
     def make_macro_statement(self, macro_ref: MacroRef, semicolon: bool = True) -> MacroStatement:
         """The use of a macro as a member, with a semicolon or without."""
-        return MacroStatement(self, self._later(
-            f"MakeMacroStatement {self._own(macro_ref, MacroRef)} {truth(semicolon)}"
-        ))
+        return self._later(
+            f"MakeMacroStatement {self._own(macro_ref, MacroRef)} {truth(semicolon)}",
+            MacroStatement,
+        )
 
     def make_continuous_assignment(self, lhs: Operand, rhs: Operand) -> ContinuousAssignment:
         """The assignment `assign lhs = rhs`."""
-        return ContinuousAssignment(self, self._later(
-            f"MakeContinuousAssignment {self._value(lhs)} {self._value(rhs)}"
-        ))
+        return self._later(
+            f"MakeContinuousAssignment {self._value(lhs)} {self._value(rhs)}",
+            ContinuousAssignment,
+        )
 
     def make_nonblocking_assignment(self, lhs: Operand, rhs: Operand) -> Statement:
         """The procedural assignment `lhs <= rhs`."""
-        return Statement(self, self._later(
-            f"MakeNonblockingAssignment {self._value(lhs)} {self._value(rhs)}"
-        ))
+        return self._later(
+            f"MakeNonblockingAssignment {self._value(lhs)} {self._value(rhs)}",
+            Statement,
+        )
 
     def make_blocking_assignment(self, lhs: Operand, rhs: Operand) -> Statement:
         """The procedural assignment `lhs = rhs`."""
-        return Statement(self, self._later(
-            f"MakeBlockingAssignment {self._value(lhs)} {self._value(rhs)}"
-        ))
+        return self._later(
+            f"MakeBlockingAssignment {self._value(lhs)} {self._value(rhs)}",
+            Statement,
+        )
 
     def make_instantiation(
         self,
@@ -983,18 +1012,19 @@ class Calls(Core):
         Raises `Condition` unless: as many parameters as their names, as many connections as
         their names.
         """
-        return Instantiation(self, self._now(
+        return self._now(
             f"MakeInstantiation {quoted(module_name)} {quoted(instance_name)}"
             f" {listed(quoted, parameter_names)} {listed(self._value, parameter_expressions)}"
             f" {listed(quoted, connection_names)}"
-            f" {listed(lambda given: optional(self._value, given), connection_expressions)}"
-        ))
+            f" {listed(lambda given: optional(self._value, given), connection_expressions)}",
+            Instantiation,
+        )
 
     def add_member_instantiation(self, owner: Module, instantiation: Instantiation) -> None:
         """The instantiation, as the module's last member."""
         self._later(
             f"AddMemberInstantiation {self._own(owner, Module)}"
-            f" {self._own(instantiation, Instantiation)}"
+            f" {self._own(instantiation, Instantiation)}",
         )
 
     def add_member_continuous_assignment(
@@ -1005,7 +1035,7 @@ class Calls(Core):
         """The assignment, as the module's last member."""
         self._later(
             f"AddMemberContinuousAssignment {self._own(owner, Module)}"
-            f" {self._own(assignment, ContinuousAssignment)}"
+            f" {self._own(assignment, ContinuousAssignment)}",
         )
 
     def add_member_blank_line(self, owner: Module, blank: BlankLine) -> None:
@@ -1020,14 +1050,14 @@ class Calls(Core):
         """The text, as the module's last member."""
         self._later(
             f"AddMemberInlineStatement {self._own(owner, Module)}"
-            f" {self._own(statement, InlineVerilogStatement)}"
+            f" {self._own(statement, InlineVerilogStatement)}",
         )
 
     def add_member_macro_statement(self, owner: Module, statement: MacroStatement) -> None:
         """The use of a macro, as the module's last member."""
         self._later(
             f"AddMemberMacroStatement {self._own(owner, Module)}"
-            f" {self._own(statement, MacroStatement)}"
+            f" {self._own(statement, MacroStatement)}",
         )
 
     def conditional_has_else(self, conditional: Conditional) -> bool:
@@ -1128,12 +1158,12 @@ class Calls(Core):
         self._now(
             f"!AddRegisters {self._value(clk)} {optional(self._reset, reset)}"
             f" {listed(self._registerdefinition, registers)}"
-            f" {self._own(scope, (Module, GenerateLoop))}"
+            f" {self._own(scope, (Module, GenerateLoop))}",
         )
 
     def bitwise_or_reduce(self, values: Sequence[Operand]) -> Expr:
         """The values joined by `|`, as `a | b | c`, and `'0` where there are none."""
-        return Expr(self, self._now(f"!BitwiseOrReduce {listed(self._value, values)}"))
+        return self._now(f"!BitwiseOrReduce {listed(self._value, values)}", Expr)
 
     def bitwise_or_reduce_array_elements(
         self,
@@ -1146,18 +1176,15 @@ class Calls(Core):
         `dimensions`: numbers of elements, the outermost dimension first.
         Raises `Refused` where there is no dimension, one is 0, or they aren't the value's.
         """
-        return Expr(self, self._now(
-            f"!BitwiseOrReduceArrayElements {self._subject(value)} {listed(int64, dimensions)}"
-        ))
+        return self._now(
+            f"!BitwiseOrReduceArrayElements {self._subject(value)} {listed(int64, dimensions)}",
+            Expr,
+        )
 
     def logical_and_reduce(self, values: Sequence[Operand], invert: bool = False) -> Expr:
         """The values joined by `&&`, as `a && b && c`, and `1'h1` where there are none."""
-        return Expr(self, self._now(
-            f"!LogicalAndReduce {listed(self._value, values)} {truth(invert)}"
-        ))
+        return self._now(f"!LogicalAndReduce {listed(self._value, values)} {truth(invert)}", Expr)
 
     def logical_or_reduce(self, values: Sequence[Operand], invert: bool = False) -> Expr:
         """The values joined by `||`, as `a || b || c`, and `1'h0` where there are none."""
-        return Expr(self, self._now(
-            f"!LogicalOrReduce {listed(self._value, values)} {truth(invert)}"
-        ))
+        return self._now(f"!LogicalOrReduce {listed(self._value, values)} {truth(invert)}", Expr)

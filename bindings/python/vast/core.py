@@ -1,13 +1,14 @@
 """The lines of a file, and when they are sent."""
 from __future__ import annotations
 
+import itertools
 import os
 import sys
-from typing import Any, Dict, List, Optional, Tuple, Type, Union
+from typing import Any, Dict, List, Optional, Set, Tuple, Type, Union
 
 from .errors import Condition, VastFault
 from .handle import Handle
-from .kinds import DataType, Expression, Operand, Selectable, TypeLike
+from .kinds import DataType, Expr, Expression, Operand, Selectable, TypeLike
 from .session import Session
 from .warning import Warned
 from .writing import int32, int64
@@ -15,6 +16,7 @@ from .writing import int32, int64
 # Lines that wait at most.
 BATCH = 1024
 # What the paths of this package's files begin with.
+_new = object.__new__
 _PACKAGE = os.path.join(os.path.dirname(__file__), "")
 
 
@@ -29,9 +31,9 @@ def caller() -> Tuple[str, int]:
 class Core:
     """Writes lines, and knows the number of each answer before it is there.
 
-    A call that nothing refuses waits with others (`_later`), since Python has looked at the kinds of its handles; one
-    that may be refused is made at once, behind those that wait (`_now`), so that it raises its own fault and no later
-    call does. What asks (`_ask`) is made at once too.
+    A call that nothing refuses waits with others (`_later`), since Python has looked at the kinds of its handles, at its
+    numbers (`_if`), and whether a name was entered before (`_named`). One that may be refused is made at once, behind those
+    that wait (`_now`), so that it raises its own fault and no later call does. What asks (`_ask`) is made at once too.
     """
 
     def __init__(self, session: Session, strict: bool, places: bool) -> None:
@@ -40,8 +42,11 @@ class Core:
         self._lines: List[str] = []
         # Of each line that was made or waits, where it was written.
         self._places: Optional[List[Tuple[str, int]]] = [] if places else None
-        self._count = 0
-        self._types: Dict[int, int] = {}
+        # The numbers of the answers to come, in digits, as lines have them.
+        self._steps = map(str, itertools.count())
+        # The names of modules and functions, each behind the number of its owner, of a file with `strict`.
+        self._names: Set[str] = set()
+        self._types: Dict[int, str] = {}
         self._fault: Optional[VastFault] = None
         # The fault while lines are being made, which stays where their making is interrupted, as from the keyboard.
         self._interrupted = VastFault("a call was interrupted: whether it was made isn't known")
@@ -80,21 +85,30 @@ class Core:
         if self._places is not None and fault.line is not None and fault.line < len(self._places):
             fault.place = "{}:{}".format(*self._places[fault.line])
 
-    def _later(self, line: str) -> int:
-        """The number of a call that waits."""
-        if len(self._lines) >= BATCH:
+    def _answer(self, kind: Optional[Type[Handle]]) -> Any:
+        """The handle of the next answer, of this kind; `None` where there is none."""
+        step = next(self._steps)
+        if kind is None:
+            return None
+        made = _new(kind)
+        made.file = self
+        made.step = step
+        return made
+
+    def _later(self, line: str, kind: Optional[Type[Handle]] = None) -> Any:
+        """What a call that waits answers."""
+        lines = self._lines
+        if len(lines) >= BATCH:
             self.flush()
-        number = self._count
-        self._count = number + 1
-        self._lines.append(line)
+        lines.append(line)
         if self._places is not None:
             self._places.append(caller())
-        return number
+        return self._answer(kind)
 
-    def _now(self, line: str) -> int:
-        """The number of a call that is made at once, or its fault, and then nothing changed."""
+    def _now(self, line: str, kind: Optional[Type[Handle]] = None) -> Any:
+        """What a call that is made at once answers. Raises its fault, and then nothing changed."""
         if not self._strict:
-            return self._later(line)
+            return self._later(line, kind)
         self._lines.append(line)
         if self._places is not None:
             self._places.append(caller())
@@ -106,9 +120,22 @@ class Core:
             if self._places is not None:
                 del self._places[-1:]
             raise
-        number = self._count
-        self._count = number + 1
-        return number
+        return self._answer(kind)
+
+    def _if(self, line: str, kind: Type[Handle], is_certain: bool) -> Any:
+        """What a call answers that waits where nothing refuses it for certain, and else is made at once."""
+        return self._later(line, kind) if is_certain else self._now(line, kind)
+
+    def _named(self, call: str, entry: str, rest: str, kind: Type[Handle]) -> Any:
+        """What a call answers that enters a name, `entry` with the number of its owner before it; it waits where that is new."""
+        line = f"{call} {entry} {rest}"
+        if not self._strict:
+            return self._later(line, kind)
+        if entry in self._names:
+            return self._now(line, kind)
+        made = self._later(line, kind)
+        self._names.add(entry)
+        return made
 
     def _ask(self, line: str) -> Any:
         """The answer, as the session has it."""
@@ -145,37 +172,40 @@ class Core:
             return warned
         return warned._replace(place="{}:{}".format(*self._places[warned.line]))
 
-    def _own(self, given: Handle, kind: Union[Type[Handle], Tuple[Type[Handle], ...]]) -> int:
+    def _own(self, given: Handle, kind: Union[Type[Handle], Tuple[Type[Handle], ...]]) -> str:
         """The number of a handle of this kind."""
-        if not isinstance(given, kind):
-            kinds = kind if isinstance(kind, tuple) else (kind,)
-            raise TypeError(f"{' or '.join(each.__name__ for each in kinds)} is wanted, not {given!r}")
-        if given.file is not self:
+        if isinstance(given, kind):
+            if given.file is self:
+                return given.step
             raise Condition("a handle of another file")
-        return given.number
+        kinds = kind if isinstance(kind, tuple) else (kind,)
+        raise TypeError(f"{' or '.join(each.__name__ for each in kinds)} is wanted, not {given!r}")
 
-    def _value(self, given: Operand) -> int:
+    def _value(self, given: Operand) -> str:
         """The number of an expression; of an `int`, that of a literal which is made for it."""
         if isinstance(given, Expression):
             if given.file is self:
-                return given.number
+                return given.step
             raise Condition("a handle of another file")
         if isinstance(given, int) and not isinstance(given, bool):
-            return self._later(f"MakeUnsizedDecimalLiteral {int32(given)}")
+            return self._later(f"MakeUnsizedDecimalLiteral {int32(given)}", Expr).step
         raise TypeError(f"an expression or an int is wanted, not {given!r}")
 
-    def _subject(self, given: Selectable) -> int:
+    def _subject(self, given: Selectable) -> str:
         """The number of an expression that may be selected from."""
         if isinstance(given, Expression) and not isinstance(given, Selectable):
             raise TypeError(f"make_indexable_expression makes of {given!r} what may be selected from")
         return self._own(given, Selectable)
 
-    def _type(self, given: TypeLike) -> int:
+    def _type(self, given: TypeLike) -> str:
         """The number of a type; of an `int`, that of a type of so many bits, which is made once."""
         if isinstance(given, DataType):
-            return self._own(given, DataType)
+            if given.file is self:
+                return given.step
+            raise Condition("a handle of another file")
         if not isinstance(given, int) or isinstance(given, bool):
             raise TypeError(f"a type or a number of bits is wanted, not {given!r}")
         if given not in self._types:
-            self._types[given] = self._now(f"MakeBitVectorType {int64(given)} false")
+            line = f"MakeBitVectorType {int64(given)} false"
+            self._types[given] = self._if(line, DataType, given >= 1).step
         return self._types[given]
