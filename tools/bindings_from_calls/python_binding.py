@@ -29,6 +29,8 @@ OWNERS = {
 }
 # Of kinds for which others may stand: the name of the class of all of them.
 FAMILIES = {"expression": "Expression", "indexable": "Selectable"}
+# What makes of an argument of a kind what stands for it, where that isn't plain.
+STANDS = {"expression": "_value", "indexable": "_subject", "type": "_type", "scope": "_scope"}
 # Calls of files alone, though their first argument is a handle.
 NO_METHODS = ("add_registers",)
 # What `core.py` has.
@@ -96,23 +98,31 @@ class PythonBinding:
             return class_of(self.kinds[type.of])
         return self.hint(type).replace("Sequence", "List")
 
+    def looked_at(self, type, name):
+        """The statement that makes of a handle's argument, where it isn't plainly one of the file and of its kind, what stands
+        for it; nothing for other arguments."""
+        if type.form != "handle":
+            return []
+        plain = f"isinstance({name}, {self.classes(type.of)}) and {name}.file is self"
+        stands = f"self.{STANDS[type.of]}({name})" if type.of in STANDS else f"self._own({name}, {self.classes(type.of)})"
+        return [f"if not ({plain}):", f"    {name} = {stands}"]
+
     def written(self, type, name):
         """The Python expression of what a line has for this argument."""
         if type.form == "list":
             return f"listed({self.writer(type.of)}, {name})"
         if type.form == "optional":
             return f"optional({self.writer(type.of)}, {name})"
-        if type.form == "handle" and self.writer(type) is None:
-            return f"self._own({name}, {self.classes(type.of)})"
+        if type.form == "handle":
+            return f"{name}.step"
         if type.form == "word":
             return f"word({type.of}, {name})"
         return f"{self.writer(type)}({name})"
 
     def writer(self, type):
-        """The function that writes such an argument; `None` for handles that no other kind stands for."""
+        """The function that writes such an argument within a list, an optional or a group."""
         if type.form == "handle":
-            own = {"expression": "self._value", "indexable": "self._subject", "type": "self._type"}
-            return own.get(type.of)
+            return "self._value_step"
         if type.form == "integer":
             return INTEGERS[type.least, type.most]
         if type.form == "group":
@@ -122,9 +132,10 @@ class PythonBinding:
         return {"text": "quoted", "truth": "truth"}[type.form]
 
     def classes(self, kind):
-        """The class of a kind, or the classes of those that may stand for it."""
-        takes = self.kinds[kind].takes
-        names = [class_of(self.kinds[each]) for each in takes]
+        """The class of a kind, or that or those of what may stand for it."""
+        if kind in FAMILIES:
+            return FAMILIES[kind]
+        names = [class_of(self.kinds[each]) for each in self.kinds[kind].takes]
         return names[0] if len(names) == 1 else f"({', '.join(names)})"
 
     # kinds.py
@@ -268,14 +279,16 @@ class PythonBinding:
 
     def group_writer(self, type):
         """The method that writes such a group."""
-        fields = " ".join(
-            "{" + self.written(field.type, f"given.{field.name}") + "}" for field in type.fields
-        )
+        fields = " ".join("{" + self.field(field.type, f"given.{field.name}") + "}" for field in type.fields)
         return (
             f"    def _{type.of.lower()}(self, given: {type.of}) -> str:\n"
             + wrapped("        return ", f'f"[ {fields} ]"')
             + "\n"
         )
+
+    def field(self, type, name):
+        """The Python expression of what a line has for a field."""
+        return f"{self.writer(type)}({name})" if type.form == "handle" else self.written(type, name)
 
     def plain_parameter(self, parameter):
         """A parameter with its type."""
@@ -322,7 +335,13 @@ class PythonBinding:
         return "\n".join(said)
 
     def body(self, call):
-        """The statements that write the line."""
+        """The statements that look at the handles, and that which writes the line."""
+        looks = [self.looked_at(parameter.type, parameter.name) for parameter in call.parameters]
+        rows = [f"        {row}" for look in looks for row in look]
+        return "\n".join([*rows, self.made(call)])
+
+    def made(self, call):
+        """The statement that writes the line, or the two where the call enters a name."""
         given = [self.written(parameter.type, parameter.name) for parameter in call.parameters]
         written = "".join(" {" + each + "}" for each in given)
         line = f'f"{call.call}{written}"' if written else f'"{call.call}"'

@@ -4,11 +4,12 @@ from __future__ import annotations
 import itertools
 import os
 import sys
-from typing import Any, Dict, List, Optional, Set, Tuple, Type, Union
+from typing import Any, Dict, Iterator, List, Optional, Set, Tuple, Type
 
 from .errors import Condition, VastFault
 from .handle import Handle
-from .kinds import DataType, Expr, Expression, Operand, Selectable, TypeLike
+from .kinds import DataType, Expr, Expression, GenerateLoop, Module, Operand, RegisterScope
+from .kinds import Selectable, TypeLike
 from .session import Session
 from .warning import Warned
 from .writing import int32, int64
@@ -28,6 +29,11 @@ def caller() -> Tuple[str, int]:
     return frame.f_code.co_filename, frame.f_lineno
 
 
+def numbers(first: int) -> Iterator[str]:
+    """The numbers from this one on, in digits."""
+    return map(str, itertools.count(first))
+
+
 class Core:
     """Writes lines, and knows the number of each answer before it is there.
 
@@ -43,10 +49,10 @@ class Core:
         # Of each line that was made or waits, where it was written.
         self._places: Optional[List[Tuple[str, int]]] = [] if places else None
         # The numbers of the answers to come, in digits, as lines have them.
-        self._steps = map(str, itertools.count())
+        self._steps = numbers(0)
         # The names of modules and functions, each behind the number of its owner, of a file with `strict`.
         self._names: Set[str] = set()
-        self._types: Dict[int, str] = {}
+        self._types: Dict[int, DataType] = {}
         self._fault: Optional[VastFault] = None
         # The fault while lines are being made, which stays where their making is interrupted, as from the keyboard.
         self._interrupted = VastFault("a call was interrupted: whether it was made isn't known")
@@ -85,8 +91,14 @@ class Core:
         if self._places is not None and fault.line is not None and fault.line < len(self._places):
             fault.place = "{}:{}".format(*self._places[fault.line])
 
-    def _answer(self, kind: Optional[Type[Handle]]) -> Any:
-        """The handle of the next answer, of this kind; `None` where there is none."""
+    def _later(self, line: str, kind: Optional[Type[Handle]] = None) -> Any:
+        """What a call that waits answers: a handle of this kind, or `None`."""
+        lines = self._lines
+        if len(lines) >= BATCH:
+            self.flush()
+        lines.append(line)
+        if self._places is not None:
+            self._places.append(caller())
         step = next(self._steps)
         if kind is None:
             return None
@@ -95,23 +107,11 @@ class Core:
         made.step = step
         return made
 
-    def _later(self, line: str, kind: Optional[Type[Handle]] = None) -> Any:
-        """What a call that waits answers."""
-        lines = self._lines
-        if len(lines) >= BATCH:
-            self.flush()
-        lines.append(line)
-        if self._places is not None:
-            self._places.append(caller())
-        return self._answer(kind)
-
-    def _now(self, line: str, kind: Optional[Type[Handle]] = None) -> Any:
+    def _now(self, line: str, kind: Type[Handle] = Handle) -> Any:
         """What a call that is made at once answers. Raises its fault, and then nothing changed."""
+        made = self._later(line, kind)
         if not self._strict:
-            return self._later(line, kind)
-        self._lines.append(line)
-        if self._places is not None:
-            self._places.append(caller())
+            return made
         try:
             self.flush()
         except BaseException:
@@ -119,8 +119,9 @@ class Core:
             del self._lines[-1:]
             if self._places is not None:
                 del self._places[-1:]
+            self._steps = numbers(made.number)
             raise
-        return self._answer(kind)
+        return made
 
     def _if(self, line: str, kind: Type[Handle], is_certain: bool) -> Any:
         """What a call answers that waits where nothing refuses it for certain, and else is made at once."""
@@ -172,40 +173,50 @@ class Core:
             return warned
         return warned._replace(place="{}:{}".format(*self._places[warned.line]))
 
-    def _own(self, given: Handle, kind: Union[Type[Handle], Tuple[Type[Handle], ...]]) -> str:
-        """The number of a handle of this kind."""
-        if isinstance(given, kind):
-            if given.file is self:
-                return given.step
-            raise Condition("a handle of another file")
-        kinds = kind if isinstance(kind, tuple) else (kind,)
-        raise TypeError(f"{' or '.join(each.__name__ for each in kinds)} is wanted, not {given!r}")
+    # Of an argument that isn't plainly a handle of this file and of the kind that is wanted: what stands for it, or why not.
+    # That it is is looked at by each call itself, which calls nothing then.
 
-    def _value(self, given: Operand) -> str:
-        """The number of an expression; of an `int`, that of a literal which is made for it."""
-        if isinstance(given, Expression):
-            if given.file is self:
-                return given.step
+    def _own(self, given: Handle, kind: Type[Handle]) -> Any:
+        """The handle, where it is of this kind and of this file."""
+        if not isinstance(given, kind):
+            raise TypeError(f"{kind.__name__} is wanted, not {given!r}")
+        if given.file is not self:
             raise Condition("a handle of another file")
+        return given
+
+    def _value(self, given: Operand) -> Expression:
+        """The expression; of an `int`, a literal which is made for it."""
         if isinstance(given, int) and not isinstance(given, bool):
-            return self._later(f"MakeUnsizedDecimalLiteral {int32(given)}", Expr).step
-        raise TypeError(f"an expression or an int is wanted, not {given!r}")
+            return self._later(f"MakeUnsizedDecimalLiteral {int32(given)}", Expr)
+        if not isinstance(given, Expression):
+            raise TypeError(f"an expression or an int is wanted, not {given!r}")
+        return self._own(given, Expression)
 
-    def _subject(self, given: Selectable) -> str:
-        """The number of an expression that may be selected from."""
+    def _subject(self, given: Selectable) -> Selectable:
+        """The expression, where it may be selected from."""
         if isinstance(given, Expression) and not isinstance(given, Selectable):
             raise TypeError(f"make_indexable_expression makes of {given!r} what may be selected from")
         return self._own(given, Selectable)
 
-    def _type(self, given: TypeLike) -> str:
-        """The number of a type; of an `int`, that of a type of so many bits, which is made once."""
+    def _type(self, given: TypeLike) -> DataType:
+        """The type; of an `int`, that of so many bits, which is made once."""
         if isinstance(given, DataType):
-            if given.file is self:
-                return given.step
-            raise Condition("a handle of another file")
+            return self._own(given, DataType)
         if not isinstance(given, int) or isinstance(given, bool):
             raise TypeError(f"a type or a number of bits is wanted, not {given!r}")
         if given not in self._types:
             line = f"MakeBitVectorType {int64(given)} false"
-            self._types[given] = self._if(line, DataType, given >= 1).step
+            self._types[given] = self._if(line, DataType, given >= 1)
         return self._types[given]
+
+    def _scope(self, given: RegisterScope) -> RegisterScope:
+        """The module or the loop."""
+        if not isinstance(given, (Module, GenerateLoop)):
+            raise TypeError(f"Module or GenerateLoop is wanted, not {given!r}")
+        return self._own(given, Handle)
+
+    def _value_step(self, given: Operand) -> str:
+        """The number of an expression, as `_value` has it."""
+        if isinstance(given, Expression) and given.file is self:
+            return given.step
+        return self._value(given).step
