@@ -4,7 +4,7 @@
 use crate::kinds::ModulePortDirection;
 use crate::mixer::Mixing;
 use std::collections::{HashMap, HashSet};
-use std::hash::BuildHasher;
+use std::hash::{BuildHasher, Hash, Hasher};
 
 /// A port of a module; types and names by the steps that answered them.
 pub(crate) struct Port {
@@ -25,6 +25,20 @@ pub(crate) enum Width {
     Expression(usize),
 }
 
+/// A call of a handle, by its step, which answers the same each time.
+#[derive(PartialEq, Eq)]
+struct Asked {
+    of: usize,
+    call: &'static str,
+}
+
+impl Hash for Asked {
+    fn hash<H: Hasher>(&self, state: &mut H) {
+        // Few handles are asked by two calls.
+        self.of.hash(state);
+    }
+}
+
 #[derive(Default)]
 pub(crate) struct Known {
     /// All ports of the file, in the order of their calls.
@@ -32,7 +46,7 @@ pub(crate) struct Known {
     /// The types that have a width of their own or their element's.
     pub(crate) widths: HashMap<usize, Width, Mixing>,
     /// What a call answered for a handle, where it answers the same each time.
-    answers: HashMap<(&'static str, usize), usize, Mixing>,
+    answers: HashMap<Asked, usize, Mixing>,
     /// A digest of each name of a module or a function, beside the step of its owner.
     names: HashSet<u32, Mixing>,
     /// The conditionals that have their `else`.
@@ -52,11 +66,11 @@ impl Known {
     }
 
     pub(crate) fn answer(&self, call: &'static str, of: usize) -> Option<usize> {
-        self.answers.get(&(call, of)).copied()
+        self.answers.get(&Asked { of, call }).copied()
     }
 
     pub(crate) fn keep_answer(&mut self, call: &'static str, of: usize, answer: usize) {
-        self.answers.insert((call, of), answer);
+        self.answers.insert(Asked { of, call }, answer);
     }
 
     /// Keeps a name of a module or a function, and returns whether it is surely new there. One of another digest is; one of
