@@ -38,7 +38,7 @@ class Core:
     """Writes lines, and knows the number of each answer before it is there.
 
     A call that nothing refuses waits with others (`_later`), since Python has looked at the kinds of its handles, at its
-    numbers (`_if`), and whether a name was entered before (`_named`). One that may be refused is made at once, behind those
+    numbers (`_if`), and whether a name was entered before (`_named`). One that may be refused is made at once, after those
     that wait (`_now`), so that it raises its own fault and no later call does. What asks (`_ask`) is made at once too.
     """
 
@@ -50,7 +50,7 @@ class Core:
         self._places: Optional[List[Tuple[str, int]]] = [] if places else None
         # The numbers of the answers to come, in digits, as lines have them.
         self._steps = numbers(0)
-        # The names of modules and functions, each behind the number of its owner, of a file with `strict`.
+        # The names of modules and functions, each after the number of its owner, of a file with `strict`.
         self._names: Set[str] = set()
         self._types: Dict[int, DataType] = {}
         self._fault: Optional[VastFault] = None
@@ -92,7 +92,7 @@ class Core:
             fault.place = "{}:{}".format(*self._places[fault.line])
 
     def _later(self, line: str, kind: Optional[Type[Handle]] = None) -> Any:
-        """What a call that waits answers: a handle of this kind, or `None`."""
+        """What a call that waits returns: a handle of this kind, or `None`."""
         lines = self._lines
         if len(lines) >= BATCH:
             self.flush()
@@ -108,14 +108,14 @@ class Core:
         return made
 
     def _now(self, line: str, kind: Type[Handle] = Handle) -> Any:
-        """What a call that is made at once answers. Raises its fault, and then nothing changed."""
+        """What a call that is made at once returns. Raises its fault, and then nothing changed."""
         made = self._later(line, kind)
         if not self._strict:
             return made
         try:
             self.flush()
         except BaseException:
-            # Where an earlier line was refused memory, this one stands behind it, and is let go.
+            # Where an earlier line was refused memory, this one comes after it, and is let go.
             del self._lines[-1:]
             if self._places is not None:
                 del self._places[-1:]
@@ -124,11 +124,11 @@ class Core:
         return made
 
     def _if(self, line: str, kind: Type[Handle], is_certain: bool) -> Any:
-        """What a call answers that waits where nothing refuses it for certain, and else is made at once."""
+        """What a call returns that waits where nothing refuses it for certain, and else is made at once."""
         return self._later(line, kind) if is_certain else self._now(line, kind)
 
     def _named(self, call: str, entry: str, rest: str, kind: Type[Handle]) -> Any:
-        """What a call answers that enters a name, `entry` with the number of its owner before it; it waits where that is new."""
+        """What a call returns that enters a name, `entry` with the number of its owner before it; it waits where that is new."""
         line = f"{call} {entry} {rest}"
         if not self._strict:
             return self._later(line, kind)

@@ -15,7 +15,7 @@ class Handle:
 
     Two handles are equal where they are the same answer. A handle of another file is refused by `Condition`, one of
     another kind by `TypeError`. `str` of an expression is its text, of a module or a function its name, which the library is
-    asked for; `repr` shows the start of it behind the kind. Other handles show their kind and number.
+    asked for; `repr` shows the start of it after the kind. Other handles show their kind and number.
     """
 
     __slots__ = ("file", "step")

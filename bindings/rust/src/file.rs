@@ -130,7 +130,7 @@ impl VastFile {
             .collect()
     }
 
-    /// What a call answers for the handle, where it answers the same each time. Nothing refuses it, so it waits.
+    /// What a call returns for the handle, where it returns the same each time. Nothing refuses it, so it waits.
     pub(crate) fn answered(&self, call: &'static str, of: Id) -> Id {
         let of = self.own(of);
         let mut state = self.locked();

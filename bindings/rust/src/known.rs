@@ -1,5 +1,5 @@
 //! What this crate keeps of a file beside the library: handles of ports and widths as expressions, which no line answers;
-//! answers of calls that answer the same handle each time; and what tells that a call won't be refused, so that it may wait.
+//! what calls return that return the same each time; and what tells that a call won't be refused, so that it may wait.
 
 use crate::kinds::ModulePortDirection;
 use crate::mixer::Mixing;
@@ -25,7 +25,7 @@ pub(crate) enum Width {
     Expression(usize),
 }
 
-/// A call of a handle, by its step, which answers the same each time.
+/// A call of a handle, by its step, which returns the same each time.
 #[derive(PartialEq, Eq)]
 struct Asked {
     of: usize,
@@ -45,7 +45,7 @@ pub(crate) struct Known {
     pub(crate) ports: Vec<Port>,
     /// The types that have a width of their own or their element's.
     pub(crate) widths: HashMap<usize, Width, Mixing>,
-    /// What a call answered for a handle, where it answers the same each time.
+    /// What such a call returned, by its step.
     answers: HashMap<Asked, usize, Mixing>,
     /// A digest of each name of a module or a function, beside the step of its owner.
     names: HashSet<u32, Mixing>,
