@@ -124,7 +124,7 @@ class Waiting(FileTest):
         file._session.lines = lambda given: sent.append(len(given)) or lines(given)
         module, other = file.module("m"), file.module("n")
         a = module.reg("a", 8)
-        other.wire("a", a[3])
+        other.wire("a", 1, a[3])
         module.assign(a, a[7:4] + file.bits(4, 15))
         file.call("f", a.part(a, 2))
         self.assertEqual(sent, [])
