@@ -3,9 +3,10 @@ file."""
 import keyword
 import re
 
-from python_text import WIDTH, doc, wrapped
+from python_text import WIDTH, called, doc, wrapped
 from python_words import CONDITIONS, MEANINGS, NOTES, REFUSALS, SAYS
 from table import Type, parts
+from waiting import COMPARED, NAMED, clauses, tests
 
 FOLDER = "bindings/python/vast"
 HEAD = '"""{}\n\nWritten by tools/bindings_from_calls from the table of calls; not to be edited."""\n'
@@ -28,6 +29,8 @@ OWNERS = {
 }
 # Of kinds for which others may stand: the name of the class of all of them.
 FAMILIES = {"expression": "Expression", "indexable": "Selectable"}
+# What makes of an argument of a kind what stands for it, where that isn't plain.
+STANDS = {"expression": "_value", "indexable": "_subject", "type": "_type", "scope": "_scope"}
 # Calls of files alone, though their first argument is a handle.
 NO_METHODS = ("add_registers",)
 # What `core.py` has.
@@ -41,6 +44,12 @@ DEFAULTS = {
     "label": "None",
     "reset_value": "None",
     "enable": "None",
+}
+# What tells for certain that a clause is met, or that a call is not refused so.
+TELLS = {
+    **COMPARED,
+    "name ≢ []": 'name != ""',
+    REFUSALS["make_literal"]: "is_small_literal(text)",
 }
 INTEGERS = {(-(2**31), 2**31 - 1): "int32", (-(2**63), 2**63 - 1): "int64", (0, 2**64 - 1): "size"}
 
@@ -89,23 +98,31 @@ class PythonBinding:
             return class_of(self.kinds[type.of])
         return self.hint(type).replace("Sequence", "List")
 
+    def looked_at(self, type, name):
+        """The statement that makes of a handle's argument, where it isn't plainly one of the file and of its kind, what stands
+        for it; nothing for other arguments."""
+        if type.form != "handle":
+            return []
+        plain = f"isinstance({name}, {self.classes(type.of)}) and {name}.file is self"
+        stands = f"self.{STANDS[type.of]}({name})" if type.of in STANDS else f"self._own({name}, {self.classes(type.of)})"
+        return [f"if not ({plain}):", f"    {name} = {stands}"]
+
     def written(self, type, name):
         """The Python expression of what a line has for this argument."""
         if type.form == "list":
             return f"listed({self.writer(type.of)}, {name})"
         if type.form == "optional":
             return f"optional({self.writer(type.of)}, {name})"
-        if type.form == "handle" and self.writer(type) is None:
-            return f"self._own({name}, {self.classes(type.of)})"
+        if type.form == "handle":
+            return f"{name}.step"
         if type.form == "word":
             return f"word({type.of}, {name})"
         return f"{self.writer(type)}({name})"
 
     def writer(self, type):
-        """The function that writes such an argument; `None` for handles that no other kind stands for."""
+        """The function that writes such an argument within a list, an optional or a group."""
         if type.form == "handle":
-            own = {"expression": "self._value", "indexable": "self._subject", "type": "self._type"}
-            return own.get(type.of)
+            return "self._value_step"
         if type.form == "integer":
             return INTEGERS[type.least, type.most]
         if type.form == "group":
@@ -115,9 +132,10 @@ class PythonBinding:
         return {"text": "quoted", "truth": "truth"}[type.form]
 
     def classes(self, kind):
-        """The class of a kind, or the classes of those that may stand for it."""
-        takes = self.kinds[kind].takes
-        names = [class_of(self.kinds[each]) for each in takes]
+        """The class of a kind, or that or those of what may stand for it."""
+        if kind in FAMILIES:
+            return FAMILIES[kind]
+        names = [class_of(self.kinds[each]) for each in self.kinds[kind].takes]
         return names[0] if len(names) == 1 else f"({', '.join(names)})"
 
     # kinds.py
@@ -235,8 +253,8 @@ class PythonBinding:
             + [f"    {name}," for name in self.imported("\n".join(body))]
             + [
                 ")",
-                "from .writing import int32, int64, listed, optional, quoted, size, truth, word",
-                "from .writing import read_number, read_optional, read_ports, read_truth\n\n",
+                "from .writing import int32, int64, is_small_literal, listed, optional, quoted",
+                "from .writing import read_number, read_optional, read_ports, read_truth, size, truth, word\n\n",
                 "class Calls(Core):",
                 '    """Each call of the table, by its name in snake case."""\n',
             ]
@@ -261,14 +279,16 @@ class PythonBinding:
 
     def group_writer(self, type):
         """The method that writes such a group."""
-        fields = " ".join(
-            "{" + self.written(field.type, f"given.{field.name}") + "}" for field in type.fields
-        )
+        fields = " ".join("{" + self.field(field.type, f"given.{field.name}") + "}" for field in type.fields)
         return (
             f"    def _{type.of.lower()}(self, given: {type.of}) -> str:\n"
             + wrapped("        return ", f'f"[ {fields} ]"')
             + "\n"
         )
+
+    def field(self, type, name):
+        """The Python expression of what a line has for a field."""
+        return f"{self.writer(type)}({name})" if type.form == "handle" else self.written(type, name)
 
     def plain_parameter(self, parameter):
         """A parameter with its type."""
@@ -315,18 +335,32 @@ class PythonBinding:
         return "\n".join(said)
 
     def body(self, call):
-        """The statement that writes the line."""
-        given = "".join(
-            " {" + self.written(parameter.type, parameter.name) + "}" for parameter in call.parameters
-        )
-        line = f'f"{call.call}{given}"' if given else f'"{call.call}"'
+        """The statements that look at the handles, and that which writes the line."""
+        looks = [self.looked_at(parameter.type, parameter.name) for parameter in call.parameters]
+        rows = [f"        {row}" for look in looks for row in look]
+        return "\n".join([*rows, self.made(call)])
+
+    def made(self, call):
+        """The statement that writes the line, or the two where the call enters a name."""
+        given = [self.written(parameter.type, parameter.name) for parameter in call.parameters]
+        written = "".join(" {" + each + "}" for each in given)
+        line = f'f"{call.call}{written}"' if written else f'"{call.call}"'
         if call.is_question:
             ask = f"self._ask({line})"
             return wrapped("        return ", READERS[reader_key(call.answer)].format(ask))
-        made = f"self._{'now' if call.may_fault else 'later'}({line})"
         if call.answer.form == "nothing":
-            return wrapped("        ", made)
-        return wrapped("        return ", f"{class_of(self.kinds[call.answer.of])}(self, {made})")
+            return called("        ", "self._now" if call.may_fault else "self._later", line)
+        kind = class_of(self.kinds[call.answer.of])
+        if call.may_fault and all(clause in NAMED for clause in clauses(call)):
+            owner, name, rest = given
+            entry = f'        entry = f"{{{owner}}} {{{name}}}"'
+            return f'{entry}\n        return self._named("{call.call}", entry, {rest}, {kind})'
+        told = tests(call, TELLS)
+        if told is None:
+            return called("        return ", "self._now", line, kind)
+        if told:
+            return called("        return ", "self._if", line, kind, " and ".join(told))
+        return called("        return ", "self._later", line, kind)
 
 
 # How an answer's text is read.

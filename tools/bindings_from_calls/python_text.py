@@ -19,6 +19,22 @@ def wrapped(start, expression):
     return f"{start}{head}\n{rows}\n{closing}{tail}"
 
 
+def called(start, function, *arguments):
+    """A statement that ends by a call; where it is too long for its line each argument has its own, or more."""
+    line = f"{start}{function}({', '.join(arguments)})"
+    if len(line) <= WIDTH:
+        return line
+    closing = " " * (len(start) - len(start.lstrip()))
+    indent = closing + "    "
+    rows = []
+    for argument in arguments:
+        parts = [argument]
+        if len(indent) + len(argument) >= WIDTH and argument.startswith('f"'):
+            parts = [f'f"{part}"' for part in pieces(argument[2:-1], WIDTH - len(indent) - 4)]
+        rows.append("".join(f"\n{indent}{part}" for part in parts))
+    return f"{start}{function}({','.join(rows)},\n{closing})"
+
+
 def pieces(text, width):
     """Parts of the text of an f-string, cut before a space that stands between two arguments."""
     cuts, depth = [], 0

@@ -1,14 +1,16 @@
-"""The methods of the Rust binding: `src/methods/*.rs`, one for each call by group, and `tests/lists/calls.rs`, which makes a
-list's calls by them. The types of parameters, and the words of a method's comment, are those of the method in
+"""The methods of the Rust binding: `src/methods/*.rs`, one for each call by group. The types of parameters, and the words of a method's comment, are those of the method in
 crates/xlsynth_vast, which has the signatures of the original."""
 import pathlib
 import re
 import shutil
-import subprocess
+
+from python_words import IN_FUNCTION, REFUSALS
+from rust_arms import CALLS, test_text
+from rust_text import rustfmt
+from waiting import COMPARED, tests
 
 ROOT = pathlib.Path(__file__).resolve().parent.parent.parent
 METHODS = "bindings/rust/src/methods"
-CALLS = "bindings/rust/tests/lists/calls.rs"
 
 # Where a condition isn't met, the panic begins so, as it does in the original.
 CONDITIONS = {
@@ -29,6 +31,32 @@ LOOKS = {
     "make_packed_array_type": "|state| packed_condition(state, element_step, dimensions)",
     "make_unpacked_array_type": "|_| unpacked_condition(dimensions)",
     "make_type_cast": "|state| cast_condition(state, data_type_step)",
+}
+
+# What tells for certain that a clause is met, or that a call is not refused so. A call waits where all of its own are told so;
+# one with a clause that is not here is made at once.
+TELLS = {
+    **COMPARED,
+    "name ≢ []": "!name.is_empty()",
+    "AreDimensions dimensions": "are_dimensions(dimensions)",
+    "NameIsFree owner name": "self.known().enter(owner_step, name)",
+    "has_else (slice_get nests conditional.id.index) ≡ false": "!self.known().has_else(conditional_step)",
+    "is_castable (type_of data_type)": "!self.known().is_array(data_type_step)",
+    # Asserted before.
+    "length parameter_names ≡ length parameter_expressions": "true",
+    "length connection_names ≡ length connection_expressions": "true",
+    REFUSALS["make_literal"]: "is_small_literal(text)",
+    REFUSALS["make_binary_pattern"]: "is_pattern(bits_msb)",
+    REFUSALS["case_set_unique"]: "!unique || self.file_type == VastFileType::SystemVerilog",
+    REFUSALS["add_reg"]: "self.known().enter(owner_step, name)",
+    REFUSALS["add_function"]: "self.known().enter(owner_step, name) && !self.known().is_array(result_type_step)",
+    IN_FUNCTION: "self.known().enter(function_step, name)",
+}
+
+# What is kept of a call that is made, to tell so of later ones.
+KEEPS = {
+    "add_function": "self.known().enter(made.step, name);",
+    "conditional_add_else": "self.known().keep_else(conditional_step);",
 }
 
 # Directions of ports, which are kept for the calls that answer handles of ports.
@@ -129,7 +157,7 @@ def argument(name, kind, form):
     if kind in ("DataKind", "&LiteralFormat"):
         return None, f".word({name}.word())"
     if kind == "Option<&str>":
-        return None, f".option({name}, Line::text)"
+        return None, f".option({name}, Lines::text)"
     if kind == "&[i64]":
         return None, f".numbers({name})"
     if kind == "&[&str]":
@@ -187,8 +215,33 @@ def asked_once(call, method):
     return f"        {method.answer}({step})"
 
 
-def body(call, name, method, forms):
+def certainty(entry):
+    """What tells for certain that nothing refuses the call: `true`, `false` or an expression of Rust."""
+    told = tests(entry, TELLS)
+    if told is None:
+        return "false"
+    return " && ".join(test for test in told if test != "true") or "true"
+
+
+def made_by(entry, method, write):
+    """The expression that makes the call, whose arguments are written by a closure."""
+    name = entry.method
+    told = certainty(entry)
+    is_certain = told if told in ("true", "false") else "is_certain"
+    if entry.is_refused:
+        return f'self.allowed({is_certain}, "{entry.call}", {write})?'
+    if name in LOOKS:
+        return f'self.made_or({is_certain}, "{entry.call}", {write}, {LOOKS[name]})'
+    if told == "true":
+        return f'self.later("{entry.call}", {write})'
+    condition = "module ports must have unique names" if name in PORTS else CONDITIONS[name]
+    return f'self.made({is_certain}, "{entry.call}", "{condition}", {write})'
+
+
+def body(entry, method):
     """The method's body."""
+    call, name = entry.call, entry.method
+    forms = [parameter.type.form for parameter in entry.parameters]
     if name in ("make_indexable_expression", "generate_genvar", "function_body", "function_result",
                 "statement_block", "conditional_then_block"):
         return asked_once(call, method)
@@ -200,27 +253,25 @@ def body(call, name, method, forms):
         looked, writes = argument(label, kind, form)
         lines += [looked] if looked else []
         written.append(writes)
-    condition = "module ports must have unique names" if name in PORTS else CONDITIONS.get(name, "")
-    write = written_by(written)
-    if method.can_be_refused:
-        made = f'self.allowed("{call}", {write})?'
-    elif name in LOOKS:
-        made = f'self.made_or("{call}", {write}, {LOOKS[name]})'
-    else:
-        made = f'self.made("{call}", "{condition}", {write})'
+    told = certainty(entry)
+    if told not in ("true", "false"):
+        lines.append(f"let is_certain = {told};")
+    made = made_by(entry, method, written_by(written))
     answers = method.answer != "()" and name not in BLOCK_ANSWERS
-    if name in PORTS or name in WIDTHS:
+    kept = [KEEPS[name]] if name in KEEPS else []
+    if name in PORTS:
+        kept.append(f"self.keep_port(owner_step, ModulePortDirection::{PORTS[name]}, data_type_step, made);")
+    if name in WIDTHS:
+        kept.append(f"self.keep_width(made, {WIDTHS[name]});")
+    if kept:
         lines.append(f"let made = {made};")
     elif not answers:
         lines.append(f"{made};")
-    if name in PORTS:
-        lines.append(f"self.keep_port(owner_step, ModulePortDirection::{PORTS[name]}, name, data_type_step, made);")
-    if name in WIDTHS:
-        lines.append(f"self.keep_width(made, {WIDTHS[name]});")
+    lines += kept
     if name in BLOCK_ANSWERS:
         lines.append(f"VastStatement({method.parameters[0][0]}.0)")
     elif answers:
-        value = f"{method.answer}({'made' if name in PORTS or name in WIDTHS else made})"
+        value = f"{method.answer}({'made' if kept else made})"
         lines.append(f"Ok({value})" if method.can_be_refused else value)
     elif method.can_be_refused:
         lines.append("Ok(())")
@@ -229,7 +280,7 @@ def body(call, name, method, forms):
 
 def written_by(written):
     """The closure that writes the arguments."""
-    return "|line| line" + "".join(written) if written else "|line| line"
+    return "|lines| lines" + "".join(written)
 
 
 def result_of(name, method):
@@ -247,25 +298,25 @@ def text(table, group):
             continue
         name = entry.method
         method, receiver = found[name]
-        forms = [parameter.type.form for parameter in entry.parameters]
         parts.append("\n".join([comment(name, method), signature(name, method, receiver, result_of(name, method)),
-                                body(entry.call, name, method, forms), "    }"]))
+                                body(entry, method), "    }"]))
     code = "\n\n".join(parts)
     return rustfmt(HEAD % (GROUPS[group], uses(code)) + code + "\n}\n")
 
 
 # Where what the methods name stands.
 PLACES = {
-    "conditions": ["cast_condition", "packed_condition", "unpacked_condition"],
+    "conditions": ["are_dimensions", "cast_condition", "packed_condition", "unpacked_condition"],
     "error": ["VastError"],
     "file": ["VastFile"],
     "handles": ["BlankLine", "CaseStatement", "Comment", "Conditional", "ContinuousAssignment", "Def", "Expr",
                 "GenerateLoop", "Index", "IndexableExpr", "InlineVerilogStatement", "Instantiation", "LocalparamRef",
                 "LogicRef", "MacroRef", "MacroStatement", "ParameterRef", "Slice", "VastAlwaysBase", "VastDataType",
                 "VastFunction", "VastModule", "VastStatement", "VastStatementBlock"],
-    "kinds": ["DataKind", "LiteralFormat", "ModulePortDirection"],
+    "kinds": ["DataKind", "LiteralFormat", "ModulePortDirection", "VastFileType"],
     "known": ["Width"],
-    "line": ["Line"],
+    "line": ["Lines"],
+    "literal": ["is_pattern", "is_small_literal"],
 }
 
 
@@ -280,86 +331,6 @@ def uses(code):
     return "".join(lines)
 
 
-def rustfmt(code):
-    """The code as rustfmt lays it out."""
-    command = ["rustfmt", "--edition", "2021", "--emit", "stdout"]
-    return subprocess.run(command, input=code, text=True, capture_output=True, check=True).stdout
-
-
-CALLS_HEAD = '''//! One arm for each call of a list.
-//!
-//! Written by tools/bindings_from_calls from the table of calls; not to be edited.
-
-use crate::answers::{format_of, kind_of, Answer, Answers, Fault};
-use crate::form::{Argument, Line};
-use xlsynth_vast::{Expr, VastFile};
-
-/// Makes the call of the line.
-pub fn make(file: &mut VastFile, answers: &Answers, line: &Line) -> Result<Answer, Fault> {
-    let words = line.arguments.as_slice();
-    match line.call.as_str() {
-'''
-
-CALLS_TAIL = '''        other => panic!("no call: {other}"),
-    }
-}
-'''
-
-
-def test_argument(place, name, kind, form):
-    """What reads an argument of a line, and what stands for it in the call."""
-    word = f"&words[{place}]"
-    if form == "handle":
-        return f"let {name} = answers.handle({word})?;", f"&{name}" if kind.startswith("&") else name
-    if kind == "&str":
-        return f"let {name} = words[{place}].text();", name
-    if kind == "bool":
-        return f"let {name} = words[{place}].truth();", name
-    if kind in ("i64", "i32", "usize"):
-        return f"let {name} = words[{place}].number();", name
-    if kind == "DataKind":
-        return f"let {name} = kind_of({word});", name
-    if kind == "&LiteralFormat":
-        return f"let {name} = format_of({word});", f"&{name}"
-    if kind == "Option<&str>":
-        return f"let {name} = words[{place}].option().map(Argument::text);", name
-    if kind == "&[i64]":
-        return f"let {name}: Vec<i64> = words[{place}].list().iter().map(Argument::number).collect();", f"&{name}"
-    if kind == "&[&str]":
-        return f"let {name}: Vec<&str> = words[{place}].list().iter().map(Argument::text).collect();", f"&{name}"
-    if kind == "&[&Expr]":
-        return (f"let {name}: Vec<Expr> = answers.handles({word})?;\n"
-                f"let {name}: Vec<&Expr> = {name}.iter().collect();"), f"&{name}"
-    return (f"let {name}: Vec<Option<Expr>> = answers.options({word})?;\n"
-            f"let {name}: Vec<Option<&Expr>> = {name}.iter().map(Option::as_ref).collect();"), f"&{name}"
-
-
-def arm(entry, method):
-    """The arm of a call."""
-    name = entry.method
-    lines, values = [], []
-    for place, ((label, kind), parameter) in enumerate(zip(method.parameters, entry.parameters, strict=True)):
-        read, value = test_argument(place, label, kind, parameter.type.form)
-        lines += read.split("\n")
-        values.append(value)
-    call = f"file.{name}({', '.join(values)})" + ("?" if method.can_be_refused else "")
-    answer = method.answer
-    if answer == "()":
-        lines += [f"{call};", "Ok(Answer::Nothing)"]
-    else:
-        lines.append(f"Ok(Answer::{answer}({call}))")
-    inner = "\n".join("            " + line for line in lines)
-    return f'        "{entry.call}" => {{\n{inner}\n        }}\n'
-
-
-def test_text(table):
-    """The whole file of arms."""
-    found = methods()
-    steps = [entry for entry in table.calls if entry.group not in ("questions", "helpers")]
-    arms = "".join(arm(entry, found[entry.method][0]) for entry in steps)
-    return rustfmt(CALLS_HEAD + arms + CALLS_TAIL)
-
-
 class RustBinding:
     """What is written for Rust."""
 
@@ -372,5 +343,5 @@ class RustBinding:
             print("bindings_from_calls: no rustfmt, Rust is left out")
             return {}
         files = {f"{METHODS}/{group}.rs": text(self.table, group) for group in GROUPS}
-        files[CALLS] = test_text(self.table)
+        files[CALLS] = test_text(self.table, methods())
         return files

@@ -4,7 +4,8 @@ import subprocess
 import sys
 
 from sessions import FileTest, over_each
-from vast import Condition, File, FileType, NoLibrary, Refused, VastFault
+from vast import Condition, File, FileType, LiteralFormat, NoLibrary, Refused, VastFault
+from vast.writing import is_small_literal
 
 PACKAGE = os.path.dirname(os.path.dirname(os.path.abspath(__file__)))
 
@@ -116,6 +117,38 @@ class Waiting(FileTest):
                 self.assertEqual(again(refused.emit), "".join(line + "\n" for line in self.TEXT))
 
     @over_each()
+    def test_what_is_certain_waits(self, file):
+        """Names that are new, and numbers that are fine, wait; a name that was entered is sent at once."""
+        sent = []
+        lines = file._session.lines
+        file._session.lines = lambda given: sent.append(len(given)) or lines(given)
+        module, other = file.module("m"), file.module("n")
+        a = module.reg("a", 8)
+        other.wire("a", 1, a[3])
+        module.assign(a, a[7:4] + file.bits(4, 15))
+        file.call("f", a.part(a, 2))
+        self.assertEqual(sent, [])
+        self.assertRaises(Refused, module.reg, "a")
+        self.assertRaises(Condition, module.wire, "a")
+        self.assertEqual(len(sent), 2)
+        function = module.function("f", 1)
+        function.input("a")
+        for method in (module.reg, function.reg):
+            self.assertRaises(Refused, method, "f")
+        self.assertRaises(Refused, function.logic, "a")
+        self.assertRaises(Condition, a.__getitem__, -1)
+
+    @over_each()
+    def test_literals_that_wait(self, file):
+        """Literals that wait are taken in each format."""
+        for form in LiteralFormat:
+            for text in ("bits[1]:0", "bits[1]:1", "bits[8]:255", "bits[30]:1073741823"):
+                self.assertTrue(is_small_literal(text))
+                self.assertTrue(file.make_literal(text, form).emit_expression())
+            for text in ("bits[0]:0", "bits[1]:2", "bits[8]:256", "bits[8]:", "bits[8]", "bits[08]:1", "bits[8]:1\n"):
+                self.assertFalse(is_small_literal(text))
+
+    @over_each()
     def test_many_wait(self, file):
         module = file.add_module("m")
         a = module.wire("a", 8)
@@ -147,6 +180,7 @@ class Waiting(FileTest):
             raise KeyboardInterrupt
 
         module = file.add_module("m")
+        module.wire("a")
         file._session.lines = interrupted
         self.assertRaises(KeyboardInterrupt, module.wire, "a")
         del file._session.lines

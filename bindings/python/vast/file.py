@@ -18,7 +18,9 @@ from .kinds import (
     Slice,
     TypeLike,
 )
+from .saving import Path, save_whole
 from .session import ListSession, Session, open_session
+from .writing import quoted
 
 
 class FileType(enum.Enum):
@@ -35,8 +37,8 @@ class File(Calls):
     handles of this file. Where a call is at fault it raises `Refused` or `Condition`, and the file is as it was
     before the call; where memory is refused, `MemoryError`, and the call may be made again.
 
-    When a fault is raised: by the call itself. Calls that nothing can refuse once Python has looked at their handles wait,
-    up to 1,024 of them, and are made with the next that can be, or with the next question. With `strict=False` all calls
+    When a fault is raised: by the call itself. Calls that nothing can refuse once Python has looked at their handles, numbers
+    and names wait, up to 1,024 of them, and are made with the next that can be, or with the next question. With `strict=False` all calls
     but questions wait, which is faster through a process: a fault is then raised by the call that sends it, and each later
     call of the file raises it again. Wrong kinds of handles and numbers out of range are `TypeError` and `ValueError` of the
     call itself in either case, handles of another file `Condition`.
@@ -76,9 +78,19 @@ class File(Calls):
         """Lets go of the file, as is done where nothing holds it any more. Each later call that is sent is a `ValueError`."""
         self._session.close()
 
+    def save(self, path: Path) -> None:
+        """Makes the file's text the file at this path, whole or not at all.
+
+        Where `emit` is refused or the text can't be written, what was at the path stays as it was. Raises what `emit` raises,
+        and `OSError`.
+        """
+        save_whole(path, self.emit())
+
     def add_function(self, owner: Module, name: str, result_type: TypeLike) -> Function:
         made = super().add_function(owner, name, result_type)
         made.called = name
+        # A name of the module, and that of the function's result.
+        self._names.update(f"{scope.step} {quoted(name)}" for scope in (owner, made))
         return made
 
     # Short words, made of the calls

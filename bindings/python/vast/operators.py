@@ -23,6 +23,9 @@ class Operators(Handle):
     __iter__ = None
     __contains__ = None
 
+    def _printed(self) -> str:
+        return self.file.emit_expression(self)
+
     def __bool__(self) -> bool:
         raise TypeError(
             "an expression is neither true nor false in Python: write a.logical_and(b), a.logical_or(b),"

@@ -123,7 +123,7 @@ class LibrarySession:
         if length > self.SHORT:
             room = create_string_buffer(length)
             self._library.vast_text(self._session, number, room, length)
-        return room.raw[:length].decode()
+        return str(memoryview(room)[:length], "utf-8")
 
     def _check(self, status: int) -> None:
         if status != 0:

@@ -81,6 +81,9 @@ class ModuleWords(ScopeWords):
 
     __slots__ = ()
 
+    def _printed(self) -> str:
+        return self.file.module_name(self)
+
     def input(self, name: str, data_type: TypeLike = 1) -> LogicRef:
         """An input of this type, or of so many bits."""
         return self.file.add_input(self, name, data_type)
@@ -243,6 +246,9 @@ class FunctionWords(Handle):
 
     __slots__ = ("called",)
     called: str
+
+    def _printed(self) -> str:
+        return self.called
 
     def __enter__(self) -> StatementBlock:
         return self.file.function_body(self)

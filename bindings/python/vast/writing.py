@@ -1,6 +1,7 @@
 """Arguments as lines have them, and answers as lines give them."""
 from __future__ import annotations
 
+import functools
 import re
 from enum import Enum
 from json.encoder import encode_basestring
@@ -17,6 +18,17 @@ def quoted(text: str) -> str:
     if not text.isascii():
         text.encode()  # Half of a surrogate pair is no character: a UnicodeEncodeError, before anything is made.
     return encode_basestring(text)
+
+
+# A literal of at most 30 bits.
+_SMALL = re.compile(r"bits\[([12]?[1-9]|[123]0)\]:(0|[1-9][0-9]{0,9})", re.ASCII)
+
+
+@functools.lru_cache(maxsize=1024)
+def is_small_literal(text: str) -> bool:
+    """Whether the text is for certain a literal that each format holds; the library tells it of others."""
+    found = _SMALL.fullmatch(text)
+    return found is not None and int(found[2]) >> int(found[1]) == 0
 
 
 def truth(given: bool) -> str:

@@ -1,5 +1,5 @@
 //! How long a module of so many wires takes, each with its assignment: `cargo run --release --example wires -- 100000`.
-//! It compiles unchanged against the original too.
+//! It compiles unchanged against the original too. `bench.rs` beside it measures more.
 
 use std::env;
 use std::time::Instant;
@@ -38,5 +38,7 @@ fn wires(count: usize) -> VastFile {
         file.add_member_continuous_assignment(module, assignment);
         last = wire;
     }
+    // Calls that wait are made before a question.
+    file.module_member_count(module);
     file
 }

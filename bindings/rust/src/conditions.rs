@@ -1,7 +1,7 @@
-//! What a call panics with, where its condition depends on what it is given.
+//! Conditions that depend on what a call is given, and what it panics with where they are not met.
 
-use crate::file::State;
 use crate::known::Width;
+use crate::state::State;
 
 /// Why an element of this type, or these dimensions, make no packed array.
 #[cold]
@@ -21,6 +21,11 @@ pub(crate) fn packed_condition(
     } else {
         "packed-array dimensions must be greater than zero"
     }
+}
+
+/// Whether these dimensions make an array.
+pub(crate) fn are_dimensions(dimensions: &[i64]) -> bool {
+    !dimensions.is_empty() && dimensions.iter().all(|dimension| *dimension >= 1)
 }
 
 /// Why these dimensions make no unpacked array.

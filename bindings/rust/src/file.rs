@@ -4,8 +4,9 @@ use crate::error::VastError;
 use crate::handles::{Expr, Id, IndexableExpr};
 use crate::kinds::{ModulePortDirection, VastFileType};
 use crate::known::{Known, Port, Width};
-use crate::line::Line;
-use crate::session::{warned, Fault, Session};
+use crate::line::Lines;
+use crate::session::Fault;
+use crate::state::{give_up, State};
 use crate::warning::VastWarning;
 use std::fmt;
 use std::sync::atomic::{AtomicU64, Ordering};
@@ -15,23 +16,15 @@ static NEXT_FILE: AtomicU64 = AtomicU64::new(1);
 
 /// A file of Verilog or SystemVerilog, which owns all that its handles name.
 ///
+/// Calls that nothing can refuse wait, and are made with the next call that may be refused, asks or prints, or when 64 KB of
+/// them wait. What waits when the file is dropped is let go.
+///
 /// # Panics
-/// Each call panics where a handle is another file's, and where memory is refused.
+/// Each call panics where a handle is another file's, and where memory is refused, to it or to one that waited.
 pub struct VastFile {
     pub(crate) file_type: VastFileType,
     pub(crate) file_id: u64,
     state: Mutex<State>,
-}
-
-/// The library's session, and what is kept beside it.
-pub(crate) struct State {
-    session: Session,
-    /// How many steps are made, which is the number of the next.
-    steps: usize,
-    /// The lines that made those, of a file with a lint.
-    made: Option<String>,
-    pub(crate) line: Line,
-    pub(crate) known: Known,
 }
 
 impl fmt::Debug for VastFile {
@@ -50,20 +43,14 @@ impl VastFile {
     /// # Panics
     /// Where memory is refused.
     pub fn new(file_type: VastFileType) -> VastFile {
-        let session = match Session::open(file_type) {
-            Ok(session) => session,
+        let state = match State::open(file_type) {
+            Ok(state) => state,
             Err(fault) => panic!("a session can't be opened: {fault:?}"),
         };
         VastFile {
             file_type,
             file_id: NEXT_FILE.fetch_add(1, Ordering::Relaxed),
-            state: Mutex::new(State {
-                session,
-                steps: 0,
-                made: None,
-                line: Line::default(),
-                known: Known::default(),
-            }),
+            state: Mutex::new(state),
         }
     }
 
@@ -73,7 +60,7 @@ impl VastFile {
     /// Where memory is refused.
     pub fn with_lint(file_type: VastFileType) -> VastFile {
         let mut file = VastFile::new(file_type);
-        file.state().made = Some(String::new());
+        file.state().keep_lines();
         file
     }
 
@@ -84,13 +71,10 @@ impl VastFile {
     /// # Panics
     /// Where the file is not made by [`with_lint`](VastFile::with_lint), and where memory is refused.
     pub fn warnings(&self) -> Vec<VastWarning> {
-        let state = self.locked();
-        let Some(made) = &state.made else {
-            panic!("warnings are told of a file that `with_lint` makes");
-        };
-        match warned(self.file_type, made) {
-            Some(told) => told.lines().filter_map(VastWarning::read).collect(),
-            None => give_up(Fault::Memory, ""),
+        match self.locked().warned(self.file_type) {
+            Some(Ok(told)) => told.lines().filter_map(VastWarning::read).collect(),
+            Some(Err(fault)) => give_up(fault, ""),
+            None => panic!("warnings are told of a file that `with_lint` makes"),
         }
     }
 
@@ -104,10 +88,8 @@ impl VastFile {
     /// # Panics
     /// With the library's words where the file has no text, as for an index other than 0 of a scalar.
     pub fn emit(&self) -> String {
-        match self.locked().session.print() {
-            Ok(text) => text,
-            Err(fault) => give_up(fault, ""),
-        }
+        let printed = self.locked().print();
+        printed.unwrap_or_else(|fault| give_up(fault, ""))
     }
 
     /// The step of the handle.
@@ -148,50 +130,57 @@ impl VastFile {
             .collect()
     }
 
-    /// What a call answers for the handle, where it answers the same each time.
+    /// What a call returns for the handle, where it returns the same each time. Nothing refuses it, so it waits.
     pub(crate) fn answered(&self, call: &'static str, of: Id) -> Id {
         let of = self.own(of);
         let mut state = self.locked();
         if let Some(answer) = state.known.answer(call, of) {
             return self.id(answer);
         }
-        state.line.begin(call).step(of);
-        let answer = state.make().unwrap_or_else(|fault| give_up(fault, ""));
+        let made = state.step(true, call, |lines| lines.step(of));
+        let answer = made.unwrap_or_else(|fault| give_up(fault, ""));
         state.known.keep_answer(call, of, answer);
         self.id(answer)
     }
 
-    /// Makes the call with the arguments that `write` writes.
+    /// Makes the call, which nothing refuses, with the arguments that `write` writes; it waits.
+    #[inline]
+    pub(crate) fn later(&mut self, call: &str, write: impl FnOnce(&mut Lines) -> &mut Lines) -> Id {
+        self.made(true, call, "", write)
+    }
+
+    /// Makes the call; it waits where its conditions are met for certain.
     ///
     /// # Panics
     /// At a fault, with `condition` before the library's words where a condition isn't met.
     #[inline]
     pub(crate) fn made(
         &mut self,
+        is_certain: bool,
         call: &str,
         condition: &str,
-        write: impl FnOnce(&mut Line) -> &mut Line,
+        write: impl FnOnce(&mut Lines) -> &mut Lines,
     ) -> Id {
-        self.made_or(call, write, |_| condition)
+        self.made_or(is_certain, call, write, |_| condition)
     }
 
     /// The same, with what `condition` finds before the library's words.
     #[inline]
     pub(crate) fn made_or<'c>(
         &mut self,
+        is_certain: bool,
         call: &str,
-        write: impl FnOnce(&mut Line) -> &mut Line,
+        write: impl FnOnce(&mut Lines) -> &mut Lines,
         condition: impl FnOnce(&mut State) -> &'c str,
     ) -> Id {
         let state = self.state();
-        write(state.line.begin(call));
-        match state.make() {
+        match state.step(is_certain, call, write) {
             Ok(step) => self.id(step),
             Err(fault) => give_up(fault, condition(state)),
         }
     }
 
-    /// The same for a call that may be refused.
+    /// The same for a call that may be refused; it waits where it is not, for certain.
     ///
     /// # Errors
     /// Where the library refuses it.
@@ -201,15 +190,20 @@ impl VastFile {
     #[inline]
     pub(crate) fn allowed(
         &mut self,
+        is_certain: bool,
         call: &str,
-        write: impl FnOnce(&mut Line) -> &mut Line,
+        write: impl FnOnce(&mut Lines) -> &mut Lines,
     ) -> Result<Id, VastError> {
-        let state = self.state();
-        write(state.line.begin(call));
-        match state.make() {
+        match self.state().step(is_certain, call, write) {
             Ok(step) => Ok(self.id(step)),
             Err(fault) => Err(refusal(fault, "")),
         }
+    }
+
+    /// What is known of the file beside the library.
+    #[inline]
+    pub(crate) fn known(&mut self) -> &mut Known {
+        &mut self.state().known
     }
 
     /// Keeps a port for the calls that answer ports.
@@ -217,14 +211,12 @@ impl VastFile {
         &mut self,
         owner: usize,
         direction: ModulePortDirection,
-        name: &str,
         data_type: usize,
         logic_ref: Id,
     ) {
-        self.state().known.ports.push(Port {
+        self.known().ports.push(Port {
             owner,
             direction,
-            name: name.to_owned(),
             data_type,
             logic_ref: logic_ref.step,
         });
@@ -232,7 +224,7 @@ impl VastFile {
 
     /// Keeps the width of a type for the call that answers it.
     pub(crate) fn keep_width(&mut self, data_type: Id, width: Width) {
-        self.state().known.keep(data_type.step, width);
+        self.known().keep_width(data_type.step, width);
     }
 
     #[inline]
@@ -255,33 +247,6 @@ impl VastFile {
     }
 }
 
-impl State {
-    /// Makes the step of the line, and answers its number.
-    #[inline]
-    pub(crate) fn make(&mut self) -> Result<usize, Fault> {
-        self.session.lines(self.line.as_str())?;
-        if let Some(made) = &mut self.made {
-            made.push_str(self.line.as_str());
-            made.push('\n');
-        }
-        let step = self.steps;
-        self.steps += 1;
-        Ok(step)
-    }
-
-    /// Whether the question of the handle is answered with `true`.
-    pub(crate) fn holds(&mut self, question: &str, step: usize) -> bool {
-        self.line.begin(question).step(step);
-        matches!(self.ask().as_deref(), Ok("true"))
-    }
-
-    /// What the question of the line answers.
-    pub(crate) fn ask(&mut self) -> Result<String, Fault> {
-        self.session.lines(self.line.as_str())?;
-        Ok(self.session.answer())
-    }
-}
-
 /// The refusal of a call that may be refused.
 ///
 /// # Panics
@@ -294,27 +259,14 @@ pub(crate) fn refusal(fault: Fault, condition: &str) -> VastError {
     }
 }
 
-/// Panics as the call does.
-#[cold]
-pub(crate) fn give_up(fault: Fault, condition: &str) -> ! {
-    match fault {
-        Fault::Condition(words) if condition.is_empty() => panic!("{words}"),
-        Fault::Condition(words) => panic!("{condition}: {words}"),
-        Fault::Refused(words) => panic!("{words}"),
-        Fault::Memory => panic!("out of memory"),
-        Fault::Form(words) => panic!("a line of this crate's is not in the form: {words}"),
-    }
-}
-
 /// Whether the word is a keyword of Verilog or SystemVerilog; letters' case counts.
 ///
 /// # Panics
 /// Where memory is refused.
 pub fn is_system_verilog_keyword(identifier: &str) -> bool {
-    let file = VastFile::new(VastFileType::SystemVerilog);
-    let mut state = file.locked();
-    state.line.begin("?IsSystemVerilogKeyword").text(identifier);
-    match state.ask() {
+    let mut file = VastFile::new(VastFileType::SystemVerilog);
+    let question = "?IsSystemVerilogKeyword";
+    match file.state().ask(question, |lines| lines.text(identifier)) {
         Ok(answer) => answer == "true",
         Err(fault) => give_up(fault, ""),
     }

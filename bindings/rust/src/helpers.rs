@@ -3,7 +3,7 @@
 use crate::error::VastError;
 use crate::file::VastFile;
 use crate::handles::{Expr, GenerateLoop, IndexableExpr, VastModule};
-use crate::line::Line;
+use crate::line::Lines;
 
 /// The reset of a group of registers.
 #[derive(Clone, Copy, Debug)]
@@ -70,17 +70,19 @@ pub fn add_registers(
             register.enable.map(|enable| file.own(enable.0)),
         ));
     }
-    file.allowed("!AddRegisters", |line| {
-        line.step(clk)
-            .option(reset, |line, (signal, active_low)| {
-                line.word("[").step(signal).truth(active_low).word("]")
+    file.allowed(false, "!AddRegisters", |lines| {
+        lines
+            .step(clk)
+            .option(reset, |lines, (signal, active_low)| {
+                lines.word("[").step(signal).truth(active_low).word("]")
             })
-            .list(steps, |line, (reg, next, reset_value, enable)| {
-                line.word("[")
+            .list(steps, |lines, (reg, next, reset_value, enable)| {
+                lines
+                    .word("[")
                     .step(reg)
                     .step(next)
-                    .option(reset_value, Line::step)
-                    .option(enable, Line::step)
+                    .option(reset_value, Lines::step)
+                    .option(enable, Lines::step)
                     .word("]")
             })
             .step(scope)
@@ -130,7 +132,7 @@ pub fn bitwise_or_reduce(inputs: &[Expr], file: &mut VastFile) -> Result<Expr, V
     if let [only] = inputs {
         return Ok(*only);
     }
-    let made = file.allowed("!BitwiseOrReduce", |line| line.steps(&steps))?;
+    let made = file.allowed(false, "!BitwiseOrReduce", |lines| lines.steps(&steps))?;
     Ok(Expr(made))
 }
 
@@ -147,8 +149,8 @@ pub fn bitwise_or_reduce_array_elements(
     file: &mut VastFile,
 ) -> Result<Expr, VastError> {
     let step = file.own_indexable(expr);
-    let made = file.allowed("!BitwiseOrReduceArrayElements", |line| {
-        line.step(step).numbers(dimensions)
+    let made = file.allowed(false, "!BitwiseOrReduceArrayElements", |lines| {
+        lines.step(step).numbers(dimensions)
     })?;
     Ok(Expr(made))
 }
@@ -163,7 +165,7 @@ fn logical(
     if let ([only], false) = (inputs, invert) {
         return Ok(*only);
     }
-    let made = file.allowed(call, |line| line.steps(&steps).truth(invert))?;
+    let made = file.allowed(false, call, |lines| lines.steps(&steps).truth(invert))?;
     Ok(Expr(made))
 }
 

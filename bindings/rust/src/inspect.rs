@@ -1,10 +1,11 @@
 //! What a file holds.
 
 use crate::error::VastError;
-use crate::file::{give_up, refusal, VastFile};
+use crate::file::{refusal, VastFile};
 use crate::handles::{Expr, LogicRef, ModulePort, VastDataType, VastModule};
 use crate::kinds::{LiteralFormat, ModulePortDirection};
 use crate::known::Width;
+use crate::state::give_up;
 
 impl VastFile {
     /// The expression's text.
@@ -18,9 +19,8 @@ impl VastFile {
     /// Whether each printed name is an identifier, no edge stands in an expression, and no text is inline; an include's path
     /// and left sides are then such that the text reads back as the file.
     pub fn is_plain(&self) -> bool {
-        let mut state = self.locked();
-        state.line.begin("?FileIsPlain");
-        state.ask().unwrap_or_else(|fault| give_up(fault, "")) == "true"
+        let answer = self.locked().ask("?FileIsPlain", |lines| lines);
+        answer.unwrap_or_else(|fault| give_up(fault, "")) == "true"
     }
 
     /// The module's name.
@@ -56,8 +56,7 @@ impl VastFile {
 
     /// The port's name.
     pub fn port_name(&self, port: ModulePort) -> String {
-        let place = self.own(port.0);
-        self.locked().known.ports[place].name.clone()
+        self.logic_ref_name(self.port_logic_ref(port))
     }
 
     /// The port's type.
@@ -100,13 +99,11 @@ impl VastFile {
                         Err(_) => LiteralFormat::UnsignedDecimal,
                     };
                     let text = format!("bits[64]:{bits}");
-                    state
-                        .line
-                        .begin("MakeLiteral")
-                        .text(&text)
-                        .word(format.word());
-                    let step = state.make().unwrap_or_else(|fault| give_up(fault, ""));
-                    state.known.keep(data_type, Width::Expression(step));
+                    let made = state.step(true, "MakeLiteral", |lines| {
+                        lines.text(&text).word(format.word())
+                    });
+                    let step = made.unwrap_or_else(|fault| give_up(fault, ""));
+                    state.known.keep_width(data_type, Width::Expression(step));
                 }
             }
         }
@@ -149,15 +146,12 @@ impl VastFile {
     }
 
     fn asked(&self, question: &str, step: usize) -> String {
-        let mut state = self.locked();
-        state.line.begin(question).step(step);
-        state.ask().unwrap_or_else(|fault| give_up(fault, ""))
+        let answer = self.locked().ask(question, |lines| lines.step(step));
+        answer.unwrap_or_else(|fault| give_up(fault, ""))
     }
 
     fn width(&self, question: &str, step: usize) -> Result<i64, VastError> {
-        let mut state = self.locked();
-        state.line.begin(question).step(step);
-        match state.ask() {
+        match self.locked().ask(question, |lines| lines.step(step)) {
             Ok(answer) => Ok(number_of(&answer)),
             Err(fault) => Err(refusal(fault, "")),
         }

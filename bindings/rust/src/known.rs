@@ -1,14 +1,15 @@
-//! What this crate keeps of a file beside the library, since a line can't answer it: handles of ports, widths as
-//! expressions, and answers of calls that answer the same handle each time.
+//! What this crate keeps of a file beside the library: handles of ports and widths as expressions, which no line answers;
+//! what calls return that return the same each time; and what tells that a call won't be refused, so that it may wait.
 
 use crate::kinds::ModulePortDirection;
-use std::collections::HashMap;
+use crate::mixer::Mixing;
+use std::collections::{HashMap, HashSet};
+use std::hash::{BuildHasher, Hash, Hasher};
 
 /// A port of a module; types and names by the steps that answered them.
 pub(crate) struct Port {
     pub(crate) owner: usize,
     pub(crate) direction: ModulePortDirection,
-    pub(crate) name: String,
     pub(crate) data_type: usize,
     pub(crate) logic_ref: usize,
 }
@@ -24,30 +25,69 @@ pub(crate) enum Width {
     Expression(usize),
 }
 
+/// A call of a handle, by its step, which returns the same each time.
+#[derive(PartialEq, Eq)]
+struct Asked {
+    of: usize,
+    call: &'static str,
+}
+
+impl Hash for Asked {
+    fn hash<H: Hasher>(&self, state: &mut H) {
+        // Few handles are asked by two calls.
+        self.of.hash(state);
+    }
+}
+
 #[derive(Default)]
 pub(crate) struct Known {
     /// All ports of the file, in the order of their calls.
     pub(crate) ports: Vec<Port>,
     /// The types that have a width of their own or their element's.
-    pub(crate) widths: HashMap<usize, Width>,
-    /// What a call answered for a handle, where it answers the same each time.
-    answers: HashMap<(&'static str, usize), usize>,
+    pub(crate) widths: HashMap<usize, Width, Mixing>,
+    /// What such a call returned, by its step.
+    answers: HashMap<Asked, usize, Mixing>,
+    /// A digest of each name of a module or a function, beside the step of its owner.
+    names: HashSet<u32, Mixing>,
+    /// The conditionals that have their `else`.
+    with_else: HashSet<usize, Mixing>,
 }
 
 impl Known {
     /// Keeps the width of a type; of one bit there is no vector.
-    pub(crate) fn keep(&mut self, data_type: usize, width: Width) {
+    pub(crate) fn keep_width(&mut self, data_type: usize, width: Width) {
         if !matches!(width, Width::Bits(1)) {
             self.widths.insert(data_type, width);
         }
     }
 
+    pub(crate) fn is_array(&self, data_type: usize) -> bool {
+        matches!(self.widths.get(&data_type), Some(Width::Element(_)))
+    }
+
     pub(crate) fn answer(&self, call: &'static str, of: usize) -> Option<usize> {
-        self.answers.get(&(call, of)).copied()
+        self.answers.get(&Asked { of, call }).copied()
     }
 
     pub(crate) fn keep_answer(&mut self, call: &'static str, of: usize, answer: usize) {
-        self.answers.insert((call, of), answer);
+        self.answers.insert(Asked { of, call }, answer);
+    }
+
+    /// Keeps a name of a module or a function, and returns whether it is surely new there. One of another digest is; one of
+    /// a digest that is there may be another name all the same, or that of a call that was refused.
+    #[inline]
+    pub(crate) fn enter(&mut self, owner: usize, name: &str) -> bool {
+        let digest = self.names.hasher().hash_one((owner, name));
+        self.names.insert(digest as u32)
+    }
+
+    /// Keeps that the conditional has its `else`.
+    pub(crate) fn keep_else(&mut self, conditional: usize) {
+        self.with_else.insert(conditional);
+    }
+
+    pub(crate) fn has_else(&self, conditional: usize) -> bool {
+        self.with_else.contains(&conditional)
     }
 
     /// The places of the module's ports.

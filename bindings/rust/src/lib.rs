@@ -2,8 +2,9 @@
 //! that is proved.
 //!
 //! A [`VastFile`] is one file in the making. Its calls answer small copyable handles, which are good for that file
-//! alone; [`VastFile::emit`] prints the file. Each call is handed to the library as one line of a list of calls; what
-//! the library does with its lines is proved, what this crate does is tested.
+//! alone; [`VastFile::emit`] prints the file. Each call is handed to the library as one line of a list of calls, at once or,
+//! where nothing can refuse it, with later ones; what the library does with its lines is proved, what this crate does is
+//! tested.
 //!
 //! ```
 //! use xlsynth_vast::{VastFile, VastFileType};
@@ -31,8 +32,11 @@ mod inspect;
 mod kinds;
 mod known;
 mod line;
+mod literal;
 mod methods;
+mod mixer;
 mod session;
+mod state;
 mod warning;
 
 pub use error::VastError;

@@ -56,6 +56,13 @@ pub(crate) enum Fault {
     Form(String),
 }
 
+/// The first line at fault.
+pub(crate) struct Stop {
+    /// How many lines before it were made.
+    pub(crate) taken: usize,
+    pub(crate) fault: Fault,
+}
+
 /// One file of the library's, open until it is dropped.
 pub(crate) struct Session {
     // The library's memory, which it alone reads and writes, by this pointer's address.
@@ -79,12 +86,12 @@ impl Session {
     }
 
     /// Makes the calls of the lines up to the first at fault.
-    pub(crate) fn lines(&mut self, lines: &str) -> Result<(), Fault> {
+    pub(crate) fn lines(&mut self, lines: &[u8]) -> Result<(), Stop> {
         let mut taken = 0;
         // SAFETY: the lines are `length` bytes that live until the call returns, and `taken` can be written.
         let status =
             unsafe { vast_lines(&mut self.state, lines.as_ptr(), lines.len(), &mut taken) };
-        self.checked(status)
+        self.checked(status).map_err(|fault| Stop { taken, fault })
     }
 
     /// What the last line answered.
@@ -111,21 +118,25 @@ impl Session {
     }
 
     fn text(&mut self, which: i32) -> String {
-        let mut bytes = vec![0; SHORT];
-        let length = self.copy(which, &mut bytes);
-        if length > bytes.len() {
-            bytes.resize(length, 0);
-            self.copy(which, &mut bytes);
-        }
-        bytes.truncate(length);
-        String::from_utf8_lossy(&bytes).into_owned()
+        whole_text(|out, capacity| {
+            // SAFETY: `out` has room for as many bytes as are told.
+            unsafe { vast_text(&mut self.state, which, out, capacity) }
+        })
     }
+}
 
-    /// Copies the start of the text, and answers the length of all of it.
-    fn copy(&mut self, which: i32, bytes: &mut [u8]) -> usize {
-        // SAFETY: `out` has room for as many bytes as are told.
-        unsafe { vast_text(&mut self.state, which, bytes.as_mut_ptr(), bytes.len()) }
+/// The text whose start `copy` writes, as much as the room of so many bytes holds, and whose whole length it returns.
+fn whole_text(mut copy: impl FnMut(*mut u8, usize) -> usize) -> String {
+    let mut bytes = Vec::with_capacity(SHORT);
+    let mut length = copy(bytes.as_mut_ptr(), bytes.capacity());
+    if length > bytes.capacity() {
+        bytes.reserve_exact(length);
+        length = copy(bytes.as_mut_ptr(), bytes.capacity());
     }
+    // SAFETY: so many bytes were written, as far as there is room.
+    unsafe { bytes.set_len(length.min(bytes.capacity())) };
+    String::from_utf8(bytes)
+        .unwrap_or_else(|error| String::from_utf8_lossy(error.as_bytes()).into_owned())
 }
 
 fn number_of(dialect: VastFileType) -> i32 {
@@ -136,33 +147,25 @@ fn number_of(dialect: VastFileType) -> i32 {
 }
 
 /// What a list of these lines prints that tools refuse, a line for each form; `None` where memory is refused.
-pub(crate) fn warned(dialect: VastFileType, lines: &str) -> Option<String> {
-    let mut bytes = vec![0; SHORT];
-    let length = copy_warned(dialect, lines, &mut bytes)?;
-    if length > bytes.len() {
-        bytes.resize(length, 0);
-        copy_warned(dialect, lines, &mut bytes)?;
-    }
-    bytes.truncate(length);
-    Some(String::from_utf8_lossy(&bytes).into_owned())
-}
-
-/// Copies the start of that text, and answers the length of all of it.
-fn copy_warned(dialect: VastFileType, lines: &str, bytes: &mut [u8]) -> Option<usize> {
-    let mut all = 0;
-    // SAFETY: the lines and `out` are as many bytes as are told, which live until the call returns, and `all` can be
-    // written.
-    let status = unsafe {
-        vast_warnings(
-            number_of(dialect),
-            lines.as_ptr(),
-            lines.len(),
-            bytes.as_mut_ptr(),
-            bytes.len(),
-            &mut all,
-        )
-    };
-    (status == OK).then_some(all)
+pub(crate) fn warned(dialect: VastFileType, lines: &[u8]) -> Option<String> {
+    let mut status = OK;
+    let told = whole_text(|out, capacity| {
+        let mut all = 0;
+        // SAFETY: the lines and `out` are as many bytes as are told, which live until the call returns, and `all` can be
+        // written.
+        status = unsafe {
+            vast_warnings(
+                number_of(dialect),
+                lines.as_ptr(),
+                lines.len(),
+                out,
+                capacity,
+                &mut all,
+            )
+        };
+        all
+    });
+    (status == OK).then_some(told)
 }
 
 impl Drop for Session {

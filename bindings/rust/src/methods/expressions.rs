@@ -7,6 +7,7 @@ use crate::error::VastError;
 use crate::file::VastFile;
 use crate::handles::{Expr, Index, IndexableExpr, MacroRef, Slice, VastDataType};
 use crate::kinds::LiteralFormat;
+use crate::literal::{is_pattern, is_small_literal};
 
 impl VastFile {
     /// The literal `bits[N]:value`, written in a format. `N` is 1 to 1,048,576; the value may have a sign, a
@@ -15,8 +16,9 @@ impl VastFile {
     /// # Errors
     /// Where the library refuses the call, in its words.
     pub fn make_literal(&mut self, text: &str, format: &LiteralFormat) -> Result<Expr, VastError> {
-        Ok(Expr(self.allowed("MakeLiteral", |line| {
-            line.text(text).word(format.word())
+        let is_certain = is_small_literal(text);
+        Ok(Expr(self.allowed(is_certain, "MakeLiteral", |lines| {
+            lines.text(text).word(format.word())
         })?))
     }
 
@@ -26,40 +28,43 @@ impl VastFile {
     /// # Errors
     /// Where the library refuses the call, in its words.
     pub fn make_binary_pattern(&mut self, bits_msb: &str) -> Result<Expr, VastError> {
-        Ok(Expr(self.allowed("MakeBinaryPattern", |line| {
-            line.text(bits_msb)
-        })?))
+        let is_certain = is_pattern(bits_msb);
+        Ok(Expr(self.allowed(
+            is_certain,
+            "MakeBinaryPattern",
+            |lines| lines.text(bits_msb),
+        )?))
     }
 
     /// The number in decimal, without a width; a negative one has its minus.
     pub fn make_unsized_decimal_literal(&mut self, value: i32) -> Expr {
-        Expr(self.made("MakeUnsizedDecimalLiteral", "", |line| line.number(value)))
+        Expr(self.later("MakeUnsizedDecimalLiteral", |lines| lines.number(value)))
     }
 
     /// The string of this content: it stands between quotes, with escapes where they are needed.
     pub fn make_string_literal(&mut self, value: &str) -> Expr {
-        Expr(self.made("MakeStringLiteral", "", |line| line.text(value)))
+        Expr(self.later("MakeStringLiteral", |lines| lines.text(value)))
     }
 
     /// All ones, `'1`.
     pub fn make_unsized_one_literal(&mut self) -> Expr {
-        Expr(self.made("MakeUnsizedOneLiteral", "", |line| line))
+        Expr(self.later("MakeUnsizedOneLiteral", |lines| lines))
     }
 
     /// All zeros, `'0`.
     pub fn make_unsized_zero_literal(&mut self) -> Expr {
-        Expr(self.made("MakeUnsizedZeroLiteral", "", |line| line))
+        Expr(self.later("MakeUnsizedZeroLiteral", |lines| lines))
     }
 
     /// All bits unknown, `'X`.
     pub fn make_unsized_x_literal(&mut self) -> Expr {
-        Expr(self.made("MakeUnsizedXLiteral", "", |line| line))
+        Expr(self.later("MakeUnsizedXLiteral", |lines| lines))
     }
 
     /// The bare name, which prints as it is and has no type: what inline text, an include or another file
     /// declares can be named by it. It enters no name, so a later declaration may have it.
     pub fn make_name(&mut self, name: &str) -> Expr {
-        Expr(self.made("MakeName", "", |line| line.text(name)))
+        Expr(self.later("MakeName", |lines| lines.text(name)))
     }
 
     /// The same node, as an expression that may be selected from.
@@ -75,10 +80,12 @@ impl VastFile {
     /// With `bit and part-select indices must be nonnegative`, where that is not so.
     pub fn make_slice(&mut self, subject: &IndexableExpr, hi: i64, lo: i64) -> Slice {
         let subject_step = self.own_indexable(subject);
+        let is_certain = hi >= 0 && lo >= 0;
         Slice(self.made(
+            is_certain,
             "MakeSlice",
             "bit and part-select indices must be nonnegative",
-            |line| line.step(subject_step).number(hi).number(lo),
+            |lines| lines.step(subject_step).number(hi).number(lo),
         ))
     }
 
@@ -88,10 +95,12 @@ impl VastFile {
     /// With `bit and part-select indices must be nonnegative`, where that is not so.
     pub fn make_index(&mut self, subject: &IndexableExpr, index: i64) -> Index {
         let subject_step = self.own_indexable(subject);
+        let is_certain = index >= 0;
         Index(self.made(
+            is_certain,
             "MakeIndex",
             "bit and part-select indices must be nonnegative",
-            |line| line.step(subject_step).number(index),
+            |lines| lines.step(subject_step).number(index),
         ))
     }
 
@@ -100,8 +109,8 @@ impl VastFile {
         let subject_step = self.own_indexable(subject);
         let hi_step = self.own(hi.0);
         let lo_step = self.own(lo.0);
-        Slice(self.made("MakeSliceExpr", "", |line| {
-            line.step(subject_step).step(hi_step).step(lo_step)
+        Slice(self.later("MakeSliceExpr", |lines| {
+            lines.step(subject_step).step(hi_step).step(lo_step)
         }))
     }
 
@@ -109,8 +118,8 @@ impl VastFile {
     pub fn make_index_expr(&mut self, subject: &IndexableExpr, index: &Expr) -> Index {
         let subject_step = self.own_indexable(subject);
         let index_step = self.own(index.0);
-        Index(self.made("MakeIndexExpr", "", |line| {
-            line.step(subject_step).step(index_step)
+        Index(self.later("MakeIndexExpr", |lines| {
+            lines.step(subject_step).step(index_step)
         }))
     }
 
@@ -126,10 +135,12 @@ impl VastFile {
     ) -> Expr {
         let subject_step = self.own_indexable(subject);
         let start_step = self.own(start.0);
+        let is_certain = width >= 1;
         Expr(self.made(
+            is_certain,
             "MakeIndexedPartSelect",
             "indexed part-select width must be positive",
-            |line| line.step(subject_step).step(start_step).number(width),
+            |lines| lines.step(subject_step).step(start_step).number(width),
         ))
     }
 
@@ -139,41 +150,43 @@ impl VastFile {
     /// With `function call name must not be empty`, where that is not so.
     pub fn make_function_call(&mut self, name: &str, arguments: &[&Expr]) -> Expr {
         let arguments_steps = self.own_all(arguments);
+        let is_certain = !name.is_empty();
         Expr(self.made(
+            is_certain,
             "MakeFunctionCall",
             "function call name must not be empty",
-            |line| line.text(name).steps(&arguments_steps),
+            |lines| lines.text(name).steps(&arguments_steps),
         ))
     }
 
     /// The concatenation `{a, b}`; there may be no parts.
     pub fn make_concat(&mut self, expressions: &[&Expr]) -> Expr {
         let expressions_steps = self.own_all(expressions);
-        Expr(self.made("MakeConcat", "", |line| line.steps(&expressions_steps)))
+        Expr(self.later("MakeConcat", |lines| lines.steps(&expressions_steps)))
     }
 
     /// The replicated concatenation `{n{a, b}}`.
     pub fn make_replicated_concat(&mut self, replication: &Expr, elements: &[&Expr]) -> Expr {
         let replication_step = self.own(replication.0);
         let elements_steps = self.own_all(elements);
-        Expr(self.made("MakeReplicatedConcat", "", |line| {
-            line.step(replication_step).steps(&elements_steps)
+        Expr(self.later("MakeReplicatedConcat", |lines| {
+            lines.step(replication_step).steps(&elements_steps)
         }))
     }
 
     /// The replicated concatenation by a number, for which a literal is made too.
     pub fn make_replicated_concat_i64(&mut self, replication: i64, elements: &[&Expr]) -> Expr {
         let elements_steps = self.own_all(elements);
-        Expr(self.made("MakeReplicatedConcatI64", "", |line| {
-            line.number(replication).steps(&elements_steps)
+        Expr(self.later("MakeReplicatedConcatI64", |lines| {
+            lines.number(replication).steps(&elements_steps)
         }))
     }
 
     /// The array assignment pattern `'{a, b}`.
     pub fn make_array_assignment_pattern(&mut self, elements: &[&Expr]) -> Expr {
         let elements_steps = self.own_all(elements);
-        Expr(self.made("MakeArrayAssignmentPattern", "", |line| {
-            line.steps(&elements_steps)
+        Expr(self.later("MakeArrayAssignmentPattern", |lines| {
+            lines.steps(&elements_steps)
         }))
     }
 
@@ -182,8 +195,9 @@ impl VastFile {
         let condition_step = self.own(condition.0);
         let consequent_step = self.own(consequent.0);
         let alternate_step = self.own(alternate.0);
-        Expr(self.made("MakeTernary", "", |line| {
-            line.step(condition_step)
+        Expr(self.later("MakeTernary", |lines| {
+            lines
+                .step(condition_step)
                 .step(consequent_step)
                 .step(alternate_step)
         }))
@@ -193,8 +207,8 @@ impl VastFile {
     pub fn make_width_cast(&mut self, width: &Expr, value: &Expr) -> Expr {
         let width_step = self.own(width.0);
         let value_step = self.own(value.0);
-        Expr(self.made("MakeWidthCast", "", |line| {
-            line.step(width_step).step(value_step)
+        Expr(self.later("MakeWidthCast", |lines| {
+            lines.step(width_step).step(value_step)
         }))
     }
 
@@ -205,9 +219,11 @@ impl VastFile {
     pub fn make_type_cast(&mut self, data_type: &VastDataType, value: &Expr) -> Expr {
         let data_type_step = self.own(data_type.0);
         let value_step = self.own(value.0);
+        let is_certain = !self.known().is_array(data_type_step);
         Expr(self.made_or(
+            is_certain,
             "MakeTypeCast",
-            |line| line.step(data_type_step).step(value_step),
+            |lines| lines.step(data_type_step).step(value_step),
             |state| cast_condition(state, data_type_step),
         ))
     }
@@ -215,25 +231,25 @@ impl VastFile {
     /// The event of a rising edge, `posedge a`.
     pub fn make_pos_edge(&mut self, expression: &Expr) -> Expr {
         let expression_step = self.own(expression.0);
-        Expr(self.made("MakePosEdge", "", |line| line.step(expression_step)))
+        Expr(self.later("MakePosEdge", |lines| lines.step(expression_step)))
     }
 
     /// The event of a falling edge, `negedge a`.
     pub fn make_neg_edge(&mut self, expression: &Expr) -> Expr {
         let expression_step = self.own(expression.0);
-        Expr(self.made("MakeNegEdge", "", |line| line.step(expression_step)))
+        Expr(self.later("MakeNegEdge", |lines| lines.step(expression_step)))
     }
 
     /// The use of a macro without arguments, `` `M ``.
     pub fn make_macro_ref(&mut self, name: &str) -> MacroRef {
-        MacroRef(self.made("MakeMacroRef", "", |line| line.text(name)))
+        MacroRef(self.later("MakeMacroRef", |lines| lines.text(name)))
     }
 
     /// The use of a macro with arguments, `` `M(a, b) ``; there may be none.
     pub fn make_macro_ref_with_args(&mut self, name: &str, arguments: &[&Expr]) -> MacroRef {
         let arguments_steps = self.own_all(arguments);
-        MacroRef(self.made("MakeMacroRefWithArgs", "", |line| {
-            line.text(name).steps(&arguments_steps)
+        MacroRef(self.later("MakeMacroRefWithArgs", |lines| {
+            lines.text(name).steps(&arguments_steps)
         }))
     }
 }

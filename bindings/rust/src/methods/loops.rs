@@ -8,7 +8,7 @@ use crate::handles::{
     Comment, Conditional, Def, Expr, GenerateLoop, InlineVerilogStatement, Instantiation,
     LocalparamRef, LogicRef, MacroStatement, VastAlwaysBase, VastModule, VastStatement,
 };
-use crate::line::Line;
+use crate::line::Lines;
 
 impl VastFile {
     /// A generate loop without members, as the module's last member: its variable runs from `start` on while
@@ -25,12 +25,13 @@ impl VastFile {
         let owner_step = self.own(owner.0);
         let start_step = self.own(start.0);
         let end_step = self.own(end.0);
-        GenerateLoop(self.made("AddGenerateLoop", "", |line| {
-            line.step(owner_step)
+        GenerateLoop(self.later("AddGenerateLoop", |lines| {
+            lines
+                .step(owner_step)
                 .text(name)
                 .step(start_step)
                 .step(end_step)
-                .option(label, Line::text)
+                .option(label, Lines::text)
         }))
     }
 
@@ -47,12 +48,13 @@ impl VastFile {
         let parent_step = self.own(parent.0);
         let start_step = self.own(start.0);
         let end_step = self.own(end.0);
-        GenerateLoop(self.made("GenerateAddGenerateLoop", "", |line| {
-            line.step(parent_step)
+        GenerateLoop(self.later("GenerateAddGenerateLoop", |lines| {
+            lines
+                .step(parent_step)
                 .text(name)
                 .step(start_step)
                 .step(end_step)
-                .option(label, Line::text)
+                .option(label, Lines::text)
         }))
     }
 
@@ -71,7 +73,7 @@ impl VastFile {
     ) -> Result<VastAlwaysBase, VastError> {
         let generate_step = self.own(generate.0);
         Ok(VastAlwaysBase(
-            self.allowed("GenerateAddAlwaysComb", |line| line.step(generate_step))?,
+            self.later("GenerateAddAlwaysComb", |lines| lines.step(generate_step)),
         ))
     }
 
@@ -86,11 +88,11 @@ impl VastFile {
     ) -> Result<VastAlwaysBase, VastError> {
         let generate_step = self.own(generate.0);
         let sensitivity_list_steps = self.own_all(sensitivity_list);
-        Ok(VastAlwaysBase(
-            self.allowed("GenerateAddAlwaysFf", |line| {
-                line.step(generate_step).steps(&sensitivity_list_steps)
-            })?,
-        ))
+        Ok(VastAlwaysBase(self.allowed(
+            false,
+            "GenerateAddAlwaysFf",
+            |lines| lines.step(generate_step).steps(&sensitivity_list_steps),
+        )?))
     }
 
     /// An `always @` with these events and an empty block, as the loop's last member; there may be no events.
@@ -104,11 +106,11 @@ impl VastFile {
     ) -> Result<VastAlwaysBase, VastError> {
         let generate_step = self.own(generate.0);
         let sensitivity_list_steps = self.own_all(sensitivity_list);
-        Ok(VastAlwaysBase(
-            self.allowed("GenerateAddAlwaysAt", |line| {
-                line.step(generate_step).steps(&sensitivity_list_steps)
-            })?,
-        ))
+        Ok(VastAlwaysBase(self.allowed(
+            false,
+            "GenerateAddAlwaysAt",
+            |lines| lines.step(generate_step).steps(&sensitivity_list_steps),
+        )?))
     }
 
     /// `localparam NAME = VALUE`, as the loop's last member; returns its name.
@@ -120,8 +122,8 @@ impl VastFile {
     ) -> LocalparamRef {
         let generate_step = self.own(generate.0);
         let rhs_step = self.own(rhs.0);
-        LocalparamRef(self.made("GenerateAddLocalparam", "", |line| {
-            line.step(generate_step).text(name).step(rhs_step)
+        LocalparamRef(self.later("GenerateAddLocalparam", |lines| {
+            lines.step(generate_step).text(name).step(rhs_step)
         }))
     }
 
@@ -136,8 +138,9 @@ impl VastFile {
         let generate_step = self.own(generate.0);
         let definition_step = self.own(definition.0);
         let rhs_step = self.own(rhs.0);
-        LocalparamRef(self.made("GenerateAddTypedLocalparam", "", |line| {
-            line.step(generate_step)
+        LocalparamRef(self.later("GenerateAddTypedLocalparam", |lines| {
+            lines
+                .step(generate_step)
                 .step(definition_step)
                 .step(rhs_step)
         }))
@@ -153,8 +156,8 @@ impl VastFile {
         let generate_step = self.own(generate.0);
         let lhs_step = self.own(lhs.0);
         let rhs_step = self.own(rhs.0);
-        VastStatement(self.made("GenerateAddContinuousAssignment", "", |line| {
-            line.step(generate_step).step(lhs_step).step(rhs_step)
+        VastStatement(self.later("GenerateAddContinuousAssignment", |lines| {
+            lines.step(generate_step).step(lhs_step).step(rhs_step)
         }))
     }
 
@@ -166,23 +169,23 @@ impl VastFile {
     ) -> Conditional {
         let generate_step = self.own(generate.0);
         let condition_step = self.own(condition.0);
-        Conditional(self.made("GenerateAddConditional", "", |line| {
-            line.step(generate_step).step(condition_step)
+        Conditional(self.later("GenerateAddConditional", |lines| {
+            lines.step(generate_step).step(condition_step)
         }))
     }
 
     /// A blank line, as the loop's last member.
     pub fn generate_add_blank_line(&mut self, generate: GenerateLoop) {
         let generate_step = self.own(generate.0);
-        self.made("GenerateAddBlankLine", "", |line| line.step(generate_step));
+        self.later("GenerateAddBlankLine", |lines| lines.step(generate_step));
     }
 
     /// The comment, as the loop's last member.
     pub fn generate_add_comment(&mut self, generate: GenerateLoop, comment: &Comment) {
         let generate_step = self.own(generate.0);
         let comment_step = self.own(comment.0);
-        self.made("GenerateAddComment", "", |line| {
-            line.step(generate_step).step(comment_step)
+        self.later("GenerateAddComment", |lines| {
+            lines.step(generate_step).step(comment_step)
         });
     }
 
@@ -194,8 +197,8 @@ impl VastFile {
     ) {
         let generate_step = self.own(generate.0);
         let instantiation_step = self.own(instantiation.0);
-        self.made("GenerateAddInstantiation", "", |line| {
-            line.step(generate_step).step(instantiation_step)
+        self.later("GenerateAddInstantiation", |lines| {
+            lines.step(generate_step).step(instantiation_step)
         });
     }
 
@@ -207,8 +210,8 @@ impl VastFile {
     ) {
         let generate_step = self.own(generate.0);
         let statement_step = self.own(statement.0);
-        self.made("GenerateAddInlineStatement", "", |line| {
-            line.step(generate_step).step(statement_step)
+        self.later("GenerateAddInlineStatement", |lines| {
+            lines.step(generate_step).step(statement_step)
         });
     }
 
@@ -220,8 +223,8 @@ impl VastFile {
     ) {
         let generate_step = self.own(generate.0);
         let statement_step = self.own(statement.0);
-        self.made("GenerateAddMacroStatement", "", |line| {
-            line.step(generate_step).step(statement_step)
+        self.later("GenerateAddMacroStatement", |lines| {
+            lines.step(generate_step).step(statement_step)
         });
     }
 }

@@ -12,23 +12,23 @@ use crate::kinds::ModulePortDirection;
 impl VastFile {
     /// The inclusion of the file at this path, as the last item of the file.
     pub fn add_include(&mut self, include: &str) {
-        self.made("AddInclude", "", |line| line.text(include));
+        self.later("AddInclude", |lines| lines.text(include));
     }
 
     /// A blank line, as the last item of the file.
     pub fn add_blank_line(&mut self, blank_line: BlankLine) {
         let blank_line_step = self.own(blank_line.0);
-        self.made("AddBlankLine", "", |line| line.step(blank_line_step));
+        self.later("AddBlankLine", |lines| lines.step(blank_line_step));
     }
 
     /// A comment, as the last item of the file; each line of the text becomes a line of its own.
     pub fn add_comment_text(&mut self, text: &str) {
-        self.made("AddCommentText", "", |line| line.text(text));
+        self.later("AddCommentText", |lines| lines.text(text));
     }
 
     /// An empty module, as the last item of the file.
     pub fn add_module(&mut self, name: &str) -> VastModule {
-        VastModule(self.made("AddModule", "", |line| line.text(name)))
+        VastModule(self.later("AddModule", |lines| lines.text(name)))
     }
 
     /// An input, as the module's last port; returns its name as an expression.
@@ -43,16 +43,14 @@ impl VastFile {
     ) -> LogicRef {
         let owner_step = self.own(owner.0);
         let data_type_step = self.own(data_type.0);
-        let made = self.made("AddInput", "module ports must have unique names", |line| {
-            line.step(owner_step).text(name).step(data_type_step)
-        });
-        self.keep_port(
-            owner_step,
-            ModulePortDirection::Input,
-            name,
-            data_type_step,
-            made,
+        let is_certain = self.known().enter(owner_step, name);
+        let made = self.made(
+            is_certain,
+            "AddInput",
+            "module ports must have unique names",
+            |lines| lines.step(owner_step).text(name).step(data_type_step),
         );
+        self.keep_port(owner_step, ModulePortDirection::Input, data_type_step, made);
         LogicRef(made)
     }
 
@@ -68,13 +66,16 @@ impl VastFile {
     ) -> LogicRef {
         let owner_step = self.own(owner.0);
         let data_type_step = self.own(data_type.0);
-        let made = self.made("AddOutput", "module ports must have unique names", |line| {
-            line.step(owner_step).text(name).step(data_type_step)
-        });
+        let is_certain = self.known().enter(owner_step, name);
+        let made = self.made(
+            is_certain,
+            "AddOutput",
+            "module ports must have unique names",
+            |lines| lines.step(owner_step).text(name).step(data_type_step),
+        );
         self.keep_port(
             owner_step,
             ModulePortDirection::Output,
-            name,
             data_type_step,
             made,
         );
@@ -93,16 +94,14 @@ impl VastFile {
     ) -> LogicRef {
         let owner_step = self.own(owner.0);
         let data_type_step = self.own(data_type.0);
-        let made = self.made("AddInout", "module ports must have unique names", |line| {
-            line.step(owner_step).text(name).step(data_type_step)
-        });
-        self.keep_port(
-            owner_step,
-            ModulePortDirection::InOut,
-            name,
-            data_type_step,
-            made,
+        let is_certain = self.known().enter(owner_step, name);
+        let made = self.made(
+            is_certain,
+            "AddInout",
+            "module ports must have unique names",
+            |lines| lines.step(owner_step).text(name).step(data_type_step),
         );
+        self.keep_port(owner_step, ModulePortDirection::InOut, data_type_step, made);
         LogicRef(made)
     }
 
@@ -119,18 +118,14 @@ impl VastFile {
     ) -> LogicRef {
         let owner_step = self.own(owner.0);
         let data_type_step = self.own(data_type.0);
+        let is_certain = self.known().enter(owner_step, name);
         let made = self.made(
+            is_certain,
             "AddLogicInput",
             "module ports must have unique names",
-            |line| line.step(owner_step).text(name).step(data_type_step),
+            |lines| lines.step(owner_step).text(name).step(data_type_step),
         );
-        self.keep_port(
-            owner_step,
-            ModulePortDirection::Input,
-            name,
-            data_type_step,
-            made,
-        );
+        self.keep_port(owner_step, ModulePortDirection::Input, data_type_step, made);
         LogicRef(made)
     }
 
@@ -147,15 +142,16 @@ impl VastFile {
     ) -> LogicRef {
         let owner_step = self.own(owner.0);
         let data_type_step = self.own(data_type.0);
+        let is_certain = self.known().enter(owner_step, name);
         let made = self.made(
+            is_certain,
             "AddLogicOutput",
             "module ports must have unique names",
-            |line| line.step(owner_step).text(name).step(data_type_step),
+            |lines| lines.step(owner_step).text(name).step(data_type_step),
         );
         self.keep_port(
             owner_step,
             ModulePortDirection::Output,
-            name,
             data_type_step,
             made,
         );
@@ -175,11 +171,13 @@ impl VastFile {
     ) -> LogicRef {
         let owner_step = self.own(owner.0);
         let data_type_step = self.own(data_type.0);
-        LogicRef(
-            self.made("AddWire", "module wires must have unique names", |line| {
-                line.step(owner_step).text(name).step(data_type_step)
-            }),
-        )
+        let is_certain = self.known().enter(owner_step, name);
+        LogicRef(self.made(
+            is_certain,
+            "AddWire",
+            "module wires must have unique names",
+            |lines| lines.step(owner_step).text(name).step(data_type_step),
+        ))
     }
 
     /// A reg, as the module's last member; returns its name as an expression.
@@ -194,8 +192,9 @@ impl VastFile {
     ) -> Result<LogicRef, VastError> {
         let owner_step = self.own(owner.0);
         let data_type_step = self.own(data_type.0);
-        Ok(LogicRef(self.allowed("AddReg", |line| {
-            line.step(owner_step).text(name).step(data_type_step)
+        let is_certain = self.known().enter(owner_step, name);
+        Ok(LogicRef(self.allowed(is_certain, "AddReg", |lines| {
+            lines.step(owner_step).text(name).step(data_type_step)
         })?))
     }
 
@@ -211,8 +210,9 @@ impl VastFile {
     ) -> Result<LogicRef, VastError> {
         let owner_step = self.own(owner.0);
         let data_type_step = self.own(data_type.0);
-        Ok(LogicRef(self.allowed("AddLogic", |line| {
-            line.step(owner_step).text(name).step(data_type_step)
+        let is_certain = self.known().enter(owner_step, name);
+        Ok(LogicRef(self.allowed(is_certain, "AddLogic", |lines| {
+            lines.step(owner_step).text(name).step(data_type_step)
         })?))
     }
 
@@ -220,8 +220,8 @@ impl VastFile {
     pub fn add_parameter_port(&mut self, owner: VastModule, name: &str, value: &Expr) -> LogicRef {
         let owner_step = self.own(owner.0);
         let value_step = self.own(value.0);
-        LogicRef(self.made("AddParameterPort", "", |line| {
-            line.step(owner_step).text(name).step(value_step)
+        LogicRef(self.later("AddParameterPort", |lines| {
+            lines.step(owner_step).text(name).step(value_step)
         }))
     }
 
@@ -236,8 +236,9 @@ impl VastFile {
         let owner_step = self.own(owner.0);
         let data_type_step = self.own(data_type.0);
         let value_step = self.own(value.0);
-        LogicRef(self.made("AddTypedParameterPort", "", |line| {
-            line.step(owner_step)
+        LogicRef(self.later("AddTypedParameterPort", |lines| {
+            lines
+                .step(owner_step)
                 .text(name)
                 .step(data_type_step)
                 .step(value_step)
@@ -248,8 +249,8 @@ impl VastFile {
     pub fn add_parameter(&mut self, owner: VastModule, name: &str, rhs: &Expr) -> ParameterRef {
         let owner_step = self.own(owner.0);
         let rhs_step = self.own(rhs.0);
-        ParameterRef(self.made("AddParameter", "", |line| {
-            line.step(owner_step).text(name).step(rhs_step)
+        ParameterRef(self.later("AddParameter", |lines| {
+            lines.step(owner_step).text(name).step(rhs_step)
         }))
     }
 
@@ -263,8 +264,8 @@ impl VastFile {
         let owner_step = self.own(owner.0);
         let definition_step = self.own(definition.0);
         let rhs_step = self.own(rhs.0);
-        ParameterRef(self.made("AddParameterWithDef", "", |line| {
-            line.step(owner_step).step(definition_step).step(rhs_step)
+        ParameterRef(self.later("AddParameterWithDef", |lines| {
+            lines.step(owner_step).step(definition_step).step(rhs_step)
         }))
     }
 
@@ -272,8 +273,8 @@ impl VastFile {
     pub fn add_localparam(&mut self, owner: VastModule, name: &str, rhs: &Expr) -> LocalparamRef {
         let owner_step = self.own(owner.0);
         let rhs_step = self.own(rhs.0);
-        LocalparamRef(self.made("AddLocalparam", "", |line| {
-            line.step(owner_step).text(name).step(rhs_step)
+        LocalparamRef(self.later("AddLocalparam", |lines| {
+            lines.step(owner_step).text(name).step(rhs_step)
         }))
     }
 
@@ -286,8 +287,8 @@ impl VastFile {
     ) -> LocalparamRef {
         let owner_step = self.own(owner.0);
         let rhs_step = self.own(rhs.0);
-        LocalparamRef(self.made("AddIntLocalparam", "", |line| {
-            line.step(owner_step).text(name).step(rhs_step)
+        LocalparamRef(self.later("AddIntLocalparam", |lines| {
+            lines.step(owner_step).text(name).step(rhs_step)
         }))
     }
 
@@ -302,8 +303,8 @@ impl VastFile {
         let owner_step = self.own(owner.0);
         let definition_step = self.own(definition.0);
         let rhs_step = self.own(rhs.0);
-        LocalparamRef(self.made("AddTypedLocalparam", "", |line| {
-            line.step(owner_step).step(definition_step).step(rhs_step)
+        LocalparamRef(self.later("AddTypedLocalparam", |lines| {
+            lines.step(owner_step).step(definition_step).step(rhs_step)
         }))
     }
 
@@ -316,9 +317,10 @@ impl VastFile {
     pub fn hoist_module_declarations(&mut self, owner: VastModule, start: usize) {
         let owner_step = self.own(owner.0);
         self.made(
+            false,
             "HoistModuleDeclarations",
             "the start lies behind the module's members",
-            |line| line.step(owner_step).number(start),
+            |lines| lines.step(owner_step).number(start),
         );
     }
 }

@@ -8,6 +8,7 @@ use crate::handles::{
     CaseStatement, Conditional, Expr, LogicRef, VastAlwaysBase, VastDataType, VastFunction,
     VastModule, VastStatement, VastStatementBlock,
 };
+use crate::kinds::VastFileType;
 
 impl VastFile {
     /// A function without inputs and locals and with an empty body, as the module's last member.
@@ -22,9 +23,13 @@ impl VastFile {
     ) -> Result<VastFunction, VastError> {
         let owner_step = self.own(owner.0);
         let result_type_step = self.own(result_type.0);
-        Ok(VastFunction(self.allowed("AddFunction", |line| {
-            line.step(owner_step).text(name).step(result_type_step)
-        })?))
+        let is_certain =
+            self.known().enter(owner_step, name) && !self.known().is_array(result_type_step);
+        let made = self.allowed(is_certain, "AddFunction", |lines| {
+            lines.step(owner_step).text(name).step(result_type_step)
+        })?;
+        self.known().enter(made.step, name);
+        Ok(VastFunction(made))
     }
 
     /// An input of this type with the kind word `reg`, as the function's last; returns its name as an
@@ -40,9 +45,12 @@ impl VastFile {
     ) -> Result<LogicRef, VastError> {
         let function_step = self.own(function.0);
         let data_type_step = self.own(data_type.0);
-        Ok(LogicRef(self.allowed("FunctionAddInput", |line| {
-            line.step(function_step).text(name).step(data_type_step)
-        })?))
+        let is_certain = self.known().enter(function_step, name);
+        Ok(LogicRef(self.allowed(
+            is_certain,
+            "FunctionAddInput",
+            |lines| lines.step(function_step).text(name).step(data_type_step),
+        )?))
     }
 
     /// An input of this type with the kind word `logic`, as the function's last; returns its name as an
@@ -58,9 +66,12 @@ impl VastFile {
     ) -> Result<LogicRef, VastError> {
         let function_step = self.own(function.0);
         let data_type_step = self.own(data_type.0);
-        Ok(LogicRef(self.allowed("FunctionAddLogicInput", |line| {
-            line.step(function_step).text(name).step(data_type_step)
-        })?))
+        let is_certain = self.known().enter(function_step, name);
+        Ok(LogicRef(self.allowed(
+            is_certain,
+            "FunctionAddLogicInput",
+            |lines| lines.step(function_step).text(name).step(data_type_step),
+        )?))
     }
 
     /// A reg, as the function's last local; returns its name as an expression.
@@ -75,9 +86,12 @@ impl VastFile {
     ) -> Result<LogicRef, VastError> {
         let function_step = self.own(function.0);
         let data_type_step = self.own(data_type.0);
-        Ok(LogicRef(self.allowed("FunctionAddReg", |line| {
-            line.step(function_step).text(name).step(data_type_step)
-        })?))
+        let is_certain = self.known().enter(function_step, name);
+        Ok(LogicRef(self.allowed(
+            is_certain,
+            "FunctionAddReg",
+            |lines| lines.step(function_step).text(name).step(data_type_step),
+        )?))
     }
 
     /// A logic, as the function's last local; returns its name as an expression.
@@ -92,9 +106,12 @@ impl VastFile {
     ) -> Result<LogicRef, VastError> {
         let function_step = self.own(function.0);
         let data_type_step = self.own(data_type.0);
-        Ok(LogicRef(self.allowed("FunctionAddLogic", |line| {
-            line.step(function_step).text(name).step(data_type_step)
-        })?))
+        let is_certain = self.known().enter(function_step, name);
+        Ok(LogicRef(self.allowed(
+            is_certain,
+            "FunctionAddLogic",
+            |lines| lines.step(function_step).text(name).step(data_type_step),
+        )?))
     }
 
     /// The function's body.
@@ -118,9 +135,11 @@ impl VastFile {
     ) -> Result<VastAlwaysBase, VastError> {
         let owner_step = self.own(owner.0);
         let sensitivity_list_steps = self.own_all(sensitivity_list);
-        Ok(VastAlwaysBase(self.allowed("AddAlwaysFf", |line| {
-            line.step(owner_step).steps(&sensitivity_list_steps)
-        })?))
+        Ok(VastAlwaysBase(self.allowed(
+            false,
+            "AddAlwaysFf",
+            |lines| lines.step(owner_step).steps(&sensitivity_list_steps),
+        )?))
     }
 
     /// An `always @` with these events and an empty block, as the module's last member; there may be no
@@ -135,9 +154,11 @@ impl VastFile {
     ) -> Result<VastAlwaysBase, VastError> {
         let owner_step = self.own(owner.0);
         let sensitivity_list_steps = self.own_all(sensitivity_list);
-        Ok(VastAlwaysBase(self.allowed("AddAlwaysAt", |line| {
-            line.step(owner_step).steps(&sensitivity_list_steps)
-        })?))
+        Ok(VastAlwaysBase(self.allowed(
+            false,
+            "AddAlwaysAt",
+            |lines| lines.step(owner_step).steps(&sensitivity_list_steps),
+        )?))
     }
 
     /// An `always_comb` with an empty block, as the module's last member.
@@ -147,7 +168,7 @@ impl VastFile {
     pub fn add_always_comb(&mut self, owner: VastModule) -> Result<VastAlwaysBase, VastError> {
         let owner_step = self.own(owner.0);
         Ok(VastAlwaysBase(
-            self.allowed("AddAlwaysComb", |line| line.step(owner_step))?,
+            self.later("AddAlwaysComb", |lines| lines.step(owner_step)),
         ))
     }
 
@@ -166,8 +187,8 @@ impl VastFile {
         let block_step = self.own(block.0);
         let lhs_step = self.own(lhs.0);
         let rhs_step = self.own(rhs.0);
-        VastStatement(self.made("BlockAddBlockingAssignment", "", |line| {
-            line.step(block_step).step(lhs_step).step(rhs_step)
+        VastStatement(self.later("BlockAddBlockingAssignment", |lines| {
+            lines.step(block_step).step(lhs_step).step(rhs_step)
         }))
     }
 
@@ -181,8 +202,8 @@ impl VastFile {
         let block_step = self.own(block.0);
         let lhs_step = self.own(lhs.0);
         let rhs_step = self.own(rhs.0);
-        VastStatement(self.made("BlockAddNonblockingAssignment", "", |line| {
-            line.step(block_step).step(lhs_step).step(rhs_step)
+        VastStatement(self.later("BlockAddNonblockingAssignment", |lines| {
+            lines.step(block_step).step(lhs_step).step(rhs_step)
         }))
     }
 
@@ -196,8 +217,8 @@ impl VastFile {
         let block_step = self.own(block.0);
         let lhs_step = self.own(lhs.0);
         let rhs_step = self.own(rhs.0);
-        VastStatement(self.made("BlockAddContinuousAssignment", "", |line| {
-            line.step(block_step).step(lhs_step).step(rhs_step)
+        VastStatement(self.later("BlockAddContinuousAssignment", |lines| {
+            lines.step(block_step).step(lhs_step).step(rhs_step)
         }))
     }
 
@@ -208,8 +229,8 @@ impl VastFile {
         text: &str,
     ) -> VastStatement {
         let block_step = self.own(block.0);
-        self.made("BlockAddCommentText", "", |line| {
-            line.step(block_step).text(text)
+        self.later("BlockAddCommentText", |lines| {
+            lines.step(block_step).text(text)
         });
         VastStatement(block.0)
     }
@@ -221,8 +242,8 @@ impl VastFile {
         text: &str,
     ) -> VastStatement {
         let block_step = self.own(block.0);
-        self.made("BlockAddInlineText", "", |line| {
-            line.step(block_step).text(text)
+        self.later("BlockAddInlineText", |lines| {
+            lines.step(block_step).text(text)
         });
         VastStatement(block.0)
     }
@@ -230,7 +251,7 @@ impl VastFile {
     /// A blank line, as the block's last statement.
     pub fn block_add_blank_line(&mut self, block: VastStatementBlock) -> VastStatement {
         let block_step = self.own(block.0);
-        self.made("BlockAddBlankLine", "", |line| line.step(block_step));
+        self.later("BlockAddBlankLine", |lines| lines.step(block_step));
         VastStatement(block.0)
     }
 
@@ -238,8 +259,8 @@ impl VastFile {
     pub fn add_conditional(&mut self, owner: VastModule, condition: &Expr) -> Conditional {
         let owner_step = self.own(owner.0);
         let condition_step = self.own(condition.0);
-        Conditional(self.made("AddConditional", "", |line| {
-            line.step(owner_step).step(condition_step)
+        Conditional(self.later("AddConditional", |lines| {
+            lines.step(owner_step).step(condition_step)
         }))
     }
 
@@ -247,8 +268,8 @@ impl VastFile {
     pub fn block_add_cond(&mut self, block: VastStatementBlock, condition: &Expr) -> Conditional {
         let block_step = self.own(block.0);
         let condition_step = self.own(condition.0);
-        Conditional(self.made("BlockAddCond", "", |line| {
-            line.step(block_step).step(condition_step)
+        Conditional(self.later("BlockAddCond", |lines| {
+            lines.step(block_step).step(condition_step)
         }))
     }
 
@@ -269,10 +290,12 @@ impl VastFile {
     ) -> VastStatementBlock {
         let conditional_step = self.own(conditional.0);
         let condition_step = self.own(condition.0);
+        let is_certain = !self.known().has_else(conditional_step);
         VastStatementBlock(self.made(
+            is_certain,
             "ConditionalAddElseIf",
             "cannot add an else-if arm after an unconditional else",
-            |line| line.step(conditional_step).step(condition_step),
+            |lines| lines.step(conditional_step).step(condition_step),
         ))
     }
 
@@ -283,19 +306,23 @@ impl VastFile {
     /// With `cannot add another arm after an unconditional else`, where that is not so.
     pub fn conditional_add_else(&mut self, conditional: Conditional) -> VastStatementBlock {
         let conditional_step = self.own(conditional.0);
-        VastStatementBlock(self.made(
+        let is_certain = !self.known().has_else(conditional_step);
+        let made = self.made(
+            is_certain,
             "ConditionalAddElse",
             "cannot add another arm after an unconditional else",
-            |line| line.step(conditional_step),
-        ))
+            |lines| lines.step(conditional_step),
+        );
+        self.known().keep_else(conditional_step);
+        VastStatementBlock(made)
     }
 
     /// A `case` statement without arms, as the block's last statement.
     pub fn block_add_case(&mut self, block: VastStatementBlock, selector: &Expr) -> CaseStatement {
         let block_step = self.own(block.0);
         let selector_step = self.own(selector.0);
-        CaseStatement(self.made("BlockAddCase", "", |line| {
-            line.step(block_step).step(selector_step)
+        CaseStatement(self.later("BlockAddCase", |lines| {
+            lines.step(block_step).step(selector_step)
         }))
     }
 
@@ -303,8 +330,8 @@ impl VastFile {
     pub fn block_add_casez(&mut self, block: VastStatementBlock, selector: &Expr) -> CaseStatement {
         let block_step = self.own(block.0);
         let selector_step = self.own(selector.0);
-        CaseStatement(self.made("BlockAddCasez", "", |line| {
-            line.step(block_step).step(selector_step)
+        CaseStatement(self.later("BlockAddCasez", |lines| {
+            lines.step(block_step).step(selector_step)
         }))
     }
 
@@ -312,8 +339,8 @@ impl VastFile {
     pub fn block_add_casex(&mut self, block: VastStatementBlock, selector: &Expr) -> CaseStatement {
         let block_step = self.own(block.0);
         let selector_step = self.own(selector.0);
-        CaseStatement(self.made("BlockAddCasex", "", |line| {
-            line.step(block_step).step(selector_step)
+        CaseStatement(self.later("BlockAddCasex", |lines| {
+            lines.step(block_step).step(selector_step)
         }))
     }
 
@@ -321,8 +348,8 @@ impl VastFile {
     pub fn case_add_item(&mut self, case: CaseStatement, pattern: &Expr) -> VastStatementBlock {
         let case_step = self.own(case.0);
         let pattern_step = self.own(pattern.0);
-        VastStatementBlock(self.made("CaseAddItem", "", |line| {
-            line.step(case_step).step(pattern_step)
+        VastStatementBlock(self.later("CaseAddItem", |lines| {
+            lines.step(case_step).step(pattern_step)
         }))
     }
 
@@ -330,7 +357,7 @@ impl VastFile {
     /// more than one.
     pub fn case_add_default(&mut self, case: CaseStatement) -> VastStatementBlock {
         let case_step = self.own(case.0);
-        VastStatementBlock(self.made("CaseAddDefault", "", |line| line.step(case_step)))
+        VastStatementBlock(self.later("CaseAddDefault", |lines| lines.step(case_step)))
     }
 
     /// Makes the case statement `unique`, or not. It takes no memory.
@@ -339,7 +366,10 @@ impl VastFile {
     /// Where the library refuses the call, in its words.
     pub fn case_set_unique(&mut self, case: CaseStatement, unique: bool) -> Result<(), VastError> {
         let case_step = self.own(case.0);
-        self.allowed("CaseSetUnique", |line| line.step(case_step).truth(unique))?;
+        let is_certain = !unique || self.file_type == VastFileType::SystemVerilog;
+        self.allowed(is_certain, "CaseSetUnique", |lines| {
+            lines.step(case_step).truth(unique)
+        })?;
         Ok(())
     }
 }

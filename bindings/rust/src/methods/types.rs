@@ -2,7 +2,7 @@
 //!
 //! Written by tools/bindings_from_calls from the table of calls; not to be edited.
 
-use crate::conditions::{packed_condition, unpacked_condition};
+use crate::conditions::{are_dimensions, packed_condition, unpacked_condition};
 use crate::file::VastFile;
 use crate::handles::{Expr, VastDataType};
 use crate::known::Width;
@@ -10,28 +10,28 @@ use crate::known::Width;
 impl VastFile {
     /// The type of one bit.
     pub fn make_scalar_type(&mut self) -> VastDataType {
-        VastDataType(self.made("MakeScalarType", "", |line| line))
+        VastDataType(self.later("MakeScalarType", |lines| lines))
     }
 
     /// Verilog's `integer`.
     pub fn make_integer_type(&mut self, signed: bool) -> VastDataType {
-        VastDataType(self.made("MakeIntegerType", "", |line| line.truth(signed)))
+        VastDataType(self.later("MakeIntegerType", |lines| lines.truth(signed)))
     }
 
     /// SystemVerilog's `int`.
     pub fn make_int_type(&mut self, signed: bool) -> VastDataType {
-        VastDataType(self.made("MakeIntType", "", |line| line.truth(signed)))
+        VastDataType(self.later("MakeIntType", |lines| lines.truth(signed)))
     }
 
     /// A type of this name that is declared elsewhere.
     pub fn make_extern_type(&mut self, name: &str) -> VastDataType {
-        VastDataType(self.made("MakeExternType", "", |line| line.text(name)))
+        VastDataType(self.later("MakeExternType", |lines| lines.text(name)))
     }
 
     /// A type of this name that is declared in a package, `package::name`.
     pub fn make_extern_package_type(&mut self, package_name: &str, name: &str) -> VastDataType {
-        VastDataType(self.made("MakeExternPackageType", "", |line| {
-            line.text(package_name).text(name)
+        VastDataType(self.later("MakeExternPackageType", |lines| {
+            lines.text(package_name).text(name)
         }))
     }
 
@@ -40,10 +40,12 @@ impl VastFile {
     /// # Panics
     /// With `bit-vector width must be greater than zero`, where that is not so.
     pub fn make_bit_vector_type(&mut self, bit_count: i64, signed: bool) -> VastDataType {
+        let is_certain = bit_count >= 1;
         let made = self.made(
+            is_certain,
             "MakeBitVectorType",
             "bit-vector width must be greater than zero",
-            |line| line.number(bit_count).truth(signed),
+            |lines| lines.number(bit_count).truth(signed),
         );
         self.keep_width(made, Width::Bits(bit_count));
         VastDataType(made)
@@ -56,9 +58,10 @@ impl VastFile {
     pub fn make_bit_vector_type_expr(&mut self, width: &Expr, signed: bool) -> VastDataType {
         let width_step = self.own(width.0);
         let made = self.made(
+            false,
             "MakeBitVectorTypeExpr",
             "bit-vector width must be greater than zero",
-            |line| line.step(width_step).truth(signed),
+            |lines| lines.step(width_step).truth(signed),
         );
         self.keep_width(made, Width::Expression(width_step));
         VastDataType(made)
@@ -76,8 +79,9 @@ impl VastFile {
     ) -> VastDataType {
         let element_step = self.own(element.0);
         let made = self.made_or(
+            false,
             "MakePackedArrayType",
-            |line| line.step(element_step).numbers(dimensions),
+            |lines| lines.step(element_step).numbers(dimensions),
             |state| packed_condition(state, element_step, dimensions),
         );
         self.keep_width(made, Width::Element(element_step));
@@ -94,9 +98,11 @@ impl VastFile {
         dimensions: &[i64],
     ) -> VastDataType {
         let element_step = self.own(element.0);
+        let is_certain = are_dimensions(dimensions);
         let made = self.made_or(
+            is_certain,
             "MakeUnpackedArrayType",
-            |line| line.step(element_step).numbers(dimensions),
+            |lines| lines.step(element_step).numbers(dimensions),
             |_| unpacked_condition(dimensions),
         );
         self.keep_width(made, Width::Element(element_step));
