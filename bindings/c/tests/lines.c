@@ -1,17 +1,9 @@
 /* Each function of vast.h, each status, each text and each number, on two sessions at once.
  * Says the first check that fails, with its line, and ends with status 1. */
+#include "check.h"
 #include "vast.h"
 
-#include <stdio.h>
 #include <string.h>
-
-#define CHECK(condition)                                                            \
-    do {                                                                            \
-        if (!(condition)) {                                                         \
-            fprintf(stderr, "%s:%d: %s does not hold\n", __FILE__, __LINE__, #condition); \
-            return 1;                                                               \
-        }                                                                           \
-    } while (0)
 
 static int32_t lines(vast_session *session, const char *text, size_t *taken)
 {

@@ -1,0 +1,433 @@
+"""The headers of the C binding: `vast_kinds.h`, the handles, enums and groups; `vast_calls.h`, a function for each call, which
+returns a status; `vast_values.h`, the same calls by value; and a program that makes each call, `tests/every_call.c`."""
+from c_test import every_call
+from c_text import comment, declaration, snake
+from python_words import CONDITIONS, MEANINGS, NOTES, REFUSALS, SAYS
+from rust_binding import ROOT
+from table import parts
+
+import re
+
+FOLDER = "bindings/c"
+WRITTEN = "Written by tools/bindings_from_calls from the table of calls; not to be edited."
+# Names that are words of C.
+RENAMED = {"signed": "is_signed", "case": "case_statement"}
+# What vast_file.h has.
+BY_HAND = ("emit",)
+# What Python calls otherwise.
+IN_C = {"`None`": "`NULL`", "`True`": "`true`", "`File.": "`vast_"}
+INTEGERS = {(-(2**31), 2**31 - 1): "int32_t", (-(2**63), 2**63 - 1): "int64_t", (0, 2**64 - 1): "uint64_t"}
+PLAIN = {"text": "vast_string", "truth": "bool"}
+
+
+def in_c(words):
+    """The words of a comment, as C has them."""
+    for python, c in IN_C.items():
+        words = words.replace(python, c)
+    return words
+
+
+def name_of(parameter):
+    """A parameter's name."""
+    return RENAMED.get(parameter.name, parameter.name)
+
+
+def c_type(type):
+    """The type of an argument, of a field, or of an item of a list."""
+    if type.form == "handle":
+        return f"vast_{type.of}"
+    if type.form in ("word", "group"):
+        return f"vast_{snake(type.of)}"
+    if type.form == "integer":
+        return INTEGERS[type.least, type.most]
+    if type.form == "optional" and type.of.form != "text":
+        return f"const {c_type(type.of)} *"
+    return PLAIN[type.of.form if type.form == "optional" else type.form]
+
+
+def item(type):
+    """The word of the type in names of functions."""
+    if type.form == "handle":
+        return type.of
+    if type.form in ("word", "group"):
+        return snake(type.of)
+    if type.form == "integer":
+        return "integer" if type.least < 0 else "natural"
+    if type.form in ("optional", "list"):
+        return f"optional_{item(type.of)}" if type.form == "optional" else f"{item(type.of)}s"
+    return type.form
+
+
+def answer_item(type):
+    """The word of an answer in names of functions that read it."""
+    return "ports" if type.form == "list" else item(type)
+
+
+def answer_type(type):
+    """The type of an answer."""
+    return "vast_ports" if type.form == "list" else c_type(type)
+
+
+def parameters_of(call, text="vast_string"):
+    """The parameters of a call's function: their types with their names."""
+    found = ["vast_file *file"]
+    for parameter in call.parameters:
+        type, name = parameter.type, name_of(parameter)
+        if type.form == "list":
+            pointer = c_type(type.of) if type.of.form == "optional" else f"{c_type(type.of)} "
+            const = "" if type.of.form == "optional" else "const "
+            constant = "const *" if type.of.form == "optional" else "*"
+            found += [f"{const}{pointer}{constant}{name}", f"size_t {name}_count"]
+        elif type.form == "optional" and type.of.form != "text":
+            found.append(f"{c_type(type)}{name}")
+        elif c_type(type) == "vast_string":
+            found.append(f"{text}{name}" if text.endswith("*") else f"{text} {name}")
+        else:
+            found.append(f"{c_type(type)} {name}")
+    return found
+
+
+def passed(parameter):
+    """A parameter as an argument of a function that takes it as it is."""
+    name = name_of(parameter)
+    return f"{name}, {name}_count" if parameter.type.form == "list" else name
+
+
+def written(type, value, counted=None, is_pointer=False):
+    """The statement that writes an argument into the line."""
+    if type.form == "handle":
+        return f"vast_line_handle(file, {value}{'->' if is_pointer else '.'}id);"
+    if type.form == "word":
+        return f"vast_line_variant(file, {c_type(type)}_word({value}));"
+    count = f", {counted}" if type.form == "list" else ""
+    return f"vast_line_{item(type)}(file, {'*' if is_pointer else ''}{value}{count});"
+
+
+class CBinding:
+    """What is written for C."""
+
+    def __init__(self, table):
+        self.table = table
+        self.kinds = [kind for kind in table.kinds if kind.kind != "port"]
+        self.calls = [call for call in table.calls if call.method not in BY_HAND]
+        self.methods = {call.method for call in table.calls}
+
+    def files(self):
+        """The texts of the files by their paths."""
+        return {
+            f"{FOLDER}/vast_kinds.h": self.kinds_file(),
+            f"{FOLDER}/vast_calls.h": self.calls_file(),
+            f"{FOLDER}/vast_values.h": self.values_file(),
+            f"{FOLDER}/tests/every_call.c": every_call(self.table, self.kinds),
+        }
+
+    # vast_kinds.h
+
+    def kinds_file(self):
+        """The handles, the enums and the groups."""
+        said = said_of_handles()
+        enums = [self.enum(type) for type in self.table.named_types("word")]
+        handles = [
+            f"{comment(said[kind.rust])}\ntypedef struct {{ vast_handle id; }} vast_{kind.kind};\n"
+            for kind in self.kinds
+        ]
+        groups = [self.group(type) for type in self.table.named_types("group")]
+        families = [kind for kind in self.kinds if len(kind.takes) > 1]
+        body = enums + handles + groups + [self.family(kind) for kind in families]
+        return KINDS_HEAD.format(written=WRITTEN) + "\n".join(body) + "\n#endif\n"
+
+    @staticmethod
+    def enum(type):
+        """An enum, and the words of its variants."""
+        name = f"vast_{snake(type.of)}"
+        variants = ", ".join(f"{name.upper()}_{snake(word).upper()}" for word in type.words)
+        words = ", ".join(f'"{word}"' for word in type.words)
+        return (
+            f"{comment(in_c(SAYS[type.of]))}\n{declaration('typedef enum { ', variants, f' }} {name};')}\n\n"
+            f"/* The word of a variant in lists of calls; NULL where it is none. */\n"
+            f"static inline const char *{name}_word({name} variant)\n{{\n"
+            f"{declaration('    static const char *const words[] = {', words, '};')}\n"
+            f"    size_t place = (size_t)variant;\n"
+            f"    return place < sizeof words / sizeof words[0] ? words[place] : NULL;\n}}\n"
+        )
+
+    @staticmethod
+    def group(type):
+        """A group as a struct."""
+        rows = []
+        for field in type.fields:
+            kind = c_type(field.type)
+            rows.append(f"    {kind}{'' if kind.endswith('*') else ' '}{name_of(field)};")
+        optional = any(field.type.form == "optional" for field in type.fields)
+        says = in_c(SAYS[type.of]) + (" What it has not is NULL." if optional else "")
+        fields = "\n".join(rows)
+        return f"{comment(says)}\ntypedef struct {{\n{fields}\n}} vast_{snake(type.of)};\n"
+
+    def family(self, kind):
+        """What turns the handles that may stand for one of a kind into it."""
+        name = f"vast_{kind.kind}"
+        functions = [
+            f"static inline {name} {self.converts(kind, each)}(vast_{each} given) {converted(name, name == f'vast_{each}')}"
+            for each in kind.takes
+        ]
+        overloads = [
+            f"static inline {name} {name}_of(vast_{each} given) {{ return {self.converts(kind, each)}(given); }}"
+            for each in kind.takes
+        ]
+        choices = ", \\\n        ".join(f"vast_{each}: {self.converts(kind, each)}" for each in kind.takes)
+        return (
+            f"/* Handles that stand for {article(kind.kind)}, as one; `{name}_of` takes each of them. */\n"
+            + "\n".join(functions)
+            + "\n\n#ifdef __cplusplus\n"
+            + "\n".join(overloads)
+            + f"\n#else\n#define {name}_of(given) \\\n    _Generic((given), \\\n        {choices})(given)\n#endif\n"
+        )
+
+    @staticmethod
+    def converts(kind, each):
+        """The name of the function that turns a handle of one kind into one of another."""
+        return f"vast_{kind.kind}_itself" if each == kind.kind else f"vast_{each}_{kind.kind}"
+
+    # vast_calls.h
+
+    def calls_file(self):
+        """A function for each call."""
+        body = self.writers()
+        group = None
+        for call in self.calls:
+            if call.group != group:
+                group = call.group
+                body.append(f"/* {group[0].upper()}{group[1:]} */\n")
+            body.append(self.call(call))
+        return CALLS_HEAD.format(written=WRITTEN) + "\n".join(body) + "\n#endif\n"
+
+    def writers(self):
+        """The functions that write groups, options and lists."""
+        found = {}
+        for call in self.table.calls:
+            for parameter in call.parameters:
+                for part in reversed(list(parts(parameter.type))):
+                    if part.form in ("list", "optional", "group"):
+                        found.setdefault(item(part), part)
+        found.pop("optional_text")
+        return [self.writer(type) for type in found.values()]
+
+    @staticmethod
+    def writer(type):
+        """Such a function."""
+        head = f"static inline void vast_line_{item(type)}(vast_file *file, "
+        if type.form == "list":
+            inner = c_type(type.of)
+            pointer = f"{inner}const *" if type.of.form == "optional" else f"const {inner} *"
+            return (
+                f"{head}{pointer}items, size_t count)\n{{\n    vast_line_word(file, \"[\");\n"
+                f"    for (size_t at = 0; at < count; at++)\n        {written(type.of, 'items[at]')}\n"
+                f"    vast_line_word(file, \"]\");\n}}\n"
+            )
+        if type.form == "optional":
+            return (
+                f"{head}{c_type(type)}given)\n{{\n    vast_line_word(file, given == NULL ? \"-\" : \"+\");\n"
+                f"    if (given != NULL)\n        {written(type.of, 'given', is_pointer=True)}\n}}\n"
+            )
+        rows = "\n".join(f"    {written(field.type, 'given.' + name_of(field))}" for field in type.fields)
+        return (
+            f"{head}{c_type(type)} given)\n{{\n    vast_line_word(file, \"[\");\n{rows}\n"
+            f"    vast_line_word(file, \"]\");\n}}\n"
+        )
+
+    def says(self, call):
+        """What the comment of a call says."""
+        meaning = MEANINGS.get(call.method) or call.meaning[0].upper() + call.meaning[1:]
+        said = [meaning + "."]
+        for parameter in call.parameters:
+            note = NOTES.get(f"{call.method}.{parameter.name}") or NOTES.get(parameter.name)
+            if note:
+                said.append(f"`{name_of(parameter)}`: {note}.")
+        if call.conditions:
+            said.append(f"VAST_CONDITION unless: {', '.join(CONDITIONS[it] for it in call.conditions)}.")
+        if call.method in REFUSALS:
+            said.append(f"VAST_REFUSED {REFUSALS[call.method]}.")
+        return re.sub(r"`(\w+)`", self.in_c, in_c("\n".join(said)))
+
+    def in_c(self, found):
+        """A word between ticks; a call's name as C has it."""
+        return f"`vast_{found[1]}`" if found[1] in self.methods else found[0]
+
+    def call(self, call):
+        """The function of a call."""
+        answer, given = call.answer, parameters_of(call)
+        if answer.form != "nothing":
+            given.append(f"{answer_type(answer)} *{'answer' if call.is_question else 'made'}")
+        rows = [f'vast_line_begin(file, "{call.call}");']
+        for parameter in call.parameters:
+            name = name_of(parameter)
+            rows.append(written(parameter.type, name, f"{name}_count"))
+        if call.is_question:
+            rows.append(f"return vast_ask_{answer_item(answer)}(file, answer);")
+        elif answer.form == "nothing":
+            rows.append("return vast_line_make(file, NULL);")
+        else:
+            rows.append("return vast_line_make(file, made == NULL ? NULL : &made->id);")
+        head = declaration(f"static inline int32_t vast_{call.method}(", ", ".join(given), ")")
+        body = "\n".join(f"    {row}" for row in rows)
+        return f"{comment(self.says(call))}\n{head}\n{{\n{body}\n}}\n"
+
+    # vast_values.h
+
+    def values_file(self):
+        """The calls by value."""
+        rows = [self.value(call) for call in self.table.calls]
+        return VALUES_HEAD.format(written=WRITTEN) + "\n".join(rows) + "\n#endif\n"
+
+    def value(self, call):
+        """A call by value."""
+        answer = call.answer
+        type = "void" if answer.form == "nothing" else answer_type(answer)
+        head = declaration(
+            f"static inline {type} v_{call.method}(", ", ".join(parameters_of(call, "const char *")), ")"
+        )
+        arguments = ["file"]
+        for parameter in call.parameters:
+            name = passed(parameter)
+            arguments.append(f"vast_str({name})" if c_type_or_none(parameter.type) == "vast_string" else name)
+        rows = []
+        if answer.form != "nothing":
+            arguments.append("&answer")
+            rows.append(f"{type} answer = {NOTHING[answer.form]};")
+        start = f"        file->fault = vast_{call.method}("
+        rows += ["if (file->fault == VAST_OK)", declaration(start, ", ".join(arguments), ");").strip()]
+        rows[-1] = "    " + rows[-1]
+        if answer.form != "nothing":
+            rows.append("return answer;")
+        body = "\n".join(f"    {row}" for row in rows)
+        return f"{head}\n{{\n{body}\n}}\n{self.operands(call)}"
+
+    def operands(self, call):
+        """The macro of a call by value that takes each kind of handles which may stand for another."""
+        families = {kind.kind for kind in self.kinds if len(kind.takes) > 1}
+        names, given = ["file"], ["file"]
+        for parameter in call.parameters:
+            name, type = name_of(parameter), parameter.type
+            is_taken = type.form == "handle" and type.of in families
+            names += [name, f"{name}_count"] if type.form == "list" else [name]
+            given.append(f"vast_{type.of}_of({name})" if is_taken else passed(parameter))
+        if given == names or not any("_of(" in each for each in given):
+            return ""
+        start = f"#define v_{call.method}({', '.join(names)}) \\\n"
+        return start + declaration(f"    v_{call.method}(", ", ".join(given), ")", " \\") + "\n"
+
+
+# What an answer is where there is none.
+NOTHING = {
+    "handle": "{{0, 0}}",
+    "text": "{NULL, 0}",
+    "optional": "{NULL, 0}",
+    "truth": "false",
+    "integer": "0",
+    "list": "{0, {NULL, 0}}",
+}
+
+
+def c_type_or_none(type):
+    """The type of an argument that is no list."""
+    return None if type.form == "list" else c_type(type)
+
+
+def converted(to, is_same):
+    """The body of a function that turns a handle of one kind into one of another."""
+    return "{ return given; }" if is_same else f"{{ {to} same = {{given.id}}; return same; }}"
+
+
+def article(word):
+    """The word with its article."""
+    return f"an {word}" if word[0] in "aeiou" else f"a {word}"
+
+
+def said_of_handles():
+    """What the crates say of each type of handles."""
+    said = {}
+    for path in sorted((ROOT / "crates").rglob("src/**/*.rt")):
+        found = re.finditer(
+            r"^/// (.*)\n(?:^#\[.*\n)*^pub (?:struct|enum) (\w+)\b", path.read_text(encoding="utf-8"), re.M
+        )
+        for words, name in (match.groups() for match in found):
+            words = words.removeprefix("A handle of ")
+            said.setdefault(name, words[0].upper() + words[1:])
+    return said
+
+
+KINDS_HEAD = """/* Handles, each kind a type of its own, the enums and the groups of calls. Programs include vast_calls.h.
+ *
+ * {written}
+ */
+#ifndef VAST_KINDS_H
+#define VAST_KINDS_H
+
+#ifndef __cplusplus
+#include <stdbool.h>
+#endif
+#include <stddef.h>
+#include <stdint.h>
+#include <string.h>
+
+/* A text of UTF-8 of so many bytes, which needs no NUL after it and may hold some. No text, where there may be none, has
+ * NULL for its bytes. */
+typedef struct {{
+    const char *bytes;
+    size_t length;
+}} vast_string;
+
+/* The text that ends before a NUL, as a literal's; of NULL no text. */
+static inline vast_string vast_str(const char *string)
+{{
+    vast_string text = {{string, string == NULL ? 0 : strlen(string)}};
+    return text;
+}}
+
+/* Which file's handle it is, and its number. */
+typedef struct {{
+    uintptr_t file;
+    size_t step;
+}} vast_handle;
+
+"""
+
+CALLS_HEAD = """/* Each call as a function: `vast_make_add(&file, a, b, &sum)` makes `sum` of `a` and `b`.
+ *
+ * vast_file.h says how a file is opened and closed, who owns what, and what a handle is. A function returns the status of its
+ * call as vast.h has them; what it gives comes by its last pointer, `made` or `answer`. A handle that is not wanted has
+ * NULL for `made`. VAST_CONDITION is also for handles that are none of the file's, VAST_FORM for texts that are not UTF-8 and
+ * numbers that are no variant of their enum, VAST_MEMORY and VAST_NOT_OPEN as for all. An array is a pointer and how many
+ * items it has; where it has none the pointer may be NULL. What may be missing is a pointer, NULL where it is, or a text
+ * without bytes.
+ *
+ * An expression is wanted of its own kind: `vast_expression_of(signal)` is any handle that stands for one, as one, and
+ * `vast_signal_expression(signal)` and its like are the same as functions. vast_values.h has the calls by value.
+ *
+ * {written}
+ */
+#ifndef VAST_CALLS_H
+#define VAST_CALLS_H
+
+#include "vast_file.h"
+
+"""
+
+VALUES_HEAD = """/* The calls of vast_calls.h by value: `v_make_add(&file, a, b)` is the sum, so that calls stand in calls.
+ *
+ * `v_NAME` makes the call that `vast_NAME` makes and returns what it gives. The first call at fault leaves its status in
+ * `file.fault`; from then on no call here is made, and each returns nothing: a handle of all zeros, an empty text, 0. So it
+ * is enough to look at `file.fault` at the end, and `vast_file_message` tells what was wrong. Who goes on sets it to VAST_OK.
+ *
+ * Texts end before a NUL. Where an expression, an `indexable` or a `scope` is wanted, each kind of handle that may stand for
+ * one is taken, but for arrays, whose items are of the kind. In which order arguments are evaluated is not told, so a call that
+ * adds something stands in a statement of its own.
+ *
+ * {written}
+ */
+#ifndef VAST_VALUES_H
+#define VAST_VALUES_H
+
+#include "vast_calls.h"
+
+"""
