@@ -1,12 +1,13 @@
 """The headers of the C binding: `vast_kinds.h`, the handles, enums and groups; `vast_calls.h`, a function for each call, which
-returns a status; `vast_values.h`, the same calls by value; and a program that makes each call, `tests/every_call.c`."""
-from c_test import every_call
+returns a status; `vast_values.h`, the same calls by value; and programs that make each call, `tests/every_call.c` and
+`tests/every_value.c`."""
+import re
+
+from c_test import every_call, every_value
 from c_text import comment, declaration, snake
 from python_words import CONDITIONS, MEANINGS, NOTES, REFUSALS, SAYS
 from rust_binding import ROOT
 from table import parts
-
-import re
 
 FOLDER = "bindings/c"
 WRITTEN = "Written by tools/bindings_from_calls from the table of calls; not to be edited."
@@ -40,9 +41,19 @@ def c_type(type):
         return f"vast_{snake(type.of)}"
     if type.form == "integer":
         return INTEGERS[type.least, type.most]
-    if type.form == "optional" and type.of.form != "text":
-        return f"const {c_type(type.of)} *"
+    if type.form == "list" or type.form == "optional" and type.of.form != "text":
+        return pointer_to(c_type(type.of))
     return PLAIN[type.of.form if type.form == "optional" else type.form]
+
+
+def pointer_to(kind):
+    """The type of a pointer to what is not changed."""
+    return f"{kind}const *" if kind.endswith("*") else f"const {kind} *"
+
+
+def declared(kind, name):
+    """A variable with its type."""
+    return f"{kind}{name}" if kind.endswith("*") else f"{kind} {name}"
 
 
 def item(type):
@@ -69,21 +80,13 @@ def answer_type(type):
 
 
 def parameters_of(call, text="vast_string"):
-    """The parameters of a call's function: their types with their names."""
+    """The parameters of a call's function: their types with their names. `text` is the type of a text."""
     found = ["vast_file *file"]
     for parameter in call.parameters:
-        type, name = parameter.type, name_of(parameter)
-        if type.form == "list":
-            pointer = c_type(type.of) if type.of.form == "optional" else f"{c_type(type.of)} "
-            const = "" if type.of.form == "optional" else "const "
-            constant = "const *" if type.of.form == "optional" else "*"
-            found += [f"{const}{pointer}{constant}{name}", f"size_t {name}_count"]
-        elif type.form == "optional" and type.of.form != "text":
-            found.append(f"{c_type(type)}{name}")
-        elif c_type(type) == "vast_string":
-            found.append(f"{text}{name}" if text.endswith("*") else f"{text} {name}")
-        else:
-            found.append(f"{c_type(type)} {name}")
+        kind, name = c_type(parameter.type), name_of(parameter)
+        found.append(declared(text if kind == "vast_string" else kind, name))
+        if parameter.type.form == "list":
+            found.append(f"size_t {name}_count")
     return found
 
 
@@ -119,6 +122,7 @@ class CBinding:
             f"{FOLDER}/vast_calls.h": self.calls_file(),
             f"{FOLDER}/vast_values.h": self.values_file(),
             f"{FOLDER}/tests/every_call.c": every_call(self.table, self.kinds),
+            f"{FOLDER}/tests/every_value.c": every_value(self.table, self.kinds),
         }
 
     # vast_kinds.h
@@ -154,10 +158,7 @@ class CBinding:
     @staticmethod
     def group(type):
         """A group as a struct."""
-        rows = []
-        for field in type.fields:
-            kind = c_type(field.type)
-            rows.append(f"    {kind}{'' if kind.endswith('*') else ' '}{name_of(field)};")
+        rows = [f"    {declared(c_type(field.type), name_of(field))};" for field in type.fields]
         optional = any(field.type.form == "optional" for field in type.fields)
         says = in_c(SAYS[type.of]) + (" What it has not is NULL." if optional else "")
         fields = "\n".join(rows)
@@ -217,10 +218,8 @@ class CBinding:
         """Such a function."""
         head = f"static inline void vast_line_{item(type)}(vast_file *file, "
         if type.form == "list":
-            inner = c_type(type.of)
-            pointer = f"{inner}const *" if type.of.form == "optional" else f"const {inner} *"
             return (
-                f"{head}{pointer}items, size_t count)\n{{\n    vast_line_word(file, \"[\");\n"
+                f"{head}{c_type(type)}items, size_t count)\n{{\n    vast_line_word(file, \"[\");\n"
                 f"    for (size_t at = 0; at < count; at++)\n        {written(type.of, 'items[at]')}\n"
                 f"    vast_line_word(file, \"]\");\n}}\n"
             )
@@ -289,7 +288,7 @@ class CBinding:
         arguments = ["file"]
         for parameter in call.parameters:
             name = passed(parameter)
-            arguments.append(f"vast_str({name})" if c_type_or_none(parameter.type) == "vast_string" else name)
+            arguments.append(f"vast_str({name})" if c_type(parameter.type) == "vast_string" else name)
         rows = []
         if answer.form != "nothing":
             arguments.append("&answer")
@@ -326,11 +325,6 @@ NOTHING = {
     "integer": "0",
     "list": "{0, {NULL, 0}}",
 }
-
-
-def c_type_or_none(type):
-    """The type of an argument that is no list."""
-    return None if type.form == "list" else c_type(type)
 
 
 def converted(to, is_same):

@@ -1,4 +1,4 @@
-"""The program that makes each call of the C binding once, and compares the line that it writes with the one that lists have."""
+"""Programs that make each call of the C binding once, and compare the line that it writes with the one that lists have."""
 import json
 
 from c_text import WIDTH, declaration
@@ -26,13 +26,15 @@ KEPT = {"make_packed_array_type": "array", "add_reg": "memory"}
 # Calls that are made before all others, so that these have two expressions to choose from.
 FIRST = ("make_literal", "make_bit_vector_type", "add_module", "add_input")
 KIND_OF = {"array": "type", "memory": "signal"}
+# What questions are answered with.
+ANSWERS = ("bool truth", "uint64_t natural", "int64_t integer", "vast_string text", "vast_ports ports")
 
-HEAD = """/* Makes each call of vast_calls.h once: it returns VAST_OK, and its line is the one that lists have.
+HEAD = """/* Makes each call of {header} once: nothing is at fault, and its line is the one that lists have.
  *
  * Written by tools/bindings_from_calls from the table of calls; not to be edited.
  */
 #include "check.h"
-#include "vast_calls.h"
+#include "{header}"
 
 typedef struct {{
     vast_file file;
@@ -92,7 +94,9 @@ MAIN = """int main(void)
 
 
 class Program:
-    """The calls that are made so far, and what they gave."""
+    """The calls that are made so far, and what they gave: calls that return a status."""
+
+    header = "vast_calls.h"
 
     def __init__(self, table, kinds):
         self.takes = {kind.kind: kind.takes for kind in kinds}
@@ -143,32 +147,31 @@ class Program:
             seen += parameter.type.form == "handle" and parameter.type.of == "expression"
             given.append(argument)
             words.append(word)
-        made = self.keep(call)
-        given += [made] if made else []
-        line = c_string(" ".join(words))
-        start = f"    CHECK(vast_{call.method}("
-        rows = declaration(start, ", ".join(given), ") == VAST_OK")
-        rows += f" && is_line(have, {line}));"
-        if len(rows.split("\n")[-1]) > WIDTH:
-            rows = rows.replace(" && is_line", "\n          && is_line")
-        self.rows.append(rows)
+        self.rows.append(self.row(call, given, self.keep(call), c_string(" ".join(words))))
+
+    def row(self, call, given, field, line):
+        """The statements that make a call, whose answer goes to a field, and look at its line."""
+        if call.answer.form != "nothing":
+            given = given + [f"&{field}" if field else "NULL"]
+        made = declaration(f"    CHECK(vast_{call.method}(", ", ".join(given), ") == VAST_OK")
+        row = f"{made} && is_line(have, {line}));"
+        return row if len(row.split("\n")[-1]) <= WIDTH else row.replace(" && is_line", "\n          && is_line")
 
     def keep(self, call):
-        """Counts the call, and keeps what it gives; the argument that it is given to."""
+        """Counts the call; the field that keeps what it gives, if one does."""
         answer = call.answer
         if call.is_question:
-            return "&have->" + {"list": "ports", "optional": "text", "integer": natural(answer)}.get(answer.form, answer.form)
+            named = {"list": "ports", "optional": "text", "integer": natural(answer)}
+            return f"have->{named.get(answer.form, answer.form)}"
         number = self.count
         self.count += 1
-        if answer.form == "nothing":
-            return None
         field = KEPT.get(call.method)
-        if field is None and answer.of not in self.numbers:
+        if field is None and answer.form != "nothing" and answer.of not in self.numbers:
             field = answer.of
         if field is None:
-            return "NULL"
+            return None
         self.numbers[field] = number
-        return f"&have->{c_field(field)}"
+        return f"have->{c_field(field)}"
 
     def argument(self, call, parameter, seen):
         """An argument in C, and as lists have it."""
@@ -186,7 +189,7 @@ class Program:
         if type.form == "integer":
             return c_integer(1 if chosen is None else chosen), str(1 if chosen is None else chosen)
         text = f"{name}_{len(self.rows)}" if chosen is None else chosen
-        return f"vast_str({c_string(text)})", json.dumps(text).replace("\\t", "\t")
+        return self.text(text), json.dumps(text).replace("\\t", "\t")
 
     def many(self, type):
         """A list or an option in C, and as lists have it."""
@@ -198,7 +201,7 @@ class Program:
             ("list", "text"): ("have->strings, 2", '[ "first" "second" ]'),
             ("list", "integer"): ("have->integers, 1", "[ 2 ]"),
             ("list", "group"): ("have->definitions, 2", f"[ {rows} ]"),
-            ("optional", "text"): ('vast_str("label")', '+ "label"'),
+            ("optional", "text"): (self.text("label"), '+ "label"'),
             ("optional", "group"): ("&have->reset", f"+ [ {signal} true ]"),
         }[type.form, type.of.form]
 
@@ -206,6 +209,30 @@ class Program:
         """A field of the answers as a handle of the kind."""
         own = KIND_OF.get(field, field)
         return f"have->{c_field(field)}" if own == kind else f"vast_{kind}_of(have->{c_field(field)})"
+
+    def text(self, text):
+        """A text in C."""
+        return f"vast_str({c_string(text)})"
+
+
+class ValueProgram(Program):
+    """The same with calls by value, which take handles of each kind and texts as they are."""
+
+    header = "vast_values.h"
+
+    def row(self, call, given, field, line):
+        """See `Program`."""
+        kept = f"{field} = " if field else ""
+        made = declaration(f"    {kept}v_{call.method}(", ", ".join(given), ");")
+        return f"{made}\n    CHECK(have->file.fault == VAST_OK && is_line(have, {line}));"
+
+    def handle(self, field, kind):
+        """See `Program`."""
+        return f"have->{c_field(field)}"
+
+    def text(self, text):
+        """See `Program`."""
+        return c_string(text)
 
 
 def value_of(call, parameter):
@@ -240,12 +267,21 @@ def c_integer(number):
 
 
 def every_call(table, kinds):
-    """The program."""
-    program = Program(table, kinds)
+    """The program of the calls that return a status."""
+    return program_text(Program(table, kinds), kinds)
+
+
+def every_value(table, kinds):
+    """The program of the calls by value."""
+    return program_text(ValueProgram(table, kinds), kinds)
+
+
+def program_text(program, kinds):
+    """The text of a program."""
     program.make_all()
     fields = [f"    vast_{kind.kind} {c_field(kind.kind)};" for kind in kinds if kind.kind in program.numbers]
     fields += [f"    vast_{kind} {field};" for field, kind in KIND_OF.items()]
-    fields += ["    bool truth;", "    uint64_t natural;", "    int64_t integer;", "    vast_string text;", "    vast_ports ports;"]
+    fields += [f"    {kind};" for kind in ANSWERS]
     first, rest = program.rows[: program.gathered], program.rows[program.gathered :]
     groups = [first + ["    gather(have);"]] + [rest[at : at + PART] for at in range(0, len(rest), PART)]
     functions = [
@@ -255,7 +291,7 @@ def every_call(table, kinds):
     names = ", ".join(f"part_{number}" for number in range(len(groups)))
     parts = declaration("    static int (*const parts[])(answers *) = {", names, "};")
     return (
-        HEAD.format(fields="\n".join(fields))
+        HEAD.format(header=program.header, fields="\n".join(fields))
         + "\n".join(functions)
         + "\n"
         + MAIN.format(parts=parts, count=program.count)

@@ -1,4 +1,4 @@
-/* Makes each call of vast_calls.h once: it returns VAST_OK, and its line is the one that lists have.
+/* Makes each call of vast_calls.h once: nothing is at fault, and its line is the one that lists have.
  *
  * Written by tools/bindings_from_calls from the table of calls; not to be edited.
  */
