@@ -1,14 +1,18 @@
 /* Each call as a function: `vast_make_add(&file, a, b, &sum)` makes `sum` of `a` and `b`.
  *
- * vast_file.h says how a file is opened and closed, who owns what, and what a handle is. A function returns the status of its
- * call as vast.h has them; what it gives comes by its last pointer, `made` or `answer`. A handle that is not wanted has
- * NULL for `made`. VAST_CONDITION is also for handles that are none of the file's, VAST_FORM for texts that are not UTF-8 and
- * numbers that are no variant of their enum, VAST_MEMORY and VAST_NOT_OPEN as for all. An array is a pointer and how many
- * items it has; where it has none the pointer may be NULL. What may be missing is a pointer, NULL where it is, or a text
- * without bytes.
+ * vast_file.h says how a file is opened and closed, who owns what, and what a handle is. A function
+ * returns the status of its call; what it makes or is asked for comes by its last pointer, `made`
+ * or `answer`. Where the handle is not wanted `made` may be NULL. Beside what the comment of a
+ * function says, VAST_CONDITION is returned for a handle that is none of the file, VAST_FORM for a
+ * text that is not UTF-8 and a number that is no variant of its enum, VAST_MEMORY and VAST_NOT_OPEN
+ * by all.
  *
- * An expression is wanted of its own kind: `vast_expression_of(signal)` is any handle that stands for one, as one, and
- * `vast_signal_expression(signal)` and its like are the same as functions. vast_values.h has the calls by value.
+ * A list is a pointer and how many items it has; where it has none the pointer may be NULL. What
+ * may be missing is a pointer, NULL where it is, or a text without bytes, `vast_str(NULL)`.
+ *
+ * A handle is taken of its own kind alone. `vast_expression_of(clk)` is any handle that may stand
+ * for an expression as one, and `vast_signal_expression(clk)` is the same for a kind that is named;
+ * so are `vast_indexable_of` and `vast_scope_of`. vast_values.h has the calls by value.
  *
  * Written by tools/bindings_from_calls from the table of calls; not to be edited.
  */
@@ -17,27 +21,28 @@
 
 #include "vast_file.h"
 
-static inline void vast_line_expressions(vast_file *file, const vast_expression *items, size_t count)
+static inline void vast_line_expressions(vast_file *file, const vast_expression *given,
+                                         size_t count)
 {
     vast_line_word(file, "[");
     for (size_t at = 0; at < count; at++)
-        vast_line_handle(file, items[at].id);
+        vast_line_handle(file, given[at].id);
     vast_line_word(file, "]");
 }
 
-static inline void vast_line_integers(vast_file *file, const int64_t *items, size_t count)
+static inline void vast_line_integers(vast_file *file, const int64_t *given, size_t count)
 {
     vast_line_word(file, "[");
     for (size_t at = 0; at < count; at++)
-        vast_line_integer(file, items[at]);
+        vast_line_integer(file, given[at]);
     vast_line_word(file, "]");
 }
 
-static inline void vast_line_texts(vast_file *file, const vast_string *items, size_t count)
+static inline void vast_line_texts(vast_file *file, const vast_string *given, size_t count)
 {
     vast_line_word(file, "[");
     for (size_t at = 0; at < count; at++)
-        vast_line_text(file, items[at]);
+        vast_line_text(file, given[at]);
     vast_line_word(file, "]");
 }
 
@@ -48,11 +53,12 @@ static inline void vast_line_optional_expression(vast_file *file, const vast_exp
         vast_line_handle(file, given->id);
 }
 
-static inline void vast_line_optional_expressions(vast_file *file, const vast_expression *const *items, size_t count)
+static inline void vast_line_optional_expressions(vast_file *file,
+                                                  const vast_expression *const *given, size_t count)
 {
     vast_line_word(file, "[");
     for (size_t at = 0; at < count; at++)
-        vast_line_optional_expression(file, items[at]);
+        vast_line_optional_expression(file, given[at]);
     vast_line_word(file, "]");
 }
 
@@ -81,18 +87,21 @@ static inline void vast_line_register_definition(vast_file *file, vast_register_
     vast_line_word(file, "]");
 }
 
-static inline void vast_line_register_definitions(vast_file *file, const vast_register_definition *items, size_t count)
+static inline void vast_line_register_definitions(vast_file *file,
+                                                  const vast_register_definition *given,
+                                                  size_t count)
 {
     vast_line_word(file, "[");
     for (size_t at = 0; at < count; at++)
-        vast_line_register_definition(file, items[at]);
+        vast_line_register_definition(file, given[at]);
     vast_line_word(file, "]");
 }
 
 /* Operators */
 
 /* The bitwise complement `~a`, as `vast_make_bitwise_not` makes it. */
-static inline int32_t vast_make_not(vast_file *file, vast_expression expression, vast_expression *made)
+static inline int32_t vast_make_not(vast_file *file, vast_expression expression,
+                                    vast_expression *made)
 {
     vast_line_begin(file, "MakeNot");
     vast_line_handle(file, expression.id);
@@ -100,7 +109,8 @@ static inline int32_t vast_make_not(vast_file *file, vast_expression expression,
 }
 
 /* The bitwise complement `~a`. */
-static inline int32_t vast_make_bitwise_not(vast_file *file, vast_expression expression, vast_expression *made)
+static inline int32_t vast_make_bitwise_not(vast_file *file, vast_expression expression,
+                                            vast_expression *made)
 {
     vast_line_begin(file, "MakeBitwiseNot");
     vast_line_handle(file, expression.id);
@@ -108,7 +118,8 @@ static inline int32_t vast_make_bitwise_not(vast_file *file, vast_expression exp
 }
 
 /* The negation `-a`. */
-static inline int32_t vast_make_negate(vast_file *file, vast_expression expression, vast_expression *made)
+static inline int32_t vast_make_negate(vast_file *file, vast_expression expression,
+                                       vast_expression *made)
 {
     vast_line_begin(file, "MakeNegate");
     vast_line_handle(file, expression.id);
@@ -116,7 +127,8 @@ static inline int32_t vast_make_negate(vast_file *file, vast_expression expressi
 }
 
 /* The logical complement `!a`. */
-static inline int32_t vast_make_logical_not(vast_file *file, vast_expression expression, vast_expression *made)
+static inline int32_t vast_make_logical_not(vast_file *file, vast_expression expression,
+                                            vast_expression *made)
 {
     vast_line_begin(file, "MakeLogicalNot");
     vast_line_handle(file, expression.id);
@@ -124,7 +136,8 @@ static inline int32_t vast_make_logical_not(vast_file *file, vast_expression exp
 }
 
 /* The AND of all bits, `&a`. */
-static inline int32_t vast_make_and_reduce(vast_file *file, vast_expression expression, vast_expression *made)
+static inline int32_t vast_make_and_reduce(vast_file *file, vast_expression expression,
+                                           vast_expression *made)
 {
     vast_line_begin(file, "MakeAndReduce");
     vast_line_handle(file, expression.id);
@@ -132,7 +145,8 @@ static inline int32_t vast_make_and_reduce(vast_file *file, vast_expression expr
 }
 
 /* The OR of all bits, `|a`. */
-static inline int32_t vast_make_or_reduce(vast_file *file, vast_expression expression, vast_expression *made)
+static inline int32_t vast_make_or_reduce(vast_file *file, vast_expression expression,
+                                          vast_expression *made)
 {
     vast_line_begin(file, "MakeOrReduce");
     vast_line_handle(file, expression.id);
@@ -140,7 +154,8 @@ static inline int32_t vast_make_or_reduce(vast_file *file, vast_expression expre
 }
 
 /* The XOR of all bits, `^a`. */
-static inline int32_t vast_make_xor_reduce(vast_file *file, vast_expression expression, vast_expression *made)
+static inline int32_t vast_make_xor_reduce(vast_file *file, vast_expression expression,
+                                           vast_expression *made)
 {
     vast_line_begin(file, "MakeXorReduce");
     vast_line_handle(file, expression.id);
@@ -148,7 +163,8 @@ static inline int32_t vast_make_xor_reduce(vast_file *file, vast_expression expr
 }
 
 /* The sum `a + b`. */
-static inline int32_t vast_make_add(vast_file *file, vast_expression lhs, vast_expression rhs, vast_expression *made)
+static inline int32_t vast_make_add(vast_file *file, vast_expression lhs, vast_expression rhs,
+                                    vast_expression *made)
 {
     vast_line_begin(file, "MakeAdd");
     vast_line_handle(file, lhs.id);
@@ -157,7 +173,8 @@ static inline int32_t vast_make_add(vast_file *file, vast_expression lhs, vast_e
 }
 
 /* The difference `a - b`. */
-static inline int32_t vast_make_sub(vast_file *file, vast_expression lhs, vast_expression rhs, vast_expression *made)
+static inline int32_t vast_make_sub(vast_file *file, vast_expression lhs, vast_expression rhs,
+                                    vast_expression *made)
 {
     vast_line_begin(file, "MakeSub");
     vast_line_handle(file, lhs.id);
@@ -166,7 +183,8 @@ static inline int32_t vast_make_sub(vast_file *file, vast_expression lhs, vast_e
 }
 
 /* The product `a * b`. */
-static inline int32_t vast_make_mul(vast_file *file, vast_expression lhs, vast_expression rhs, vast_expression *made)
+static inline int32_t vast_make_mul(vast_file *file, vast_expression lhs, vast_expression rhs,
+                                    vast_expression *made)
 {
     vast_line_begin(file, "MakeMul");
     vast_line_handle(file, lhs.id);
@@ -175,7 +193,8 @@ static inline int32_t vast_make_mul(vast_file *file, vast_expression lhs, vast_e
 }
 
 /* The quotient `a / b`. */
-static inline int32_t vast_make_div(vast_file *file, vast_expression lhs, vast_expression rhs, vast_expression *made)
+static inline int32_t vast_make_div(vast_file *file, vast_expression lhs, vast_expression rhs,
+                                    vast_expression *made)
 {
     vast_line_begin(file, "MakeDiv");
     vast_line_handle(file, lhs.id);
@@ -184,7 +203,8 @@ static inline int32_t vast_make_div(vast_file *file, vast_expression lhs, vast_e
 }
 
 /* The remainder `a % b`. */
-static inline int32_t vast_make_mod(vast_file *file, vast_expression lhs, vast_expression rhs, vast_expression *made)
+static inline int32_t vast_make_mod(vast_file *file, vast_expression lhs, vast_expression rhs,
+                                    vast_expression *made)
 {
     vast_line_begin(file, "MakeMod");
     vast_line_handle(file, lhs.id);
@@ -193,7 +213,8 @@ static inline int32_t vast_make_mod(vast_file *file, vast_expression lhs, vast_e
 }
 
 /* The power `a ** b`. */
-static inline int32_t vast_make_power(vast_file *file, vast_expression lhs, vast_expression rhs, vast_expression *made)
+static inline int32_t vast_make_power(vast_file *file, vast_expression lhs, vast_expression rhs,
+                                      vast_expression *made)
 {
     vast_line_begin(file, "MakePower");
     vast_line_handle(file, lhs.id);
@@ -202,8 +223,8 @@ static inline int32_t vast_make_power(vast_file *file, vast_expression lhs, vast
 }
 
 /* The bitwise AND `a & b`. */
-static inline int32_t vast_make_bitwise_and(vast_file *file, vast_expression lhs, vast_expression rhs,
-                                            vast_expression *made)
+static inline int32_t vast_make_bitwise_and(vast_file *file, vast_expression lhs,
+                                            vast_expression rhs, vast_expression *made)
 {
     vast_line_begin(file, "MakeBitwiseAnd");
     vast_line_handle(file, lhs.id);
@@ -212,8 +233,8 @@ static inline int32_t vast_make_bitwise_and(vast_file *file, vast_expression lhs
 }
 
 /* The bitwise OR `a | b`. */
-static inline int32_t vast_make_bitwise_or(vast_file *file, vast_expression lhs, vast_expression rhs,
-                                           vast_expression *made)
+static inline int32_t vast_make_bitwise_or(vast_file *file, vast_expression lhs,
+                                           vast_expression rhs, vast_expression *made)
 {
     vast_line_begin(file, "MakeBitwiseOr");
     vast_line_handle(file, lhs.id);
@@ -222,8 +243,8 @@ static inline int32_t vast_make_bitwise_or(vast_file *file, vast_expression lhs,
 }
 
 /* The bitwise XOR `a ^ b`. */
-static inline int32_t vast_make_bitwise_xor(vast_file *file, vast_expression lhs, vast_expression rhs,
-                                            vast_expression *made)
+static inline int32_t vast_make_bitwise_xor(vast_file *file, vast_expression lhs,
+                                            vast_expression rhs, vast_expression *made)
 {
     vast_line_begin(file, "MakeBitwiseXor");
     vast_line_handle(file, lhs.id);
@@ -232,7 +253,8 @@ static inline int32_t vast_make_bitwise_xor(vast_file *file, vast_expression lhs
 }
 
 /* The logical shift to the left, `a << b`. */
-static inline int32_t vast_make_shll(vast_file *file, vast_expression lhs, vast_expression rhs, vast_expression *made)
+static inline int32_t vast_make_shll(vast_file *file, vast_expression lhs, vast_expression rhs,
+                                     vast_expression *made)
 {
     vast_line_begin(file, "MakeShll");
     vast_line_handle(file, lhs.id);
@@ -241,7 +263,8 @@ static inline int32_t vast_make_shll(vast_file *file, vast_expression lhs, vast_
 }
 
 /* The arithmetic shift to the right, `a >>> b`. */
-static inline int32_t vast_make_shra(vast_file *file, vast_expression lhs, vast_expression rhs, vast_expression *made)
+static inline int32_t vast_make_shra(vast_file *file, vast_expression lhs, vast_expression rhs,
+                                     vast_expression *made)
 {
     vast_line_begin(file, "MakeShra");
     vast_line_handle(file, lhs.id);
@@ -250,7 +273,8 @@ static inline int32_t vast_make_shra(vast_file *file, vast_expression lhs, vast_
 }
 
 /* The logical shift to the right, `a >> b`. */
-static inline int32_t vast_make_shrl(vast_file *file, vast_expression lhs, vast_expression rhs, vast_expression *made)
+static inline int32_t vast_make_shrl(vast_file *file, vast_expression lhs, vast_expression rhs,
+                                     vast_expression *made)
 {
     vast_line_begin(file, "MakeShrl");
     vast_line_handle(file, lhs.id);
@@ -259,7 +283,8 @@ static inline int32_t vast_make_shrl(vast_file *file, vast_expression lhs, vast_
 }
 
 /* The inequality `a != b`. */
-static inline int32_t vast_make_ne(vast_file *file, vast_expression lhs, vast_expression rhs, vast_expression *made)
+static inline int32_t vast_make_ne(vast_file *file, vast_expression lhs, vast_expression rhs,
+                                   vast_expression *made)
 {
     vast_line_begin(file, "MakeNe");
     vast_line_handle(file, lhs.id);
@@ -278,7 +303,8 @@ static inline int32_t vast_make_case_ne(vast_file *file, vast_expression lhs, va
 }
 
 /* The equality `a == b`. */
-static inline int32_t vast_make_eq(vast_file *file, vast_expression lhs, vast_expression rhs, vast_expression *made)
+static inline int32_t vast_make_eq(vast_file *file, vast_expression lhs, vast_expression rhs,
+                                   vast_expression *made)
 {
     vast_line_begin(file, "MakeEq");
     vast_line_handle(file, lhs.id);
@@ -297,7 +323,8 @@ static inline int32_t vast_make_case_eq(vast_file *file, vast_expression lhs, va
 }
 
 /* The comparison `a >= b`. */
-static inline int32_t vast_make_ge(vast_file *file, vast_expression lhs, vast_expression rhs, vast_expression *made)
+static inline int32_t vast_make_ge(vast_file *file, vast_expression lhs, vast_expression rhs,
+                                   vast_expression *made)
 {
     vast_line_begin(file, "MakeGe");
     vast_line_handle(file, lhs.id);
@@ -306,7 +333,8 @@ static inline int32_t vast_make_ge(vast_file *file, vast_expression lhs, vast_ex
 }
 
 /* The comparison `a > b`. */
-static inline int32_t vast_make_gt(vast_file *file, vast_expression lhs, vast_expression rhs, vast_expression *made)
+static inline int32_t vast_make_gt(vast_file *file, vast_expression lhs, vast_expression rhs,
+                                   vast_expression *made)
 {
     vast_line_begin(file, "MakeGt");
     vast_line_handle(file, lhs.id);
@@ -315,7 +343,8 @@ static inline int32_t vast_make_gt(vast_file *file, vast_expression lhs, vast_ex
 }
 
 /* The comparison `a <= b`. */
-static inline int32_t vast_make_le(vast_file *file, vast_expression lhs, vast_expression rhs, vast_expression *made)
+static inline int32_t vast_make_le(vast_file *file, vast_expression lhs, vast_expression rhs,
+                                   vast_expression *made)
 {
     vast_line_begin(file, "MakeLe");
     vast_line_handle(file, lhs.id);
@@ -324,7 +353,8 @@ static inline int32_t vast_make_le(vast_file *file, vast_expression lhs, vast_ex
 }
 
 /* The comparison `a < b`. */
-static inline int32_t vast_make_lt(vast_file *file, vast_expression lhs, vast_expression rhs, vast_expression *made)
+static inline int32_t vast_make_lt(vast_file *file, vast_expression lhs, vast_expression rhs,
+                                   vast_expression *made)
 {
     vast_line_begin(file, "MakeLt");
     vast_line_handle(file, lhs.id);
@@ -333,8 +363,8 @@ static inline int32_t vast_make_lt(vast_file *file, vast_expression lhs, vast_ex
 }
 
 /* The logical AND `a && b`. */
-static inline int32_t vast_make_logical_and(vast_file *file, vast_expression lhs, vast_expression rhs,
-                                            vast_expression *made)
+static inline int32_t vast_make_logical_and(vast_file *file, vast_expression lhs,
+                                            vast_expression rhs, vast_expression *made)
 {
     vast_line_begin(file, "MakeLogicalAnd");
     vast_line_handle(file, lhs.id);
@@ -343,8 +373,8 @@ static inline int32_t vast_make_logical_and(vast_file *file, vast_expression lhs
 }
 
 /* The logical OR `a || b`. */
-static inline int32_t vast_make_logical_or(vast_file *file, vast_expression lhs, vast_expression rhs,
-                                           vast_expression *made)
+static inline int32_t vast_make_logical_or(vast_file *file, vast_expression lhs,
+                                           vast_expression rhs, vast_expression *made)
 {
     vast_line_begin(file, "MakeLogicalOr");
     vast_line_handle(file, lhs.id);
@@ -353,7 +383,8 @@ static inline int32_t vast_make_logical_or(vast_file *file, vast_expression lhs,
 }
 
 /* The inequality with an unknown value, written `a !== b`. */
-static inline int32_t vast_make_ne_x(vast_file *file, vast_expression lhs, vast_expression rhs, vast_expression *made)
+static inline int32_t vast_make_ne_x(vast_file *file, vast_expression lhs, vast_expression rhs,
+                                     vast_expression *made)
 {
     vast_line_begin(file, "MakeNeX");
     vast_line_handle(file, lhs.id);
@@ -362,7 +393,8 @@ static inline int32_t vast_make_ne_x(vast_file *file, vast_expression lhs, vast_
 }
 
 /* The equality with an unknown value, written `a === b`. */
-static inline int32_t vast_make_eq_x(vast_file *file, vast_expression lhs, vast_expression rhs, vast_expression *made)
+static inline int32_t vast_make_eq_x(vast_file *file, vast_expression lhs, vast_expression rhs,
+                                     vast_expression *made)
 {
     vast_line_begin(file, "MakeEqX");
     vast_line_handle(file, lhs.id);
@@ -375,8 +407,8 @@ static inline int32_t vast_make_eq_x(vast_file *file, vast_expression lhs, vast_
 /* The literal `bits[N]:value`, written in a format.
  * `text`: `bits[WIDTH]:VALUE`, of 1 to 1,048,576 bits and a value below 2^128.
  * VAST_REFUSED where the text is no such literal, or the format doesn't hold its value. */
-static inline int32_t vast_make_literal(vast_file *file, vast_string text, vast_literal_format format,
-                                        vast_expression *made)
+static inline int32_t vast_make_literal(vast_file *file, vast_string text,
+                                        vast_literal_format format, vast_expression *made)
 {
     vast_line_begin(file, "MakeLiteral");
     vast_line_text(file, text);
@@ -384,10 +416,12 @@ static inline int32_t vast_make_literal(vast_file *file, vast_string text, vast_
     return vast_line_make(file, made == NULL ? NULL : &made->id);
 }
 
-/* The binary pattern of these digits `0`, `1` and `?`, the most significant first, as wide as they are many.
+/* The binary pattern of these digits `0`, `1` and `?`, the most significant first, as wide as
+ * they are many.
  * `bits_msb`: digits `0`, `1` and `?`, the highest first.
  * VAST_REFUSED where there is another digit, none, or more than 1,048,576. */
-static inline int32_t vast_make_binary_pattern(vast_file *file, vast_string bits_msb, vast_expression *made)
+static inline int32_t vast_make_binary_pattern(vast_file *file, vast_string bits_msb,
+                                               vast_expression *made)
 {
     vast_line_begin(file, "MakeBinaryPattern");
     vast_line_text(file, bits_msb);
@@ -395,7 +429,8 @@ static inline int32_t vast_make_binary_pattern(vast_file *file, vast_string bits
 }
 
 /* The number in decimal, without a width; a negative one has its minus. */
-static inline int32_t vast_make_unsized_decimal_literal(vast_file *file, int32_t value, vast_expression *made)
+static inline int32_t vast_make_unsized_decimal_literal(vast_file *file, int32_t value,
+                                                        vast_expression *made)
 {
     vast_line_begin(file, "MakeUnsizedDecimalLiteral");
     vast_line_integer(file, value);
@@ -403,7 +438,8 @@ static inline int32_t vast_make_unsized_decimal_literal(vast_file *file, int32_t
 }
 
 /* The string of this content. */
-static inline int32_t vast_make_string_literal(vast_file *file, vast_string value, vast_expression *made)
+static inline int32_t vast_make_string_literal(vast_file *file, vast_string value,
+                                               vast_expression *made)
 {
     vast_line_begin(file, "MakeStringLiteral");
     vast_line_text(file, value);
@@ -440,7 +476,8 @@ static inline int32_t vast_make_name(vast_file *file, vast_string name, vast_exp
 }
 
 /* The same node, as an expression that may be selected from. */
-static inline int32_t vast_make_indexable_expression(vast_file *file, vast_expression expression, vast_indexable *made)
+static inline int32_t vast_make_indexable_expression(vast_file *file, vast_expression expression,
+                                                     vast_indexable *made)
 {
     vast_line_begin(file, "MakeIndexableExpression");
     vast_line_handle(file, expression.id);
@@ -451,7 +488,8 @@ static inline int32_t vast_make_indexable_expression(vast_file *file, vast_expre
  * `hi`: a bit's or an element's number, from 0.
  * `lo`: a bit's or an element's number, from 0.
  * VAST_CONDITION unless: hi at least 0, lo at least 0. */
-static inline int32_t vast_make_slice(vast_file *file, vast_indexable subject, int64_t hi, int64_t lo, vast_slice *made)
+static inline int32_t vast_make_slice(vast_file *file, vast_indexable subject, int64_t hi,
+                                      int64_t lo, vast_slice *made)
 {
     vast_line_begin(file, "MakeSlice");
     vast_line_handle(file, subject.id);
@@ -463,7 +501,8 @@ static inline int32_t vast_make_slice(vast_file *file, vast_indexable subject, i
 /* The bit `s[index]`, by a number, for which a literal is made.
  * `index`: a bit's or an element's number, from 0.
  * VAST_CONDITION unless: index at least 0. */
-static inline int32_t vast_make_index(vast_file *file, vast_indexable subject, int64_t index, vast_index *made)
+static inline int32_t vast_make_index(vast_file *file, vast_indexable subject, int64_t index,
+                                      vast_index *made)
 {
     vast_line_begin(file, "MakeIndex");
     vast_line_handle(file, subject.id);
@@ -474,8 +513,8 @@ static inline int32_t vast_make_index(vast_file *file, vast_indexable subject, i
 /* The range `s[hi:lo]` between two bounds that are expressions.
  * `hi`: a bit's or an element's number.
  * `lo`: a bit's or an element's number. */
-static inline int32_t vast_make_slice_expr(vast_file *file, vast_indexable subject, vast_expression hi,
-                                           vast_expression lo, vast_slice *made)
+static inline int32_t vast_make_slice_expr(vast_file *file, vast_indexable subject,
+                                           vast_expression hi, vast_expression lo, vast_slice *made)
 {
     vast_line_begin(file, "MakeSliceExpr");
     vast_line_handle(file, subject.id);
@@ -485,8 +524,8 @@ static inline int32_t vast_make_slice_expr(vast_file *file, vast_indexable subje
 }
 
 /* The bit `s[index]`, by an expression. */
-static inline int32_t vast_make_index_expr(vast_file *file, vast_indexable subject, vast_expression index,
-                                           vast_index *made)
+static inline int32_t vast_make_index_expr(vast_file *file, vast_indexable subject,
+                                           vast_expression index, vast_index *made)
 {
     vast_line_begin(file, "MakeIndexExpr");
     vast_line_handle(file, subject.id);
@@ -497,8 +536,9 @@ static inline int32_t vast_make_index_expr(vast_file *file, vast_indexable subje
 /* The range `s[start +: width]` of so many bits upwards.
  * `width`: in bits, or in elements of an array.
  * VAST_CONDITION unless: width at least 1. */
-static inline int32_t vast_make_indexed_part_select(vast_file *file, vast_indexable subject, vast_expression start,
-                                                    int64_t width, vast_expression *made)
+static inline int32_t vast_make_indexed_part_select(vast_file *file, vast_indexable subject,
+                                                    vast_expression start, int64_t width,
+                                                    vast_expression *made)
 {
     vast_line_begin(file, "MakeIndexedPartSelect");
     vast_line_handle(file, subject.id);
@@ -509,7 +549,8 @@ static inline int32_t vast_make_indexed_part_select(vast_file *file, vast_indexa
 
 /* The call `f(a, b)` of a function of this name.
  * VAST_CONDITION unless: name not empty. */
-static inline int32_t vast_make_function_call(vast_file *file, vast_string name, const vast_expression *arguments,
+static inline int32_t vast_make_function_call(vast_file *file, vast_string name,
+                                              const vast_expression *arguments,
                                               size_t arguments_count, vast_expression *made)
 {
     vast_line_begin(file, "MakeFunctionCall");
@@ -519,8 +560,8 @@ static inline int32_t vast_make_function_call(vast_file *file, vast_string name,
 }
 
 /* The concatenation `{a, b}`; there may be no parts. */
-static inline int32_t vast_make_concat(vast_file *file, const vast_expression *expressions, size_t expressions_count,
-                                       vast_expression *made)
+static inline int32_t vast_make_concat(vast_file *file, const vast_expression *expressions,
+                                       size_t expressions_count, vast_expression *made)
 {
     vast_line_begin(file, "MakeConcat");
     vast_line_expressions(file, expressions, expressions_count);
@@ -529,8 +570,8 @@ static inline int32_t vast_make_concat(vast_file *file, const vast_expression *e
 
 /* The replicated concatenation `{n{a, b}}`. */
 static inline int32_t vast_make_replicated_concat(vast_file *file, vast_expression replication,
-                                                  const vast_expression *elements, size_t elements_count,
-                                                  vast_expression *made)
+                                                  const vast_expression *elements,
+                                                  size_t elements_count, vast_expression *made)
 {
     vast_line_begin(file, "MakeReplicatedConcat");
     vast_line_handle(file, replication.id);
@@ -541,8 +582,8 @@ static inline int32_t vast_make_replicated_concat(vast_file *file, vast_expressi
 /* The replicated concatenation by a number, for which a literal is made too.
  * `replication`: how many times. */
 static inline int32_t vast_make_replicated_concat_i64(vast_file *file, int64_t replication,
-                                                      const vast_expression *elements, size_t elements_count,
-                                                      vast_expression *made)
+                                                      const vast_expression *elements,
+                                                      size_t elements_count, vast_expression *made)
 {
     vast_line_begin(file, "MakeReplicatedConcatI64");
     vast_line_integer(file, replication);
@@ -551,8 +592,10 @@ static inline int32_t vast_make_replicated_concat_i64(vast_file *file, int64_t r
 }
 
 /* The array assignment pattern `'{a, b}`. */
-static inline int32_t vast_make_array_assignment_pattern(vast_file *file, const vast_expression *elements,
-                                                         size_t elements_count, vast_expression *made)
+static inline int32_t vast_make_array_assignment_pattern(vast_file *file,
+                                                         const vast_expression *elements,
+                                                         size_t elements_count,
+                                                         vast_expression *made)
 {
     vast_line_begin(file, "MakeArrayAssignmentPattern");
     vast_line_expressions(file, elements, elements_count);
@@ -560,8 +603,9 @@ static inline int32_t vast_make_array_assignment_pattern(vast_file *file, const 
 }
 
 /* The choice `c ? a : b`. */
-static inline int32_t vast_make_ternary(vast_file *file, vast_expression condition, vast_expression consequent,
-                                        vast_expression alternate, vast_expression *made)
+static inline int32_t vast_make_ternary(vast_file *file, vast_expression condition,
+                                        vast_expression consequent, vast_expression alternate,
+                                        vast_expression *made)
 {
     vast_line_begin(file, "MakeTernary");
     vast_line_handle(file, condition.id);
@@ -571,8 +615,8 @@ static inline int32_t vast_make_ternary(vast_file *file, vast_expression conditi
 }
 
 /* The value, cast to a width: `w'(v)`. */
-static inline int32_t vast_make_width_cast(vast_file *file, vast_expression width, vast_expression value,
-                                           vast_expression *made)
+static inline int32_t vast_make_width_cast(vast_file *file, vast_expression width,
+                                           vast_expression value, vast_expression *made)
 {
     vast_line_begin(file, "MakeWidthCast");
     vast_line_handle(file, width.id);
@@ -582,8 +626,8 @@ static inline int32_t vast_make_width_cast(vast_file *file, vast_expression widt
 
 /* The value, cast to a type that is no array; `vast_type_can_be_cast` is the test.
  * VAST_CONDITION unless: `vast_type_can_be_cast`. */
-static inline int32_t vast_make_type_cast(vast_file *file, vast_type data_type, vast_expression value,
-                                          vast_expression *made)
+static inline int32_t vast_make_type_cast(vast_file *file, vast_type data_type,
+                                          vast_expression value, vast_expression *made)
 {
     vast_line_begin(file, "MakeTypeCast");
     vast_line_handle(file, data_type.id);
@@ -592,7 +636,8 @@ static inline int32_t vast_make_type_cast(vast_file *file, vast_type data_type, 
 }
 
 /* The event of a rising edge, `posedge a`. */
-static inline int32_t vast_make_pos_edge(vast_file *file, vast_expression expression, vast_expression *made)
+static inline int32_t vast_make_pos_edge(vast_file *file, vast_expression expression,
+                                         vast_expression *made)
 {
     vast_line_begin(file, "MakePosEdge");
     vast_line_handle(file, expression.id);
@@ -600,7 +645,8 @@ static inline int32_t vast_make_pos_edge(vast_file *file, vast_expression expres
 }
 
 /* The event of a falling edge, `negedge a`. */
-static inline int32_t vast_make_neg_edge(vast_file *file, vast_expression expression, vast_expression *made)
+static inline int32_t vast_make_neg_edge(vast_file *file, vast_expression expression,
+                                         vast_expression *made)
 {
     vast_line_begin(file, "MakeNegEdge");
     vast_line_handle(file, expression.id);
@@ -616,7 +662,8 @@ static inline int32_t vast_make_macro_ref(vast_file *file, vast_string name, vas
 }
 
 /* The use of a macro with arguments, `` `M(a, b) ``; there may be none. */
-static inline int32_t vast_make_macro_ref_with_args(vast_file *file, vast_string name, const vast_expression *arguments,
+static inline int32_t vast_make_macro_ref_with_args(vast_file *file, vast_string name,
+                                                    const vast_expression *arguments,
                                                     size_t arguments_count, vast_macro *made)
 {
     vast_line_begin(file, "MakeMacroRefWithArgs");
@@ -659,8 +706,8 @@ static inline int32_t vast_make_extern_type(vast_file *file, vast_string name, v
 }
 
 /* A type of this name that is declared in a package, `package::name`. */
-static inline int32_t vast_make_extern_package_type(vast_file *file, vast_string package_name, vast_string name,
-                                                    vast_type *made)
+static inline int32_t vast_make_extern_package_type(vast_file *file, vast_string package_name,
+                                                    vast_string name, vast_type *made)
 {
     vast_line_begin(file, "MakeExternPackageType");
     vast_line_text(file, package_name);
@@ -671,7 +718,8 @@ static inline int32_t vast_make_extern_package_type(vast_file *file, vast_string
 /* The type of `bit_count` bits; of one bit it is a scalar.
  * `bit_count`: in bits.
  * VAST_CONDITION unless: bit_count at least 1. */
-static inline int32_t vast_make_bit_vector_type(vast_file *file, int64_t bit_count, bool is_signed, vast_type *made)
+static inline int32_t vast_make_bit_vector_type(vast_file *file, int64_t bit_count, bool is_signed,
+                                                vast_type *made)
 {
     vast_line_begin(file, "MakeBitVectorType");
     vast_line_integer(file, bit_count);
@@ -681,8 +729,8 @@ static inline int32_t vast_make_bit_vector_type(vast_file *file, int64_t bit_cou
 
 /* The vector whose width is the expression; `vast_width_is_usable` is the test.
  * VAST_CONDITION unless: `vast_width_is_usable`. */
-static inline int32_t vast_make_bit_vector_type_expr(vast_file *file, vast_expression width, bool is_signed,
-                                                     vast_type *made)
+static inline int32_t vast_make_bit_vector_type_expr(vast_file *file, vast_expression width,
+                                                     bool is_signed, vast_type *made)
 {
     vast_line_begin(file, "MakeBitVectorTypeExpr");
     vast_line_handle(file, width.id);
@@ -693,7 +741,8 @@ static inline int32_t vast_make_bit_vector_type_expr(vast_file *file, vast_expre
 /* The packed array of elements of a type, with its dimensions from the outermost.
  * `dimensions`: numbers of elements, the outermost dimension first.
  * VAST_CONDITION unless: `vast_type_can_be_packed`, at least one dimension, each at least 1. */
-static inline int32_t vast_make_packed_array_type(vast_file *file, vast_type element, const int64_t *dimensions,
+static inline int32_t vast_make_packed_array_type(vast_file *file, vast_type element,
+                                                  const int64_t *dimensions,
                                                   size_t dimensions_count, vast_type *made)
 {
     vast_line_begin(file, "MakePackedArrayType");
@@ -705,7 +754,8 @@ static inline int32_t vast_make_packed_array_type(vast_file *file, vast_type ele
 /* The unpacked array of elements of a type, with its dimensions from the outermost.
  * `dimensions`: numbers of elements, the outermost dimension first.
  * VAST_CONDITION unless: at least one dimension, each at least 1. */
-static inline int32_t vast_make_unpacked_array_type(vast_file *file, vast_type element, const int64_t *dimensions,
+static inline int32_t vast_make_unpacked_array_type(vast_file *file, vast_type element,
+                                                    const int64_t *dimensions,
                                                     size_t dimensions_count, vast_type *made)
 {
     vast_line_begin(file, "MakeUnpackedArrayType");
@@ -750,8 +800,8 @@ static inline int32_t vast_add_module(vast_file *file, vast_string name, vast_mo
 
 /* An input, as the module's last port; returns its name as an expression.
  * VAST_CONDITION unless: `vast_name_is_free`. */
-static inline int32_t vast_add_input(vast_file *file, vast_module owner, vast_string name, vast_type data_type,
-                                     vast_signal *made)
+static inline int32_t vast_add_input(vast_file *file, vast_module owner, vast_string name,
+                                     vast_type data_type, vast_signal *made)
 {
     vast_line_begin(file, "AddInput");
     vast_line_handle(file, owner.id);
@@ -762,8 +812,8 @@ static inline int32_t vast_add_input(vast_file *file, vast_module owner, vast_st
 
 /* An output, as the module's last port; returns its name as an expression.
  * VAST_CONDITION unless: `vast_name_is_free`. */
-static inline int32_t vast_add_output(vast_file *file, vast_module owner, vast_string name, vast_type data_type,
-                                      vast_signal *made)
+static inline int32_t vast_add_output(vast_file *file, vast_module owner, vast_string name,
+                                      vast_type data_type, vast_signal *made)
 {
     vast_line_begin(file, "AddOutput");
     vast_line_handle(file, owner.id);
@@ -774,8 +824,8 @@ static inline int32_t vast_add_output(vast_file *file, vast_module owner, vast_s
 
 /* A port of both directions, as the module's last port.
  * VAST_CONDITION unless: `vast_name_is_free`. */
-static inline int32_t vast_add_inout(vast_file *file, vast_module owner, vast_string name, vast_type data_type,
-                                     vast_signal *made)
+static inline int32_t vast_add_inout(vast_file *file, vast_module owner, vast_string name,
+                                     vast_type data_type, vast_signal *made)
 {
     vast_line_begin(file, "AddInout");
     vast_line_handle(file, owner.id);
@@ -786,8 +836,8 @@ static inline int32_t vast_add_inout(vast_file *file, vast_module owner, vast_st
 
 /* An input that is declared with the word `logic`, as the module's last port.
  * VAST_CONDITION unless: `vast_name_is_free`. */
-static inline int32_t vast_add_logic_input(vast_file *file, vast_module owner, vast_string name, vast_type data_type,
-                                           vast_signal *made)
+static inline int32_t vast_add_logic_input(vast_file *file, vast_module owner, vast_string name,
+                                           vast_type data_type, vast_signal *made)
 {
     vast_line_begin(file, "AddLogicInput");
     vast_line_handle(file, owner.id);
@@ -798,8 +848,8 @@ static inline int32_t vast_add_logic_input(vast_file *file, vast_module owner, v
 
 /* An output that is declared with the word `logic`, as the module's last port.
  * VAST_CONDITION unless: `vast_name_is_free`. */
-static inline int32_t vast_add_logic_output(vast_file *file, vast_module owner, vast_string name, vast_type data_type,
-                                            vast_signal *made)
+static inline int32_t vast_add_logic_output(vast_file *file, vast_module owner, vast_string name,
+                                            vast_type data_type, vast_signal *made)
 {
     vast_line_begin(file, "AddLogicOutput");
     vast_line_handle(file, owner.id);
@@ -810,8 +860,8 @@ static inline int32_t vast_add_logic_output(vast_file *file, vast_module owner, 
 
 /* A wire, as the module's last member; returns its name as an expression.
  * VAST_CONDITION unless: `vast_name_is_free`. */
-static inline int32_t vast_add_wire(vast_file *file, vast_module owner, vast_string name, vast_type data_type,
-                                    vast_signal *made)
+static inline int32_t vast_add_wire(vast_file *file, vast_module owner, vast_string name,
+                                    vast_type data_type, vast_signal *made)
 {
     vast_line_begin(file, "AddWire");
     vast_line_handle(file, owner.id);
@@ -822,8 +872,8 @@ static inline int32_t vast_add_wire(vast_file *file, vast_module owner, vast_str
 
 /* A reg, as the module's last member; returns its name as an expression.
  * VAST_REFUSED where the module has the name. */
-static inline int32_t vast_add_reg(vast_file *file, vast_module owner, vast_string name, vast_type data_type,
-                                   vast_signal *made)
+static inline int32_t vast_add_reg(vast_file *file, vast_module owner, vast_string name,
+                                   vast_type data_type, vast_signal *made)
 {
     vast_line_begin(file, "AddReg");
     vast_line_handle(file, owner.id);
@@ -834,8 +884,8 @@ static inline int32_t vast_add_reg(vast_file *file, vast_module owner, vast_stri
 
 /* A logic, as the module's last member; returns its name as an expression.
  * VAST_REFUSED where the module has the name. */
-static inline int32_t vast_add_logic(vast_file *file, vast_module owner, vast_string name, vast_type data_type,
-                                     vast_signal *made)
+static inline int32_t vast_add_logic(vast_file *file, vast_module owner, vast_string name,
+                                     vast_type data_type, vast_signal *made)
 {
     vast_line_begin(file, "AddLogic");
     vast_line_handle(file, owner.id);
@@ -856,8 +906,9 @@ static inline int32_t vast_add_parameter_port(vast_file *file, vast_module owner
 }
 
 /* A parameter of this type, as the last of the module's header. */
-static inline int32_t vast_add_typed_parameter_port(vast_file *file, vast_module owner, vast_string name,
-                                                    vast_type data_type, vast_expression value, vast_signal *made)
+static inline int32_t vast_add_typed_parameter_port(vast_file *file, vast_module owner,
+                                                    vast_string name, vast_type data_type,
+                                                    vast_expression value, vast_signal *made)
 {
     vast_line_begin(file, "AddTypedParameterPort");
     vast_line_handle(file, owner.id);
@@ -868,8 +919,8 @@ static inline int32_t vast_add_typed_parameter_port(vast_file *file, vast_module
 }
 
 /* `parameter NAME = VALUE`, as the module's last member; returns its name. */
-static inline int32_t vast_add_parameter(vast_file *file, vast_module owner, vast_string name, vast_expression rhs,
-                                         vast_parameter *made)
+static inline int32_t vast_add_parameter(vast_file *file, vast_module owner, vast_string name,
+                                         vast_expression rhs, vast_parameter *made)
 {
     vast_line_begin(file, "AddParameter");
     vast_line_handle(file, owner.id);
@@ -879,8 +930,9 @@ static inline int32_t vast_add_parameter(vast_file *file, vast_module owner, vas
 }
 
 /* A parameter with the definition's kind, type and name, as the module's last member. */
-static inline int32_t vast_add_parameter_with_def(vast_file *file, vast_module owner, vast_definition definition,
-                                                  vast_expression rhs, vast_parameter *made)
+static inline int32_t vast_add_parameter_with_def(vast_file *file, vast_module owner,
+                                                  vast_definition definition, vast_expression rhs,
+                                                  vast_parameter *made)
 {
     vast_line_begin(file, "AddParameterWithDef");
     vast_line_handle(file, owner.id);
@@ -890,8 +942,8 @@ static inline int32_t vast_add_parameter_with_def(vast_file *file, vast_module o
 }
 
 /* `localparam NAME = VALUE`, as the module's last member; returns its name. */
-static inline int32_t vast_add_localparam(vast_file *file, vast_module owner, vast_string name, vast_expression rhs,
-                                          vast_localparam *made)
+static inline int32_t vast_add_localparam(vast_file *file, vast_module owner, vast_string name,
+                                          vast_expression rhs, vast_localparam *made)
 {
     vast_line_begin(file, "AddLocalparam");
     vast_line_handle(file, owner.id);
@@ -901,8 +953,8 @@ static inline int32_t vast_add_localparam(vast_file *file, vast_module owner, va
 }
 
 /* `localparam int NAME = VALUE`, as the module's last member; returns its name. */
-static inline int32_t vast_add_int_localparam(vast_file *file, vast_module owner, vast_string name, vast_expression rhs,
-                                              vast_localparam *made)
+static inline int32_t vast_add_int_localparam(vast_file *file, vast_module owner, vast_string name,
+                                              vast_expression rhs, vast_localparam *made)
 {
     vast_line_begin(file, "AddIntLocalparam");
     vast_line_handle(file, owner.id);
@@ -912,8 +964,9 @@ static inline int32_t vast_add_int_localparam(vast_file *file, vast_module owner
 }
 
 /* A local parameter with the definition's kind, type and name, as the module's last member. */
-static inline int32_t vast_add_typed_localparam(vast_file *file, vast_module owner, vast_definition definition,
-                                                vast_expression rhs, vast_localparam *made)
+static inline int32_t vast_add_typed_localparam(vast_file *file, vast_module owner,
+                                                vast_definition definition, vast_expression rhs,
+                                                vast_localparam *made)
 {
     vast_line_begin(file, "AddTypedLocalparam");
     vast_line_handle(file, owner.id);
@@ -922,10 +975,12 @@ static inline int32_t vast_add_typed_localparam(vast_file *file, vast_module own
     return vast_line_make(file, made == NULL ? NULL : &made->id);
 }
 
-/* Puts the module's wires, regs and logics from the member `start` on before the other members from there on.
+/* Puts the module's wires, regs and logics from the member `start` on before the other members
+ * from there on.
  * `start`: in members, from 0.
  * VAST_CONDITION unless: start at most `vast_module_member_count`. */
-static inline int32_t vast_hoist_module_declarations(vast_file *file, vast_module owner, uint64_t start)
+static inline int32_t vast_hoist_module_declarations(vast_file *file, vast_module owner,
+                                                     uint64_t start)
 {
     vast_line_begin(file, "HoistModuleDeclarations");
     vast_line_handle(file, owner.id);
@@ -938,8 +993,8 @@ static inline int32_t vast_hoist_module_declarations(vast_file *file, vast_modul
 /* A generate loop without members, as the module's last member.
  * `label`: of the loop's block; `NULL` for no label. */
 static inline int32_t vast_add_generate_loop(vast_file *file, vast_module owner, vast_string name,
-                                             vast_expression start, vast_expression end, vast_string label,
-                                             vast_loop *made)
+                                             vast_expression start, vast_expression end,
+                                             vast_string label, vast_loop *made)
 {
     vast_line_begin(file, "AddGenerateLoop");
     vast_line_handle(file, owner.id);
@@ -952,8 +1007,9 @@ static inline int32_t vast_add_generate_loop(vast_file *file, vast_module owner,
 
 /* A generate loop without members, as the last member of the loop `parent`.
  * `label`: of the loop's block; `NULL` for no label. */
-static inline int32_t vast_generate_add_generate_loop(vast_file *file, vast_loop parent, vast_string name,
-                                                      vast_expression start, vast_expression end, vast_string label,
+static inline int32_t vast_generate_add_generate_loop(vast_file *file, vast_loop parent,
+                                                      vast_string name, vast_expression start,
+                                                      vast_expression end, vast_string label,
                                                       vast_loop *made)
 {
     vast_line_begin(file, "GenerateAddGenerateLoop");
@@ -974,7 +1030,8 @@ static inline int32_t vast_generate_genvar(vast_file *file, vast_loop generate, 
 }
 
 /* An `always_comb` with an empty block, as the loop's last member. */
-static inline int32_t vast_generate_add_always_comb(vast_file *file, vast_loop generate, vast_always *made)
+static inline int32_t vast_generate_add_always_comb(vast_file *file, vast_loop generate,
+                                                    vast_always *made)
 {
     vast_line_begin(file, "GenerateAddAlwaysComb");
     vast_line_handle(file, generate.id);
@@ -1008,8 +1065,9 @@ static inline int32_t vast_generate_add_always_at(vast_file *file, vast_loop gen
 }
 
 /* `localparam NAME = VALUE`, as the loop's last member; returns its name. */
-static inline int32_t vast_generate_add_localparam(vast_file *file, vast_loop generate, vast_string name,
-                                                   vast_expression rhs, vast_localparam *made)
+static inline int32_t vast_generate_add_localparam(vast_file *file, vast_loop generate,
+                                                   vast_string name, vast_expression rhs,
+                                                   vast_localparam *made)
 {
     vast_line_begin(file, "GenerateAddLocalparam");
     vast_line_handle(file, generate.id);
@@ -1020,8 +1078,8 @@ static inline int32_t vast_generate_add_localparam(vast_file *file, vast_loop ge
 
 /* A local parameter with the definition's kind, type and name, as the loop's last member. */
 static inline int32_t vast_generate_add_typed_localparam(vast_file *file, vast_loop generate,
-                                                         vast_definition definition, vast_expression rhs,
-                                                         vast_localparam *made)
+                                                         vast_definition definition,
+                                                         vast_expression rhs, vast_localparam *made)
 {
     vast_line_begin(file, "GenerateAddTypedLocalparam");
     vast_line_handle(file, generate.id);
@@ -1031,8 +1089,10 @@ static inline int32_t vast_generate_add_typed_localparam(vast_file *file, vast_l
 }
 
 /* The assignment `assign lhs = rhs`, as the loop's last member. */
-static inline int32_t vast_generate_add_continuous_assignment(vast_file *file, vast_loop generate, vast_expression lhs,
-                                                              vast_expression rhs, vast_statement *made)
+static inline int32_t vast_generate_add_continuous_assignment(vast_file *file, vast_loop generate,
+                                                              vast_expression lhs,
+                                                              vast_expression rhs,
+                                                              vast_statement *made)
 {
     vast_line_begin(file, "GenerateAddContinuousAssignment");
     vast_line_handle(file, generate.id);
@@ -1042,7 +1102,8 @@ static inline int32_t vast_generate_add_continuous_assignment(vast_file *file, v
 }
 
 /* A conditional with an empty block, as the loop's last member. */
-static inline int32_t vast_generate_add_conditional(vast_file *file, vast_loop generate, vast_expression condition,
+static inline int32_t vast_generate_add_conditional(vast_file *file, vast_loop generate,
+                                                    vast_expression condition,
                                                     vast_conditional *made)
 {
     vast_line_begin(file, "GenerateAddConditional");
@@ -1060,7 +1121,8 @@ static inline int32_t vast_generate_add_blank_line(vast_file *file, vast_loop ge
 }
 
 /* The comment, as the loop's last member. */
-static inline int32_t vast_generate_add_comment(vast_file *file, vast_loop generate, vast_comment comment)
+static inline int32_t vast_generate_add_comment(vast_file *file, vast_loop generate,
+                                                vast_comment comment)
 {
     vast_line_begin(file, "GenerateAddComment");
     vast_line_handle(file, generate.id);
@@ -1102,8 +1164,8 @@ static inline int32_t vast_generate_add_macro_statement(vast_file *file, vast_lo
 
 /* A function without inputs and locals and with an empty body, as the module's last member.
  * VAST_REFUSED where the result is an unpacked array, or the module has the name. */
-static inline int32_t vast_add_function(vast_file *file, vast_module owner, vast_string name, vast_type result_type,
-                                        vast_function *made)
+static inline int32_t vast_add_function(vast_file *file, vast_module owner, vast_string name,
+                                        vast_type result_type, vast_function *made)
 {
     vast_line_begin(file, "AddFunction");
     vast_line_handle(file, owner.id);
@@ -1114,8 +1176,9 @@ static inline int32_t vast_add_function(vast_file *file, vast_module owner, vast
 
 /* An input of this type with the kind word `reg`, as the function's last.
  * VAST_REFUSED where the function has the name. */
-static inline int32_t vast_function_add_input(vast_file *file, vast_function function, vast_string name,
-                                              vast_type data_type, vast_signal *made)
+static inline int32_t vast_function_add_input(vast_file *file, vast_function function,
+                                              vast_string name, vast_type data_type,
+                                              vast_signal *made)
 {
     vast_line_begin(file, "FunctionAddInput");
     vast_line_handle(file, function.id);
@@ -1126,8 +1189,9 @@ static inline int32_t vast_function_add_input(vast_file *file, vast_function fun
 
 /* An input of this type with the kind word `logic`, as the function's last.
  * VAST_REFUSED where the function has the name. */
-static inline int32_t vast_function_add_logic_input(vast_file *file, vast_function function, vast_string name,
-                                                    vast_type data_type, vast_signal *made)
+static inline int32_t vast_function_add_logic_input(vast_file *file, vast_function function,
+                                                    vast_string name, vast_type data_type,
+                                                    vast_signal *made)
 {
     vast_line_begin(file, "FunctionAddLogicInput");
     vast_line_handle(file, function.id);
@@ -1138,8 +1202,9 @@ static inline int32_t vast_function_add_logic_input(vast_file *file, vast_functi
 
 /* A reg, as the function's last local; returns its name as an expression.
  * VAST_REFUSED where the function has the name. */
-static inline int32_t vast_function_add_reg(vast_file *file, vast_function function, vast_string name,
-                                            vast_type data_type, vast_signal *made)
+static inline int32_t vast_function_add_reg(vast_file *file, vast_function function,
+                                            vast_string name, vast_type data_type,
+                                            vast_signal *made)
 {
     vast_line_begin(file, "FunctionAddReg");
     vast_line_handle(file, function.id);
@@ -1150,8 +1215,9 @@ static inline int32_t vast_function_add_reg(vast_file *file, vast_function funct
 
 /* A logic, as the function's last local; returns its name as an expression.
  * VAST_REFUSED where the function has the name. */
-static inline int32_t vast_function_add_logic(vast_file *file, vast_function function, vast_string name,
-                                              vast_type data_type, vast_signal *made)
+static inline int32_t vast_function_add_logic(vast_file *file, vast_function function,
+                                              vast_string name, vast_type data_type,
+                                              vast_signal *made)
 {
     vast_line_begin(file, "FunctionAddLogic");
     vast_line_handle(file, function.id);
@@ -1168,8 +1234,10 @@ static inline int32_t vast_function_body(vast_file *file, vast_function function
     return vast_line_make(file, made == NULL ? NULL : &made->id);
 }
 
-/* The name to which the body assigns the function's result, as an expression, which is the file's. */
-static inline int32_t vast_function_result(vast_file *file, vast_function function, vast_signal *made)
+/* The name to which the body assigns the function's result, as an expression, which is the
+ * file's. */
+static inline int32_t vast_function_result(vast_file *file, vast_function function,
+                                           vast_signal *made)
 {
     vast_line_begin(file, "FunctionResult");
     vast_line_handle(file, function.id);
@@ -1179,7 +1247,8 @@ static inline int32_t vast_function_result(vast_file *file, vast_function functi
 /* An `always_ff` with these events and an empty block, as the module's last member.
  * `sensitivity_list`: edges, or names.
  * VAST_REFUSED where an event is neither an edge nor a name. */
-static inline int32_t vast_add_always_ff(vast_file *file, vast_module owner, const vast_expression *sensitivity_list,
+static inline int32_t vast_add_always_ff(vast_file *file, vast_module owner,
+                                         const vast_expression *sensitivity_list,
                                          size_t sensitivity_list_count, vast_always *made)
 {
     vast_line_begin(file, "AddAlwaysFf");
@@ -1191,7 +1260,8 @@ static inline int32_t vast_add_always_ff(vast_file *file, vast_module owner, con
 /* An `always @` with these events and an empty block, as the module's last member.
  * `sensitivity_list`: edges, or names.
  * VAST_REFUSED where an event is neither an edge nor a name. */
-static inline int32_t vast_add_always_at(vast_file *file, vast_module owner, const vast_expression *sensitivity_list,
+static inline int32_t vast_add_always_at(vast_file *file, vast_module owner,
+                                         const vast_expression *sensitivity_list,
                                          size_t sensitivity_list_count, vast_always *made)
 {
     vast_line_begin(file, "AddAlwaysAt");
@@ -1217,8 +1287,9 @@ static inline int32_t vast_statement_block(vast_file *file, vast_always always, 
 }
 
 /* The assignment `lhs = rhs`, as the block's last statement. */
-static inline int32_t vast_block_add_blocking_assignment(vast_file *file, vast_block block, vast_expression lhs,
-                                                         vast_expression rhs, vast_statement *made)
+static inline int32_t vast_block_add_blocking_assignment(vast_file *file, vast_block block,
+                                                         vast_expression lhs, vast_expression rhs,
+                                                         vast_statement *made)
 {
     vast_line_begin(file, "BlockAddBlockingAssignment");
     vast_line_handle(file, block.id);
@@ -1228,8 +1299,10 @@ static inline int32_t vast_block_add_blocking_assignment(vast_file *file, vast_b
 }
 
 /* The assignment `lhs <= rhs`, as the block's last statement. */
-static inline int32_t vast_block_add_nonblocking_assignment(vast_file *file, vast_block block, vast_expression lhs,
-                                                            vast_expression rhs, vast_statement *made)
+static inline int32_t vast_block_add_nonblocking_assignment(vast_file *file, vast_block block,
+                                                            vast_expression lhs,
+                                                            vast_expression rhs,
+                                                            vast_statement *made)
 {
     vast_line_begin(file, "BlockAddNonblockingAssignment");
     vast_line_handle(file, block.id);
@@ -1239,8 +1312,9 @@ static inline int32_t vast_block_add_nonblocking_assignment(vast_file *file, vas
 }
 
 /* The assignment `assign lhs = rhs`, as the block's last statement. */
-static inline int32_t vast_block_add_continuous_assignment(vast_file *file, vast_block block, vast_expression lhs,
-                                                           vast_expression rhs, vast_statement *made)
+static inline int32_t vast_block_add_continuous_assignment(vast_file *file, vast_block block,
+                                                           vast_expression lhs, vast_expression rhs,
+                                                           vast_statement *made)
 {
     vast_line_begin(file, "BlockAddContinuousAssignment");
     vast_line_handle(file, block.id);
@@ -1250,7 +1324,8 @@ static inline int32_t vast_block_add_continuous_assignment(vast_file *file, vast
 }
 
 /* A comment, as the block's last statement. */
-static inline int32_t vast_block_add_comment_text(vast_file *file, vast_block block, vast_string text)
+static inline int32_t vast_block_add_comment_text(vast_file *file, vast_block block,
+                                                  vast_string text)
 {
     vast_line_begin(file, "BlockAddCommentText");
     vast_line_handle(file, block.id);
@@ -1259,7 +1334,8 @@ static inline int32_t vast_block_add_comment_text(vast_file *file, vast_block bl
 }
 
 /* A text that is written as it is, as the block's last statement. */
-static inline int32_t vast_block_add_inline_text(vast_file *file, vast_block block, vast_string text)
+static inline int32_t vast_block_add_inline_text(vast_file *file, vast_block block,
+                                                 vast_string text)
 {
     vast_line_begin(file, "BlockAddInlineText");
     vast_line_handle(file, block.id);
@@ -1276,8 +1352,8 @@ static inline int32_t vast_block_add_blank_line(vast_file *file, vast_block bloc
 }
 
 /* A conditional with an empty block, as the module's last member. */
-static inline int32_t vast_add_conditional(vast_file *file, vast_module owner, vast_expression condition,
-                                           vast_conditional *made)
+static inline int32_t vast_add_conditional(vast_file *file, vast_module owner,
+                                           vast_expression condition, vast_conditional *made)
 {
     vast_line_begin(file, "AddConditional");
     vast_line_handle(file, owner.id);
@@ -1286,8 +1362,8 @@ static inline int32_t vast_add_conditional(vast_file *file, vast_module owner, v
 }
 
 /* A conditional with an empty block, as the block's last statement. */
-static inline int32_t vast_block_add_cond(vast_file *file, vast_block block, vast_expression condition,
-                                          vast_conditional *made)
+static inline int32_t vast_block_add_cond(vast_file *file, vast_block block,
+                                          vast_expression condition, vast_conditional *made)
 {
     vast_line_begin(file, "BlockAddCond");
     vast_line_handle(file, block.id);
@@ -1296,7 +1372,8 @@ static inline int32_t vast_block_add_cond(vast_file *file, vast_block block, vas
 }
 
 /* The block of the conditional's first arm, which is the file's. */
-static inline int32_t vast_conditional_then_block(vast_file *file, vast_conditional conditional, vast_block *made)
+static inline int32_t vast_conditional_then_block(vast_file *file, vast_conditional conditional,
+                                                  vast_block *made)
 {
     vast_line_begin(file, "ConditionalThenBlock");
     vast_line_handle(file, conditional.id);
@@ -1316,7 +1393,8 @@ static inline int32_t vast_conditional_add_else_if(vast_file *file, vast_conditi
 
 /* The conditional's `else` with an empty block; returns the block.
  * VAST_CONDITION unless: not `vast_conditional_has_else`. */
-static inline int32_t vast_conditional_add_else(vast_file *file, vast_conditional conditional, vast_block *made)
+static inline int32_t vast_conditional_add_else(vast_file *file, vast_conditional conditional,
+                                                vast_block *made)
 {
     vast_line_begin(file, "ConditionalAddElse");
     vast_line_handle(file, conditional.id);
@@ -1324,7 +1402,8 @@ static inline int32_t vast_conditional_add_else(vast_file *file, vast_conditiona
 }
 
 /* A `case` statement without arms, as the block's last statement. */
-static inline int32_t vast_block_add_case(vast_file *file, vast_block block, vast_expression selector, vast_case *made)
+static inline int32_t vast_block_add_case(vast_file *file, vast_block block,
+                                          vast_expression selector, vast_case *made)
 {
     vast_line_begin(file, "BlockAddCase");
     vast_line_handle(file, block.id);
@@ -1333,7 +1412,8 @@ static inline int32_t vast_block_add_case(vast_file *file, vast_block block, vas
 }
 
 /* A `casez` statement without arms, as the block's last statement. */
-static inline int32_t vast_block_add_casez(vast_file *file, vast_block block, vast_expression selector, vast_case *made)
+static inline int32_t vast_block_add_casez(vast_file *file, vast_block block,
+                                           vast_expression selector, vast_case *made)
 {
     vast_line_begin(file, "BlockAddCasez");
     vast_line_handle(file, block.id);
@@ -1342,7 +1422,8 @@ static inline int32_t vast_block_add_casez(vast_file *file, vast_block block, va
 }
 
 /* A `casex` statement without arms, as the block's last statement. */
-static inline int32_t vast_block_add_casex(vast_file *file, vast_block block, vast_expression selector, vast_case *made)
+static inline int32_t vast_block_add_casex(vast_file *file, vast_block block,
+                                           vast_expression selector, vast_case *made)
 {
     vast_line_begin(file, "BlockAddCasex");
     vast_line_handle(file, block.id);
@@ -1351,8 +1432,8 @@ static inline int32_t vast_block_add_casex(vast_file *file, vast_block block, va
 }
 
 /* An arm with this label and an empty block, as the case statement's last. */
-static inline int32_t vast_case_add_item(vast_file *file, vast_case case_statement, vast_expression pattern,
-                                         vast_block *made)
+static inline int32_t vast_case_add_item(vast_file *file, vast_case case_statement,
+                                         vast_expression pattern, vast_block *made)
 {
     vast_line_begin(file, "CaseAddItem");
     vast_line_handle(file, case_statement.id);
@@ -1361,7 +1442,8 @@ static inline int32_t vast_case_add_item(vast_file *file, vast_case case_stateme
 }
 
 /* A `default` arm with an empty block, as the case statement's last. */
-static inline int32_t vast_case_add_default(vast_file *file, vast_case case_statement, vast_block *made)
+static inline int32_t vast_case_add_default(vast_file *file, vast_case case_statement,
+                                            vast_block *made)
 {
     vast_line_begin(file, "CaseAddDefault");
     vast_line_handle(file, case_statement.id);
@@ -1381,8 +1463,8 @@ static inline int32_t vast_case_set_unique(vast_file *file, vast_case case_state
 /* Artifacts */
 
 /* A declaration's kind, type and name, which parameters can be made with. */
-static inline int32_t vast_make_def(vast_file *file, vast_string name, vast_data_kind kind, vast_type data_type,
-                                    vast_definition *made)
+static inline int32_t vast_make_def(vast_file *file, vast_string name, vast_data_kind kind,
+                                    vast_type data_type, vast_definition *made)
 {
     vast_line_begin(file, "MakeDef");
     vast_line_text(file, name);
@@ -1407,7 +1489,8 @@ static inline int32_t vast_make_comment(vast_file *file, vast_string text, vast_
 }
 
 /* A text that is written as it is, with the depth of the place before each of its lines. */
-static inline int32_t vast_make_inline_verilog_statement(vast_file *file, vast_string text, vast_inline_statement *made)
+static inline int32_t vast_make_inline_verilog_statement(vast_file *file, vast_string text,
+                                                         vast_inline_statement *made)
 {
     vast_line_begin(file, "MakeInlineVerilogStatement");
     vast_line_text(file, text);
@@ -1415,8 +1498,8 @@ static inline int32_t vast_make_inline_verilog_statement(vast_file *file, vast_s
 }
 
 /* The use of a macro as a member, with a semicolon or without. */
-static inline int32_t vast_make_macro_statement(vast_file *file, vast_macro macro_ref, bool semicolon,
-                                                vast_macro_statement *made)
+static inline int32_t vast_make_macro_statement(vast_file *file, vast_macro macro_ref,
+                                                bool semicolon, vast_macro_statement *made)
 {
     vast_line_begin(file, "MakeMacroStatement");
     vast_line_handle(file, macro_ref.id);
@@ -1425,8 +1508,8 @@ static inline int32_t vast_make_macro_statement(vast_file *file, vast_macro macr
 }
 
 /* The assignment `assign lhs = rhs`. */
-static inline int32_t vast_make_continuous_assignment(vast_file *file, vast_expression lhs, vast_expression rhs,
-                                                      vast_assignment *made)
+static inline int32_t vast_make_continuous_assignment(vast_file *file, vast_expression lhs,
+                                                      vast_expression rhs, vast_assignment *made)
 {
     vast_line_begin(file, "MakeContinuousAssignment");
     vast_line_handle(file, lhs.id);
@@ -1435,8 +1518,8 @@ static inline int32_t vast_make_continuous_assignment(vast_file *file, vast_expr
 }
 
 /* The procedural assignment `lhs <= rhs`. */
-static inline int32_t vast_make_nonblocking_assignment(vast_file *file, vast_expression lhs, vast_expression rhs,
-                                                       vast_statement *made)
+static inline int32_t vast_make_nonblocking_assignment(vast_file *file, vast_expression lhs,
+                                                       vast_expression rhs, vast_statement *made)
 {
     vast_line_begin(file, "MakeNonblockingAssignment");
     vast_line_handle(file, lhs.id);
@@ -1445,8 +1528,8 @@ static inline int32_t vast_make_nonblocking_assignment(vast_file *file, vast_exp
 }
 
 /* The procedural assignment `lhs = rhs`. */
-static inline int32_t vast_make_blocking_assignment(vast_file *file, vast_expression lhs, vast_expression rhs,
-                                                    vast_statement *made)
+static inline int32_t vast_make_blocking_assignment(vast_file *file, vast_expression lhs,
+                                                    vast_expression rhs, vast_statement *made)
 {
     vast_line_begin(file, "MakeBlockingAssignment");
     vast_line_handle(file, lhs.id);
@@ -1454,17 +1537,21 @@ static inline int32_t vast_make_blocking_assignment(vast_file *file, vast_expres
     return vast_line_make(file, made == NULL ? NULL : &made->id);
 }
 
-/* An instance of a module, with an expression for each named parameter, and for each named port an expression or
- * none, which leaves it open.
+/* An instance of a module, with an expression for each named parameter, and for each named port
+ * an expression or none, which leaves it open.
  * `connection_expressions`: `NULL` leaves the port open.
  * VAST_CONDITION unless: as many parameters as their names, as many connections as their names. */
-static inline int32_t vast_make_instantiation(vast_file *file, vast_string module_name, vast_string instance_name,
-                                              const vast_string *parameter_names, size_t parameter_names_count,
+static inline int32_t vast_make_instantiation(vast_file *file, vast_string module_name,
+                                              vast_string instance_name,
+                                              const vast_string *parameter_names,
+                                              size_t parameter_names_count,
                                               const vast_expression *parameter_expressions,
-                                              size_t parameter_expressions_count, const vast_string *connection_names,
+                                              size_t parameter_expressions_count,
+                                              const vast_string *connection_names,
                                               size_t connection_names_count,
                                               const vast_expression *const *connection_expressions,
-                                              size_t connection_expressions_count, vast_instantiation *made)
+                                              size_t connection_expressions_count,
+                                              vast_instantiation *made)
 {
     vast_line_begin(file, "MakeInstantiation");
     vast_line_text(file, module_name);
@@ -1497,7 +1584,8 @@ static inline int32_t vast_add_member_continuous_assignment(vast_file *file, vas
 }
 
 /* A blank line, as the module's last member. */
-static inline int32_t vast_add_member_blank_line(vast_file *file, vast_module owner, vast_blank_line blank)
+static inline int32_t vast_add_member_blank_line(vast_file *file, vast_module owner,
+                                                 vast_blank_line blank)
 {
     vast_line_begin(file, "AddMemberBlankLine");
     vast_line_handle(file, owner.id);
@@ -1506,7 +1594,8 @@ static inline int32_t vast_add_member_blank_line(vast_file *file, vast_module ow
 }
 
 /* The comment, as the module's last member. */
-static inline int32_t vast_add_member_comment(vast_file *file, vast_module owner, vast_comment comment)
+static inline int32_t vast_add_member_comment(vast_file *file, vast_module owner,
+                                              vast_comment comment)
 {
     vast_line_begin(file, "AddMemberComment");
     vast_line_handle(file, owner.id);
@@ -1537,7 +1626,8 @@ static inline int32_t vast_add_member_macro_statement(vast_file *file, vast_modu
 /* Questions */
 
 /* Whether it has its `else`. */
-static inline int32_t vast_conditional_has_else(vast_file *file, vast_conditional conditional, bool *answer)
+static inline int32_t vast_conditional_has_else(vast_file *file, vast_conditional conditional,
+                                                bool *answer)
 {
     vast_line_begin(file, "?ConditionalHasElse");
     vast_line_handle(file, conditional.id);
@@ -1553,7 +1643,8 @@ static inline int32_t vast_emit_expression(vast_file *file, vast_expression e, v
     return vast_ask_text(file, answer);
 }
 
-/* Whether each printed name is an identifier, no edge stands in an expression, and no text is inline. */
+/* Whether each printed name is an identifier, no edge stands in an expression, and no text is
+ * inline. */
 static inline int32_t vast_file_is_plain(vast_file *file, bool *answer)
 {
     vast_line_begin(file, "?FileIsPlain");
@@ -1561,7 +1652,8 @@ static inline int32_t vast_file_is_plain(vast_file *file, bool *answer)
 }
 
 /* Whether the word is a keyword of Verilog or SystemVerilog. */
-static inline int32_t vast_is_system_verilog_keyword(vast_file *file, vast_string identifier, bool *answer)
+static inline int32_t vast_is_system_verilog_keyword(vast_file *file, vast_string identifier,
+                                                     bool *answer)
 {
     vast_line_begin(file, "?IsSystemVerilogKeyword");
     vast_line_text(file, identifier);
@@ -1569,7 +1661,8 @@ static inline int32_t vast_is_system_verilog_keyword(vast_file *file, vast_strin
 }
 
 /* The name that the expression is. */
-static inline int32_t vast_logic_ref_name(vast_file *file, vast_signal logic_ref, vast_string *answer)
+static inline int32_t vast_logic_ref_name(vast_file *file, vast_signal logic_ref,
+                                          vast_string *answer)
 {
     vast_line_begin(file, "?LogicRefName");
     vast_line_handle(file, logic_ref.id);
@@ -1577,7 +1670,8 @@ static inline int32_t vast_logic_ref_name(vast_file *file, vast_signal logic_ref
 }
 
 /* The module's inputs, in order. */
-static inline int32_t vast_module_input_ports(vast_file *file, vast_module owner, vast_ports *answer)
+static inline int32_t vast_module_input_ports(vast_file *file, vast_module owner,
+                                              vast_ports *answer)
 {
     vast_line_begin(file, "?ModuleInputPorts");
     vast_line_handle(file, owner.id);
@@ -1601,7 +1695,8 @@ static inline int32_t vast_module_name(vast_file *file, vast_module owner, vast_
 }
 
 /* The module's outputs, in order. */
-static inline int32_t vast_module_output_ports(vast_file *file, vast_module owner, vast_ports *answer)
+static inline int32_t vast_module_output_ports(vast_file *file, vast_module owner,
+                                               vast_ports *answer)
 {
     vast_line_begin(file, "?ModuleOutputPorts");
     vast_line_handle(file, owner.id);
@@ -1617,7 +1712,8 @@ static inline int32_t vast_module_ports(vast_file *file, vast_module owner, vast
 }
 
 /* Whether no port, wire, reg, logic or function of the module has the name. */
-static inline int32_t vast_name_is_free(vast_file *file, vast_module owner, vast_string name, bool *answer)
+static inline int32_t vast_name_is_free(vast_file *file, vast_module owner, vast_string name,
+                                        bool *answer)
 {
     vast_line_begin(file, "?NameIsFree");
     vast_line_handle(file, owner.id);
@@ -1643,7 +1739,8 @@ static inline int32_t vast_type_can_be_packed(vast_file *file, vast_type data_ty
 
 /* The bits of the type within the arrays times all dimensions.
  * VAST_REFUSED where they aren't known, or are 2^63 or more. */
-static inline int32_t vast_type_flat_bit_count_as_int64(vast_file *file, vast_type data_type, int64_t *answer)
+static inline int32_t vast_type_flat_bit_count_as_int64(vast_file *file, vast_type data_type,
+                                                        int64_t *answer)
 {
     vast_line_begin(file, "?TypeFlatBitCountAsInt64");
     vast_line_handle(file, data_type.id);
@@ -1660,7 +1757,8 @@ static inline int32_t vast_type_is_signed(vast_file *file, vast_type data_type, 
 
 /* The width, in bits, that the type within the arrays declares.
  * VAST_REFUSED where it declares none, or none that is a number. */
-static inline int32_t vast_type_width_as_int64(vast_file *file, vast_type data_type, int64_t *answer)
+static inline int32_t vast_type_width_as_int64(vast_file *file, vast_type data_type,
+                                               int64_t *answer)
 {
     vast_line_begin(file, "?TypeWidthAsInt64");
     vast_line_handle(file, data_type.id);
@@ -1668,7 +1766,8 @@ static inline int32_t vast_type_width_as_int64(vast_file *file, vast_type data_t
 }
 
 /* The width of the vector within the arrays; `NULL` where no vector is within. */
-static inline int32_t vast_type_width_expr(vast_file *file, vast_type data_type, vast_string *answer)
+static inline int32_t vast_type_width_expr(vast_file *file, vast_type data_type,
+                                           vast_string *answer)
 {
     vast_line_begin(file, "?TypeWidthExpr");
     vast_line_handle(file, data_type.id);
@@ -1687,9 +1786,10 @@ static inline int32_t vast_width_is_usable(vast_file *file, vast_expression widt
 
 /* One `always_ff` at the rising edge of the clock, as the last member of the scope.
  * VAST_REFUSED where a register has a value at reset and there is no reset. */
-static inline int32_t vast_add_registers(vast_file *file, vast_expression clk, const vast_reset *reset,
-                                         const vast_register_definition *registers, size_t registers_count,
-                                         vast_scope scope)
+static inline int32_t vast_add_registers(vast_file *file, vast_expression clk,
+                                         const vast_reset *reset,
+                                         const vast_register_definition *registers,
+                                         size_t registers_count, vast_scope scope)
 {
     vast_line_begin(file, "!AddRegisters");
     vast_line_handle(file, clk.id);
@@ -1700,20 +1800,21 @@ static inline int32_t vast_add_registers(vast_file *file, vast_expression clk, c
 }
 
 /* The values joined by `|`, as `a | b | c`, and `'0` where there are none. */
-static inline int32_t vast_bitwise_or_reduce(vast_file *file, const vast_expression *values, size_t values_count,
-                                             vast_expression *made)
+static inline int32_t vast_bitwise_or_reduce(vast_file *file, const vast_expression *values,
+                                             size_t values_count, vast_expression *made)
 {
     vast_line_begin(file, "!BitwiseOrReduce");
     vast_line_expressions(file, values, values_count);
     return vast_line_make(file, made == NULL ? NULL : &made->id);
 }
 
-/* All elements of a packed array of these dimensions joined by `|`, those of its first slot first, as `a[0][0] |
- * a[0][1] | a[1][0] | a[1][1]`.
+/* All elements of a packed array of these dimensions joined by `|`, those of its first slot
+ * first, as `a[0][0] | a[0][1] | a[1][0] | a[1][1]`.
  * `dimensions`: numbers of elements, the outermost dimension first.
  * VAST_REFUSED where there is no dimension, one is 0, or they aren't the value's. */
 static inline int32_t vast_bitwise_or_reduce_array_elements(vast_file *file, vast_indexable value,
-                                                            const int64_t *dimensions, size_t dimensions_count,
+                                                            const int64_t *dimensions,
+                                                            size_t dimensions_count,
                                                             vast_expression *made)
 {
     vast_line_begin(file, "!BitwiseOrReduceArrayElements");
@@ -1723,8 +1824,9 @@ static inline int32_t vast_bitwise_or_reduce_array_elements(vast_file *file, vas
 }
 
 /* The values joined by `&&`, as `a && b && c`, and `1'h1` where there are none. */
-static inline int32_t vast_logical_and_reduce(vast_file *file, const vast_expression *values, size_t values_count,
-                                              bool invert, vast_expression *made)
+static inline int32_t vast_logical_and_reduce(vast_file *file, const vast_expression *values,
+                                              size_t values_count, bool invert,
+                                              vast_expression *made)
 {
     vast_line_begin(file, "!LogicalAndReduce");
     vast_line_expressions(file, values, values_count);
@@ -1733,8 +1835,9 @@ static inline int32_t vast_logical_and_reduce(vast_file *file, const vast_expres
 }
 
 /* The values joined by `||`, as `a || b || c`, and `1'h0` where there are none. */
-static inline int32_t vast_logical_or_reduce(vast_file *file, const vast_expression *values, size_t values_count,
-                                             bool invert, vast_expression *made)
+static inline int32_t vast_logical_or_reduce(vast_file *file, const vast_expression *values,
+                                             size_t values_count, bool invert,
+                                             vast_expression *made)
 {
     vast_line_begin(file, "!LogicalOrReduce");
     vast_line_expressions(file, values, values_count);

@@ -1,4 +1,5 @@
-/* Handles, each kind a type of its own, the enums and the groups of calls. Programs include vast_calls.h.
+/* Handles, each kind a type of its own, the enums and the groups of calls. They come with
+ * vast_calls.h.
  *
  * Written by tools/bindings_from_calls from the table of calls; not to be edited.
  */
@@ -12,49 +13,51 @@
 #include <stdint.h>
 #include <string.h>
 
-/* A text of UTF-8 of so many bytes, which needs no NUL after it and may hold some. No text, where there may be none, has
- * NULL for its bytes. */
+/* A text of UTF-8 of so many bytes, which needs no NUL after it and may hold some. Where there may
+ * be none, none has NULL for its bytes. */
 typedef struct {
     const char *bytes;
     size_t length;
 } vast_string;
 
-/* The text that ends before a NUL, as a literal's; of NULL no text. */
+/* The text that ends before a NUL, as that of a literal; of NULL no text. */
 static inline vast_string vast_str(const char *string)
 {
     vast_string text = {string, string == NULL ? 0 : strlen(string)};
     return text;
 }
 
-/* Which file's handle it is, and its number. */
+/* Whose handle it is, and its number. */
 typedef struct {
     uintptr_t file;
     size_t step;
 } vast_handle;
 
 /* What a definition declares. */
-typedef enum { VAST_DATA_KIND_REG, VAST_DATA_KIND_WIRE, VAST_DATA_KIND_LOGIC, VAST_DATA_KIND_INTEGER,
-               VAST_DATA_KIND_INT, VAST_DATA_KIND_USER, VAST_DATA_KIND_UNTYPED_ENUM,
-               VAST_DATA_KIND_GENVAR } vast_data_kind;
+typedef enum { VAST_DATA_KIND_REG, VAST_DATA_KIND_WIRE, VAST_DATA_KIND_LOGIC,
+               VAST_DATA_KIND_INTEGER, VAST_DATA_KIND_INT, VAST_DATA_KIND_USER,
+               VAST_DATA_KIND_UNTYPED_ENUM, VAST_DATA_KIND_GENVAR } vast_data_kind;
 
 /* The word of a variant in lists of calls; NULL where it is none. */
 static inline const char *vast_data_kind_word(vast_data_kind variant)
 {
-    static const char *const words[] = {"Reg", "Wire", "Logic", "Integer", "Int", "User", "UntypedEnum", "Genvar"};
+    static const char *const words[] = {"Reg", "Wire", "Logic", "Integer", "Int", "User",
+                                        "UntypedEnum", "Genvar"};
     size_t place = (size_t)variant;
     return place < sizeof words / sizeof words[0] ? words[place] : NULL;
 }
 
 /* How a literal is written. */
-typedef enum { VAST_LITERAL_FORMAT_BINARY, VAST_LITERAL_FORMAT_HEX, VAST_LITERAL_FORMAT_SIGNED_DECIMAL,
-               VAST_LITERAL_FORMAT_UNSIGNED_DECIMAL, VAST_LITERAL_FORMAT_UNSIZED_BINARY,
-               VAST_LITERAL_FORMAT_UNSIZED_DECIMAL, VAST_LITERAL_FORMAT_UNSIZED_HEX } vast_literal_format;
+typedef enum { VAST_LITERAL_FORMAT_BINARY, VAST_LITERAL_FORMAT_HEX,
+               VAST_LITERAL_FORMAT_SIGNED_DECIMAL, VAST_LITERAL_FORMAT_UNSIGNED_DECIMAL,
+               VAST_LITERAL_FORMAT_UNSIZED_BINARY, VAST_LITERAL_FORMAT_UNSIZED_DECIMAL,
+               VAST_LITERAL_FORMAT_UNSIZED_HEX } vast_literal_format;
 
 /* The word of a variant in lists of calls; NULL where it is none. */
 static inline const char *vast_literal_format_word(vast_literal_format variant)
 {
-    static const char *const words[] = {"Binary", "Hex", "SignedDecimal", "UnsignedDecimal", "UnsizedBinary",
-                                        "UnsizedDecimal", "UnsizedHex"};
+    static const char *const words[] = {"Binary", "Hex", "SignedDecimal", "UnsignedDecimal",
+                                        "UnsizedBinary", "UnsizedDecimal", "UnsizedHex"};
     size_t place = (size_t)variant;
     return place < sizeof words / sizeof words[0] ? words[place] : NULL;
 }
@@ -155,7 +158,8 @@ typedef struct {
     vast_string reference;
 } vast_port;
 
-/* A register of `vast_add_registers`, with its value at reset, and when it changes. What it has not is NULL. */
+/* A register of `vast_add_registers`, with its value at reset, and when it changes. What it has
+ * not is NULL. */
 typedef struct {
     vast_expression reg;
     vast_expression next;
@@ -170,24 +174,93 @@ typedef struct {
 } vast_reset;
 
 /* Handles that stand for an expression, as one; `vast_expression_of` takes each of them. */
-static inline vast_expression vast_expression_itself(vast_expression given) { return given; }
-static inline vast_expression vast_signal_expression(vast_signal given) { vast_expression same = {given.id}; return same; }
-static inline vast_expression vast_indexable_expression(vast_indexable given) { vast_expression same = {given.id}; return same; }
-static inline vast_expression vast_slice_expression(vast_slice given) { vast_expression same = {given.id}; return same; }
-static inline vast_expression vast_index_expression(vast_index given) { vast_expression same = {given.id}; return same; }
-static inline vast_expression vast_macro_expression(vast_macro given) { vast_expression same = {given.id}; return same; }
-static inline vast_expression vast_parameter_expression(vast_parameter given) { vast_expression same = {given.id}; return same; }
-static inline vast_expression vast_localparam_expression(vast_localparam given) { vast_expression same = {given.id}; return same; }
+static inline vast_expression vast_expression_itself(vast_expression given)
+{
+    return given;
+}
+
+static inline vast_expression vast_signal_expression(vast_signal given)
+{
+    vast_expression same = {given.id};
+    return same;
+}
+
+static inline vast_expression vast_indexable_expression(vast_indexable given)
+{
+    vast_expression same = {given.id};
+    return same;
+}
+
+static inline vast_expression vast_slice_expression(vast_slice given)
+{
+    vast_expression same = {given.id};
+    return same;
+}
+
+static inline vast_expression vast_index_expression(vast_index given)
+{
+    vast_expression same = {given.id};
+    return same;
+}
+
+static inline vast_expression vast_macro_expression(vast_macro given)
+{
+    vast_expression same = {given.id};
+    return same;
+}
+
+static inline vast_expression vast_parameter_expression(vast_parameter given)
+{
+    vast_expression same = {given.id};
+    return same;
+}
+
+static inline vast_expression vast_localparam_expression(vast_localparam given)
+{
+    vast_expression same = {given.id};
+    return same;
+}
 
 #ifdef __cplusplus
-static inline vast_expression vast_expression_of(vast_expression given) { return vast_expression_itself(given); }
-static inline vast_expression vast_expression_of(vast_signal given) { return vast_signal_expression(given); }
-static inline vast_expression vast_expression_of(vast_indexable given) { return vast_indexable_expression(given); }
-static inline vast_expression vast_expression_of(vast_slice given) { return vast_slice_expression(given); }
-static inline vast_expression vast_expression_of(vast_index given) { return vast_index_expression(given); }
-static inline vast_expression vast_expression_of(vast_macro given) { return vast_macro_expression(given); }
-static inline vast_expression vast_expression_of(vast_parameter given) { return vast_parameter_expression(given); }
-static inline vast_expression vast_expression_of(vast_localparam given) { return vast_localparam_expression(given); }
+static inline vast_expression vast_expression_of(vast_expression given)
+{
+    return vast_expression_itself(given);
+}
+
+static inline vast_expression vast_expression_of(vast_signal given)
+{
+    return vast_signal_expression(given);
+}
+
+static inline vast_expression vast_expression_of(vast_indexable given)
+{
+    return vast_indexable_expression(given);
+}
+
+static inline vast_expression vast_expression_of(vast_slice given)
+{
+    return vast_slice_expression(given);
+}
+
+static inline vast_expression vast_expression_of(vast_index given)
+{
+    return vast_index_expression(given);
+}
+
+static inline vast_expression vast_expression_of(vast_macro given)
+{
+    return vast_macro_expression(given);
+}
+
+static inline vast_expression vast_expression_of(vast_parameter given)
+{
+    return vast_parameter_expression(given);
+}
+
+static inline vast_expression vast_expression_of(vast_localparam given)
+{
+    return vast_localparam_expression(given);
+}
 #else
 #define vast_expression_of(given) \
     _Generic((given), \
@@ -202,16 +275,49 @@ static inline vast_expression vast_expression_of(vast_localparam given) { return
 #endif
 
 /* Handles that stand for an indexable, as one; `vast_indexable_of` takes each of them. */
-static inline vast_indexable vast_indexable_itself(vast_indexable given) { return given; }
-static inline vast_indexable vast_signal_indexable(vast_signal given) { vast_indexable same = {given.id}; return same; }
-static inline vast_indexable vast_index_indexable(vast_index given) { vast_indexable same = {given.id}; return same; }
-static inline vast_indexable vast_parameter_indexable(vast_parameter given) { vast_indexable same = {given.id}; return same; }
+static inline vast_indexable vast_indexable_itself(vast_indexable given)
+{
+    return given;
+}
+
+static inline vast_indexable vast_signal_indexable(vast_signal given)
+{
+    vast_indexable same = {given.id};
+    return same;
+}
+
+static inline vast_indexable vast_index_indexable(vast_index given)
+{
+    vast_indexable same = {given.id};
+    return same;
+}
+
+static inline vast_indexable vast_parameter_indexable(vast_parameter given)
+{
+    vast_indexable same = {given.id};
+    return same;
+}
 
 #ifdef __cplusplus
-static inline vast_indexable vast_indexable_of(vast_indexable given) { return vast_indexable_itself(given); }
-static inline vast_indexable vast_indexable_of(vast_signal given) { return vast_signal_indexable(given); }
-static inline vast_indexable vast_indexable_of(vast_index given) { return vast_index_indexable(given); }
-static inline vast_indexable vast_indexable_of(vast_parameter given) { return vast_parameter_indexable(given); }
+static inline vast_indexable vast_indexable_of(vast_indexable given)
+{
+    return vast_indexable_itself(given);
+}
+
+static inline vast_indexable vast_indexable_of(vast_signal given)
+{
+    return vast_signal_indexable(given);
+}
+
+static inline vast_indexable vast_indexable_of(vast_index given)
+{
+    return vast_index_indexable(given);
+}
+
+static inline vast_indexable vast_indexable_of(vast_parameter given)
+{
+    return vast_parameter_indexable(given);
+}
 #else
 #define vast_indexable_of(given) \
     _Generic((given), \
@@ -222,12 +328,28 @@ static inline vast_indexable vast_indexable_of(vast_parameter given) { return va
 #endif
 
 /* Handles that stand for a scope, as one; `vast_scope_of` takes each of them. */
-static inline vast_scope vast_module_scope(vast_module given) { vast_scope same = {given.id}; return same; }
-static inline vast_scope vast_loop_scope(vast_loop given) { vast_scope same = {given.id}; return same; }
+static inline vast_scope vast_module_scope(vast_module given)
+{
+    vast_scope same = {given.id};
+    return same;
+}
+
+static inline vast_scope vast_loop_scope(vast_loop given)
+{
+    vast_scope same = {given.id};
+    return same;
+}
 
 #ifdef __cplusplus
-static inline vast_scope vast_scope_of(vast_module given) { return vast_module_scope(given); }
-static inline vast_scope vast_scope_of(vast_loop given) { return vast_loop_scope(given); }
+static inline vast_scope vast_scope_of(vast_module given)
+{
+    return vast_module_scope(given);
+}
+
+static inline vast_scope vast_scope_of(vast_loop given)
+{
+    return vast_loop_scope(given);
+}
 #else
 #define vast_scope_of(given) \
     _Generic((given), \

@@ -1,12 +1,15 @@
-/* The calls of vast_calls.h by value: `v_make_add(&file, a, b)` is the sum, so that calls stand in calls.
+/* The calls of vast_calls.h by value: `v_make_add(&file, a, b)` is the sum, so calls stand in
+ * calls.
  *
- * `v_NAME` makes the call that `vast_NAME` makes and returns what it gives. The first call at fault leaves its status in
- * `file.fault`; from then on no call here is made, and each returns nothing: a handle of all zeros, an empty text, 0. So it
- * is enough to look at `file.fault` at the end, and `vast_file_message` tells what was wrong. Who goes on sets it to VAST_OK.
+ * `v_NAME` makes the call that `vast_NAME` makes, and returns what that makes or is asked for. The
+ * first call at fault leaves its status in `file.fault`; from then on no call here is made, and
+ * each returns nothing: a handle of all zeros, no text, 0. So it is enough to look at `file.fault`
+ * at the end, and `vast_file_message` then tells what was wrong. Who goes on sets it to VAST_OK.
  *
- * Texts end before a NUL. Where an expression, an `indexable` or a `scope` is wanted, each kind of handle that may stand for
- * one is taken, but for arrays, whose items are of the kind. In which order arguments are evaluated is not told, so a call that
- * adds something stands in a statement of its own.
+ * Texts end before a NUL. Where an expression, an indexable or a scope is wanted, each kind of
+ * handle that may stand for one is taken, but for lists, whose items are of the kind. C doesn't
+ * tell in which order arguments are evaluated, so a call that adds something stands in a statement
+ * of its own.
  *
  * Written by tools/bindings_from_calls from the table of calls; not to be edited.
  */
@@ -135,7 +138,8 @@ static inline vast_expression v_make_mod(vast_file *file, vast_expression lhs, v
 #define v_make_mod(file, lhs, rhs) \
     v_make_mod(file, vast_expression_of(lhs), vast_expression_of(rhs))
 
-static inline vast_expression v_make_power(vast_file *file, vast_expression lhs, vast_expression rhs)
+static inline vast_expression v_make_power(vast_file *file, vast_expression lhs,
+                                           vast_expression rhs)
 {
     vast_expression answer = {{0, 0}};
     if (file->fault == VAST_OK)
@@ -145,7 +149,8 @@ static inline vast_expression v_make_power(vast_file *file, vast_expression lhs,
 #define v_make_power(file, lhs, rhs) \
     v_make_power(file, vast_expression_of(lhs), vast_expression_of(rhs))
 
-static inline vast_expression v_make_bitwise_and(vast_file *file, vast_expression lhs, vast_expression rhs)
+static inline vast_expression v_make_bitwise_and(vast_file *file, vast_expression lhs,
+                                                 vast_expression rhs)
 {
     vast_expression answer = {{0, 0}};
     if (file->fault == VAST_OK)
@@ -155,7 +160,8 @@ static inline vast_expression v_make_bitwise_and(vast_file *file, vast_expressio
 #define v_make_bitwise_and(file, lhs, rhs) \
     v_make_bitwise_and(file, vast_expression_of(lhs), vast_expression_of(rhs))
 
-static inline vast_expression v_make_bitwise_or(vast_file *file, vast_expression lhs, vast_expression rhs)
+static inline vast_expression v_make_bitwise_or(vast_file *file, vast_expression lhs,
+                                                vast_expression rhs)
 {
     vast_expression answer = {{0, 0}};
     if (file->fault == VAST_OK)
@@ -165,7 +171,8 @@ static inline vast_expression v_make_bitwise_or(vast_file *file, vast_expression
 #define v_make_bitwise_or(file, lhs, rhs) \
     v_make_bitwise_or(file, vast_expression_of(lhs), vast_expression_of(rhs))
 
-static inline vast_expression v_make_bitwise_xor(vast_file *file, vast_expression lhs, vast_expression rhs)
+static inline vast_expression v_make_bitwise_xor(vast_file *file, vast_expression lhs,
+                                                 vast_expression rhs)
 {
     vast_expression answer = {{0, 0}};
     if (file->fault == VAST_OK)
@@ -215,7 +222,8 @@ static inline vast_expression v_make_ne(vast_file *file, vast_expression lhs, va
 #define v_make_ne(file, lhs, rhs) \
     v_make_ne(file, vast_expression_of(lhs), vast_expression_of(rhs))
 
-static inline vast_expression v_make_case_ne(vast_file *file, vast_expression lhs, vast_expression rhs)
+static inline vast_expression v_make_case_ne(vast_file *file, vast_expression lhs,
+                                             vast_expression rhs)
 {
     vast_expression answer = {{0, 0}};
     if (file->fault == VAST_OK)
@@ -235,7 +243,8 @@ static inline vast_expression v_make_eq(vast_file *file, vast_expression lhs, va
 #define v_make_eq(file, lhs, rhs) \
     v_make_eq(file, vast_expression_of(lhs), vast_expression_of(rhs))
 
-static inline vast_expression v_make_case_eq(vast_file *file, vast_expression lhs, vast_expression rhs)
+static inline vast_expression v_make_case_eq(vast_file *file, vast_expression lhs,
+                                             vast_expression rhs)
 {
     vast_expression answer = {{0, 0}};
     if (file->fault == VAST_OK)
@@ -285,7 +294,8 @@ static inline vast_expression v_make_lt(vast_file *file, vast_expression lhs, va
 #define v_make_lt(file, lhs, rhs) \
     v_make_lt(file, vast_expression_of(lhs), vast_expression_of(rhs))
 
-static inline vast_expression v_make_logical_and(vast_file *file, vast_expression lhs, vast_expression rhs)
+static inline vast_expression v_make_logical_and(vast_file *file, vast_expression lhs,
+                                                 vast_expression rhs)
 {
     vast_expression answer = {{0, 0}};
     if (file->fault == VAST_OK)
@@ -295,7 +305,8 @@ static inline vast_expression v_make_logical_and(vast_file *file, vast_expressio
 #define v_make_logical_and(file, lhs, rhs) \
     v_make_logical_and(file, vast_expression_of(lhs), vast_expression_of(rhs))
 
-static inline vast_expression v_make_logical_or(vast_file *file, vast_expression lhs, vast_expression rhs)
+static inline vast_expression v_make_logical_or(vast_file *file, vast_expression lhs,
+                                                vast_expression rhs)
 {
     vast_expression answer = {{0, 0}};
     if (file->fault == VAST_OK)
@@ -325,7 +336,8 @@ static inline vast_expression v_make_eq_x(vast_file *file, vast_expression lhs, 
 #define v_make_eq_x(file, lhs, rhs) \
     v_make_eq_x(file, vast_expression_of(lhs), vast_expression_of(rhs))
 
-static inline vast_expression v_make_literal(vast_file *file, const char *text, vast_literal_format format)
+static inline vast_expression v_make_literal(vast_file *file, const char *text,
+                                             vast_literal_format format)
 {
     vast_expression answer = {{0, 0}};
     if (file->fault == VAST_OK)
@@ -389,7 +401,8 @@ static inline vast_expression v_make_name(vast_file *file, const char *name)
     return answer;
 }
 
-static inline vast_indexable v_make_indexable_expression(vast_file *file, vast_expression expression)
+static inline vast_indexable v_make_indexable_expression(vast_file *file,
+                                                         vast_expression expression)
 {
     vast_indexable answer = {{0, 0}};
     if (file->fault == VAST_OK)
@@ -399,7 +412,8 @@ static inline vast_indexable v_make_indexable_expression(vast_file *file, vast_e
 #define v_make_indexable_expression(file, expression) \
     v_make_indexable_expression(file, vast_expression_of(expression))
 
-static inline vast_slice v_make_slice(vast_file *file, vast_indexable subject, int64_t hi, int64_t lo)
+static inline vast_slice v_make_slice(vast_file *file, vast_indexable subject, int64_t hi,
+                                      int64_t lo)
 {
     vast_slice answer = {{0, 0}};
     if (file->fault == VAST_OK)
@@ -419,8 +433,8 @@ static inline vast_index v_make_index(vast_file *file, vast_indexable subject, i
 #define v_make_index(file, subject, index) \
     v_make_index(file, vast_indexable_of(subject), index)
 
-static inline vast_slice v_make_slice_expr(vast_file *file, vast_indexable subject, vast_expression hi,
-                                           vast_expression lo)
+static inline vast_slice v_make_slice_expr(vast_file *file, vast_indexable subject,
+                                           vast_expression hi, vast_expression lo)
 {
     vast_slice answer = {{0, 0}};
     if (file->fault == VAST_OK)
@@ -428,9 +442,11 @@ static inline vast_slice v_make_slice_expr(vast_file *file, vast_indexable subje
     return answer;
 }
 #define v_make_slice_expr(file, subject, hi, lo) \
-    v_make_slice_expr(file, vast_indexable_of(subject), vast_expression_of(hi), vast_expression_of(lo))
+    v_make_slice_expr(file, vast_indexable_of(subject), vast_expression_of(hi), \
+                      vast_expression_of(lo))
 
-static inline vast_index v_make_index_expr(vast_file *file, vast_indexable subject, vast_expression index)
+static inline vast_index v_make_index_expr(vast_file *file, vast_indexable subject,
+                                           vast_expression index)
 {
     vast_index answer = {{0, 0}};
     if (file->fault == VAST_OK)
@@ -440,8 +456,8 @@ static inline vast_index v_make_index_expr(vast_file *file, vast_indexable subje
 #define v_make_index_expr(file, subject, index) \
     v_make_index_expr(file, vast_indexable_of(subject), vast_expression_of(index))
 
-static inline vast_expression v_make_indexed_part_select(vast_file *file, vast_indexable subject, vast_expression start,
-                                                         int64_t width)
+static inline vast_expression v_make_indexed_part_select(vast_file *file, vast_indexable subject,
+                                                         vast_expression start, int64_t width)
 {
     vast_expression answer = {{0, 0}};
     if (file->fault == VAST_OK)
@@ -451,12 +467,14 @@ static inline vast_expression v_make_indexed_part_select(vast_file *file, vast_i
 #define v_make_indexed_part_select(file, subject, start, width) \
     v_make_indexed_part_select(file, vast_indexable_of(subject), vast_expression_of(start), width)
 
-static inline vast_expression v_make_function_call(vast_file *file, const char *name, const vast_expression *arguments,
+static inline vast_expression v_make_function_call(vast_file *file, const char *name,
+                                                   const vast_expression *arguments,
                                                    size_t arguments_count)
 {
     vast_expression answer = {{0, 0}};
     if (file->fault == VAST_OK)
-        file->fault = vast_make_function_call(file, vast_str(name), arguments, arguments_count, &answer);
+        file->fault = vast_make_function_call(file, vast_str(name), arguments, arguments_count,
+                                              &answer);
     return answer;
 }
 
@@ -470,26 +488,31 @@ static inline vast_expression v_make_concat(vast_file *file, const vast_expressi
 }
 
 static inline vast_expression v_make_replicated_concat(vast_file *file, vast_expression replication,
-                                                       const vast_expression *elements, size_t elements_count)
+                                                       const vast_expression *elements,
+                                                       size_t elements_count)
 {
     vast_expression answer = {{0, 0}};
     if (file->fault == VAST_OK)
-        file->fault = vast_make_replicated_concat(file, replication, elements, elements_count, &answer);
+        file->fault = vast_make_replicated_concat(file, replication, elements, elements_count,
+                                                  &answer);
     return answer;
 }
 #define v_make_replicated_concat(file, replication, elements, elements_count) \
     v_make_replicated_concat(file, vast_expression_of(replication), elements, elements_count)
 
 static inline vast_expression v_make_replicated_concat_i64(vast_file *file, int64_t replication,
-                                                           const vast_expression *elements, size_t elements_count)
+                                                           const vast_expression *elements,
+                                                           size_t elements_count)
 {
     vast_expression answer = {{0, 0}};
     if (file->fault == VAST_OK)
-        file->fault = vast_make_replicated_concat_i64(file, replication, elements, elements_count, &answer);
+        file->fault = vast_make_replicated_concat_i64(file, replication, elements, elements_count,
+                                                      &answer);
     return answer;
 }
 
-static inline vast_expression v_make_array_assignment_pattern(vast_file *file, const vast_expression *elements,
+static inline vast_expression v_make_array_assignment_pattern(vast_file *file,
+                                                              const vast_expression *elements,
                                                               size_t elements_count)
 {
     vast_expression answer = {{0, 0}};
@@ -498,8 +521,8 @@ static inline vast_expression v_make_array_assignment_pattern(vast_file *file, c
     return answer;
 }
 
-static inline vast_expression v_make_ternary(vast_file *file, vast_expression condition, vast_expression consequent,
-                                             vast_expression alternate)
+static inline vast_expression v_make_ternary(vast_file *file, vast_expression condition,
+                                             vast_expression consequent, vast_expression alternate)
 {
     vast_expression answer = {{0, 0}};
     if (file->fault == VAST_OK)
@@ -507,9 +530,11 @@ static inline vast_expression v_make_ternary(vast_file *file, vast_expression co
     return answer;
 }
 #define v_make_ternary(file, condition, consequent, alternate) \
-    v_make_ternary(file, vast_expression_of(condition), vast_expression_of(consequent), vast_expression_of(alternate))
+    v_make_ternary(file, vast_expression_of(condition), vast_expression_of(consequent), \
+                   vast_expression_of(alternate))
 
-static inline vast_expression v_make_width_cast(vast_file *file, vast_expression width, vast_expression value)
+static inline vast_expression v_make_width_cast(vast_file *file, vast_expression width,
+                                                vast_expression value)
 {
     vast_expression answer = {{0, 0}};
     if (file->fault == VAST_OK)
@@ -519,7 +544,8 @@ static inline vast_expression v_make_width_cast(vast_file *file, vast_expression
 #define v_make_width_cast(file, width, value) \
     v_make_width_cast(file, vast_expression_of(width), vast_expression_of(value))
 
-static inline vast_expression v_make_type_cast(vast_file *file, vast_type data_type, vast_expression value)
+static inline vast_expression v_make_type_cast(vast_file *file, vast_type data_type,
+                                               vast_expression value)
 {
     vast_expression answer = {{0, 0}};
     if (file->fault == VAST_OK)
@@ -557,12 +583,14 @@ static inline vast_macro v_make_macro_ref(vast_file *file, const char *name)
     return answer;
 }
 
-static inline vast_macro v_make_macro_ref_with_args(vast_file *file, const char *name, const vast_expression *arguments,
+static inline vast_macro v_make_macro_ref_with_args(vast_file *file, const char *name,
+                                                    const vast_expression *arguments,
                                                     size_t arguments_count)
 {
     vast_macro answer = {{0, 0}};
     if (file->fault == VAST_OK)
-        file->fault = vast_make_macro_ref_with_args(file, vast_str(name), arguments, arguments_count, &answer);
+        file->fault = vast_make_macro_ref_with_args(file, vast_str(name), arguments,
+                                                    arguments_count, &answer);
     return answer;
 }
 
@@ -598,11 +626,13 @@ static inline vast_type v_make_extern_type(vast_file *file, const char *name)
     return answer;
 }
 
-static inline vast_type v_make_extern_package_type(vast_file *file, const char *package_name, const char *name)
+static inline vast_type v_make_extern_package_type(vast_file *file, const char *package_name,
+                                                   const char *name)
 {
     vast_type answer = {{0, 0}};
     if (file->fault == VAST_OK)
-        file->fault = vast_make_extern_package_type(file, vast_str(package_name), vast_str(name), &answer);
+        file->fault = vast_make_extern_package_type(file, vast_str(package_name), vast_str(name),
+                                                    &answer);
     return answer;
 }
 
@@ -614,7 +644,8 @@ static inline vast_type v_make_bit_vector_type(vast_file *file, int64_t bit_coun
     return answer;
 }
 
-static inline vast_type v_make_bit_vector_type_expr(vast_file *file, vast_expression width, bool is_signed)
+static inline vast_type v_make_bit_vector_type_expr(vast_file *file, vast_expression width,
+                                                    bool is_signed)
 {
     vast_type answer = {{0, 0}};
     if (file->fault == VAST_OK)
@@ -624,21 +655,24 @@ static inline vast_type v_make_bit_vector_type_expr(vast_file *file, vast_expres
 #define v_make_bit_vector_type_expr(file, width, is_signed) \
     v_make_bit_vector_type_expr(file, vast_expression_of(width), is_signed)
 
-static inline vast_type v_make_packed_array_type(vast_file *file, vast_type element, const int64_t *dimensions,
-                                                 size_t dimensions_count)
+static inline vast_type v_make_packed_array_type(vast_file *file, vast_type element,
+                                                 const int64_t *dimensions, size_t dimensions_count)
 {
     vast_type answer = {{0, 0}};
     if (file->fault == VAST_OK)
-        file->fault = vast_make_packed_array_type(file, element, dimensions, dimensions_count, &answer);
+        file->fault = vast_make_packed_array_type(file, element, dimensions, dimensions_count,
+                                                  &answer);
     return answer;
 }
 
-static inline vast_type v_make_unpacked_array_type(vast_file *file, vast_type element, const int64_t *dimensions,
+static inline vast_type v_make_unpacked_array_type(vast_file *file, vast_type element,
+                                                   const int64_t *dimensions,
                                                    size_t dimensions_count)
 {
     vast_type answer = {{0, 0}};
     if (file->fault == VAST_OK)
-        file->fault = vast_make_unpacked_array_type(file, element, dimensions, dimensions_count, &answer);
+        file->fault = vast_make_unpacked_array_type(file, element, dimensions, dimensions_count,
+                                                    &answer);
     return answer;
 }
 
@@ -668,7 +702,8 @@ static inline vast_module v_add_module(vast_file *file, const char *name)
     return answer;
 }
 
-static inline vast_signal v_add_input(vast_file *file, vast_module owner, const char *name, vast_type data_type)
+static inline vast_signal v_add_input(vast_file *file, vast_module owner, const char *name,
+                                      vast_type data_type)
 {
     vast_signal answer = {{0, 0}};
     if (file->fault == VAST_OK)
@@ -676,7 +711,8 @@ static inline vast_signal v_add_input(vast_file *file, vast_module owner, const 
     return answer;
 }
 
-static inline vast_signal v_add_output(vast_file *file, vast_module owner, const char *name, vast_type data_type)
+static inline vast_signal v_add_output(vast_file *file, vast_module owner, const char *name,
+                                       vast_type data_type)
 {
     vast_signal answer = {{0, 0}};
     if (file->fault == VAST_OK)
@@ -684,7 +720,8 @@ static inline vast_signal v_add_output(vast_file *file, vast_module owner, const
     return answer;
 }
 
-static inline vast_signal v_add_inout(vast_file *file, vast_module owner, const char *name, vast_type data_type)
+static inline vast_signal v_add_inout(vast_file *file, vast_module owner, const char *name,
+                                      vast_type data_type)
 {
     vast_signal answer = {{0, 0}};
     if (file->fault == VAST_OK)
@@ -692,7 +729,8 @@ static inline vast_signal v_add_inout(vast_file *file, vast_module owner, const 
     return answer;
 }
 
-static inline vast_signal v_add_logic_input(vast_file *file, vast_module owner, const char *name, vast_type data_type)
+static inline vast_signal v_add_logic_input(vast_file *file, vast_module owner, const char *name,
+                                            vast_type data_type)
 {
     vast_signal answer = {{0, 0}};
     if (file->fault == VAST_OK)
@@ -700,7 +738,8 @@ static inline vast_signal v_add_logic_input(vast_file *file, vast_module owner, 
     return answer;
 }
 
-static inline vast_signal v_add_logic_output(vast_file *file, vast_module owner, const char *name, vast_type data_type)
+static inline vast_signal v_add_logic_output(vast_file *file, vast_module owner, const char *name,
+                                             vast_type data_type)
 {
     vast_signal answer = {{0, 0}};
     if (file->fault == VAST_OK)
@@ -708,7 +747,8 @@ static inline vast_signal v_add_logic_output(vast_file *file, vast_module owner,
     return answer;
 }
 
-static inline vast_signal v_add_wire(vast_file *file, vast_module owner, const char *name, vast_type data_type)
+static inline vast_signal v_add_wire(vast_file *file, vast_module owner, const char *name,
+                                     vast_type data_type)
 {
     vast_signal answer = {{0, 0}};
     if (file->fault == VAST_OK)
@@ -716,7 +756,8 @@ static inline vast_signal v_add_wire(vast_file *file, vast_module owner, const c
     return answer;
 }
 
-static inline vast_signal v_add_reg(vast_file *file, vast_module owner, const char *name, vast_type data_type)
+static inline vast_signal v_add_reg(vast_file *file, vast_module owner, const char *name,
+                                    vast_type data_type)
 {
     vast_signal answer = {{0, 0}};
     if (file->fault == VAST_OK)
@@ -724,7 +765,8 @@ static inline vast_signal v_add_reg(vast_file *file, vast_module owner, const ch
     return answer;
 }
 
-static inline vast_signal v_add_logic(vast_file *file, vast_module owner, const char *name, vast_type data_type)
+static inline vast_signal v_add_logic(vast_file *file, vast_module owner, const char *name,
+                                      vast_type data_type)
 {
     vast_signal answer = {{0, 0}};
     if (file->fault == VAST_OK)
@@ -743,18 +785,21 @@ static inline vast_signal v_add_parameter_port(vast_file *file, vast_module owne
 #define v_add_parameter_port(file, owner, name, value) \
     v_add_parameter_port(file, owner, name, vast_expression_of(value))
 
-static inline vast_signal v_add_typed_parameter_port(vast_file *file, vast_module owner, const char *name,
-                                                     vast_type data_type, vast_expression value)
+static inline vast_signal v_add_typed_parameter_port(vast_file *file, vast_module owner,
+                                                     const char *name, vast_type data_type,
+                                                     vast_expression value)
 {
     vast_signal answer = {{0, 0}};
     if (file->fault == VAST_OK)
-        file->fault = vast_add_typed_parameter_port(file, owner, vast_str(name), data_type, value, &answer);
+        file->fault = vast_add_typed_parameter_port(file, owner, vast_str(name), data_type, value,
+                                                    &answer);
     return answer;
 }
 #define v_add_typed_parameter_port(file, owner, name, data_type, value) \
     v_add_typed_parameter_port(file, owner, name, data_type, vast_expression_of(value))
 
-static inline vast_parameter v_add_parameter(vast_file *file, vast_module owner, const char *name, vast_expression rhs)
+static inline vast_parameter v_add_parameter(vast_file *file, vast_module owner, const char *name,
+                                             vast_expression rhs)
 {
     vast_parameter answer = {{0, 0}};
     if (file->fault == VAST_OK)
@@ -764,7 +809,8 @@ static inline vast_parameter v_add_parameter(vast_file *file, vast_module owner,
 #define v_add_parameter(file, owner, name, rhs) \
     v_add_parameter(file, owner, name, vast_expression_of(rhs))
 
-static inline vast_parameter v_add_parameter_with_def(vast_file *file, vast_module owner, vast_definition definition,
+static inline vast_parameter v_add_parameter_with_def(vast_file *file, vast_module owner,
+                                                      vast_definition definition,
                                                       vast_expression rhs)
 {
     vast_parameter answer = {{0, 0}};
@@ -786,8 +832,8 @@ static inline vast_localparam v_add_localparam(vast_file *file, vast_module owne
 #define v_add_localparam(file, owner, name, rhs) \
     v_add_localparam(file, owner, name, vast_expression_of(rhs))
 
-static inline vast_localparam v_add_int_localparam(vast_file *file, vast_module owner, const char *name,
-                                                   vast_expression rhs)
+static inline vast_localparam v_add_int_localparam(vast_file *file, vast_module owner,
+                                                   const char *name, vast_expression rhs)
 {
     vast_localparam answer = {{0, 0}};
     if (file->fault == VAST_OK)
@@ -797,7 +843,8 @@ static inline vast_localparam v_add_int_localparam(vast_file *file, vast_module 
 #define v_add_int_localparam(file, owner, name, rhs) \
     v_add_int_localparam(file, owner, name, vast_expression_of(rhs))
 
-static inline vast_localparam v_add_typed_localparam(vast_file *file, vast_module owner, vast_definition definition,
+static inline vast_localparam v_add_typed_localparam(vast_file *file, vast_module owner,
+                                                     vast_definition definition,
                                                      vast_expression rhs)
 {
     vast_localparam answer = {{0, 0}};
@@ -814,28 +861,33 @@ static inline void v_hoist_module_declarations(vast_file *file, vast_module owne
         file->fault = vast_hoist_module_declarations(file, owner, start);
 }
 
-static inline vast_loop v_add_generate_loop(vast_file *file, vast_module owner, const char *name, vast_expression start,
-                                            vast_expression end, const char *label)
+static inline vast_loop v_add_generate_loop(vast_file *file, vast_module owner, const char *name,
+                                            vast_expression start, vast_expression end,
+                                            const char *label)
 {
     vast_loop answer = {{0, 0}};
     if (file->fault == VAST_OK)
-        file->fault = vast_add_generate_loop(file, owner, vast_str(name), start, end, vast_str(label), &answer);
+        file->fault = vast_add_generate_loop(file, owner, vast_str(name), start, end,
+                                             vast_str(label), &answer);
     return answer;
 }
 #define v_add_generate_loop(file, owner, name, start, end, label) \
-    v_add_generate_loop(file, owner, name, vast_expression_of(start), vast_expression_of(end), label)
+    v_add_generate_loop(file, owner, name, vast_expression_of(start), vast_expression_of(end), \
+                        label)
 
-static inline vast_loop v_generate_add_generate_loop(vast_file *file, vast_loop parent, const char *name,
-                                                     vast_expression start, vast_expression end, const char *label)
+static inline vast_loop v_generate_add_generate_loop(vast_file *file, vast_loop parent,
+                                                     const char *name, vast_expression start,
+                                                     vast_expression end, const char *label)
 {
     vast_loop answer = {{0, 0}};
     if (file->fault == VAST_OK)
-        file->fault = vast_generate_add_generate_loop(file, parent, vast_str(name), start, end, vast_str(label),
-                                                      &answer);
+        file->fault = vast_generate_add_generate_loop(file, parent, vast_str(name), start, end,
+                                                      vast_str(label), &answer);
     return answer;
 }
 #define v_generate_add_generate_loop(file, parent, name, start, end, label) \
-    v_generate_add_generate_loop(file, parent, name, vast_expression_of(start), vast_expression_of(end), label)
+    v_generate_add_generate_loop(file, parent, name, vast_expression_of(start), \
+                                 vast_expression_of(end), label)
 
 static inline vast_signal v_generate_genvar(vast_file *file, vast_loop generate)
 {
@@ -859,7 +911,8 @@ static inline vast_always v_generate_add_always_ff(vast_file *file, vast_loop ge
 {
     vast_always answer = {{0, 0}};
     if (file->fault == VAST_OK)
-        file->fault = vast_generate_add_always_ff(file, generate, sensitivity_list, sensitivity_list_count, &answer);
+        file->fault = vast_generate_add_always_ff(file, generate, sensitivity_list,
+                                                  sensitivity_list_count, &answer);
     return answer;
 }
 
@@ -869,12 +922,13 @@ static inline vast_always v_generate_add_always_at(vast_file *file, vast_loop ge
 {
     vast_always answer = {{0, 0}};
     if (file->fault == VAST_OK)
-        file->fault = vast_generate_add_always_at(file, generate, sensitivity_list, sensitivity_list_count, &answer);
+        file->fault = vast_generate_add_always_at(file, generate, sensitivity_list,
+                                                  sensitivity_list_count, &answer);
     return answer;
 }
 
-static inline vast_localparam v_generate_add_localparam(vast_file *file, vast_loop generate, const char *name,
-                                                        vast_expression rhs)
+static inline vast_localparam v_generate_add_localparam(vast_file *file, vast_loop generate,
+                                                        const char *name, vast_expression rhs)
 {
     vast_localparam answer = {{0, 0}};
     if (file->fault == VAST_OK)
@@ -885,7 +939,8 @@ static inline vast_localparam v_generate_add_localparam(vast_file *file, vast_lo
     v_generate_add_localparam(file, generate, name, vast_expression_of(rhs))
 
 static inline vast_localparam v_generate_add_typed_localparam(vast_file *file, vast_loop generate,
-                                                              vast_definition definition, vast_expression rhs)
+                                                              vast_definition definition,
+                                                              vast_expression rhs)
 {
     vast_localparam answer = {{0, 0}};
     if (file->fault == VAST_OK)
@@ -895,8 +950,10 @@ static inline vast_localparam v_generate_add_typed_localparam(vast_file *file, v
 #define v_generate_add_typed_localparam(file, generate, definition, rhs) \
     v_generate_add_typed_localparam(file, generate, definition, vast_expression_of(rhs))
 
-static inline vast_statement v_generate_add_continuous_assignment(vast_file *file, vast_loop generate,
-                                                                  vast_expression lhs, vast_expression rhs)
+static inline vast_statement v_generate_add_continuous_assignment(vast_file *file,
+                                                                  vast_loop generate,
+                                                                  vast_expression lhs,
+                                                                  vast_expression rhs)
 {
     vast_statement answer = {{0, 0}};
     if (file->fault == VAST_OK)
@@ -904,7 +961,8 @@ static inline vast_statement v_generate_add_continuous_assignment(vast_file *fil
     return answer;
 }
 #define v_generate_add_continuous_assignment(file, generate, lhs, rhs) \
-    v_generate_add_continuous_assignment(file, generate, vast_expression_of(lhs), vast_expression_of(rhs))
+    v_generate_add_continuous_assignment(file, generate, vast_expression_of(lhs), \
+                                         vast_expression_of(rhs))
 
 static inline vast_conditional v_generate_add_conditional(vast_file *file, vast_loop generate,
                                                           vast_expression condition)
@@ -929,25 +987,29 @@ static inline void v_generate_add_comment(vast_file *file, vast_loop generate, v
         file->fault = vast_generate_add_comment(file, generate, comment);
 }
 
-static inline void v_generate_add_instantiation(vast_file *file, vast_loop generate, vast_instantiation instantiation)
+static inline void v_generate_add_instantiation(vast_file *file, vast_loop generate,
+                                                vast_instantiation instantiation)
 {
     if (file->fault == VAST_OK)
         file->fault = vast_generate_add_instantiation(file, generate, instantiation);
 }
 
-static inline void v_generate_add_inline_statement(vast_file *file, vast_loop generate, vast_inline_statement statement)
+static inline void v_generate_add_inline_statement(vast_file *file, vast_loop generate,
+                                                   vast_inline_statement statement)
 {
     if (file->fault == VAST_OK)
         file->fault = vast_generate_add_inline_statement(file, generate, statement);
 }
 
-static inline void v_generate_add_macro_statement(vast_file *file, vast_loop generate, vast_macro_statement statement)
+static inline void v_generate_add_macro_statement(vast_file *file, vast_loop generate,
+                                                  vast_macro_statement statement)
 {
     if (file->fault == VAST_OK)
         file->fault = vast_generate_add_macro_statement(file, generate, statement);
 }
 
-static inline vast_function v_add_function(vast_file *file, vast_module owner, const char *name, vast_type result_type)
+static inline vast_function v_add_function(vast_file *file, vast_module owner, const char *name,
+                                           vast_type result_type)
 {
     vast_function answer = {{0, 0}};
     if (file->fault == VAST_OK)
@@ -955,8 +1017,8 @@ static inline vast_function v_add_function(vast_file *file, vast_module owner, c
     return answer;
 }
 
-static inline vast_signal v_function_add_input(vast_file *file, vast_function function, const char *name,
-                                               vast_type data_type)
+static inline vast_signal v_function_add_input(vast_file *file, vast_function function,
+                                               const char *name, vast_type data_type)
 {
     vast_signal answer = {{0, 0}};
     if (file->fault == VAST_OK)
@@ -964,17 +1026,18 @@ static inline vast_signal v_function_add_input(vast_file *file, vast_function fu
     return answer;
 }
 
-static inline vast_signal v_function_add_logic_input(vast_file *file, vast_function function, const char *name,
-                                                     vast_type data_type)
+static inline vast_signal v_function_add_logic_input(vast_file *file, vast_function function,
+                                                     const char *name, vast_type data_type)
 {
     vast_signal answer = {{0, 0}};
     if (file->fault == VAST_OK)
-        file->fault = vast_function_add_logic_input(file, function, vast_str(name), data_type, &answer);
+        file->fault = vast_function_add_logic_input(file, function, vast_str(name), data_type,
+                                                    &answer);
     return answer;
 }
 
-static inline vast_signal v_function_add_reg(vast_file *file, vast_function function, const char *name,
-                                             vast_type data_type)
+static inline vast_signal v_function_add_reg(vast_file *file, vast_function function,
+                                             const char *name, vast_type data_type)
 {
     vast_signal answer = {{0, 0}};
     if (file->fault == VAST_OK)
@@ -982,8 +1045,8 @@ static inline vast_signal v_function_add_reg(vast_file *file, vast_function func
     return answer;
 }
 
-static inline vast_signal v_function_add_logic(vast_file *file, vast_function function, const char *name,
-                                               vast_type data_type)
+static inline vast_signal v_function_add_logic(vast_file *file, vast_function function,
+                                               const char *name, vast_type data_type)
 {
     vast_signal answer = {{0, 0}};
     if (file->fault == VAST_OK)
@@ -1007,21 +1070,25 @@ static inline vast_signal v_function_result(vast_file *file, vast_function funct
     return answer;
 }
 
-static inline vast_always v_add_always_ff(vast_file *file, vast_module owner, const vast_expression *sensitivity_list,
+static inline vast_always v_add_always_ff(vast_file *file, vast_module owner,
+                                          const vast_expression *sensitivity_list,
                                           size_t sensitivity_list_count)
 {
     vast_always answer = {{0, 0}};
     if (file->fault == VAST_OK)
-        file->fault = vast_add_always_ff(file, owner, sensitivity_list, sensitivity_list_count, &answer);
+        file->fault = vast_add_always_ff(file, owner, sensitivity_list, sensitivity_list_count,
+                                         &answer);
     return answer;
 }
 
-static inline vast_always v_add_always_at(vast_file *file, vast_module owner, const vast_expression *sensitivity_list,
+static inline vast_always v_add_always_at(vast_file *file, vast_module owner,
+                                          const vast_expression *sensitivity_list,
                                           size_t sensitivity_list_count)
 {
     vast_always answer = {{0, 0}};
     if (file->fault == VAST_OK)
-        file->fault = vast_add_always_at(file, owner, sensitivity_list, sensitivity_list_count, &answer);
+        file->fault = vast_add_always_at(file, owner, sensitivity_list, sensitivity_list_count,
+                                         &answer);
     return answer;
 }
 
@@ -1041,7 +1108,8 @@ static inline vast_block v_statement_block(vast_file *file, vast_always always)
     return answer;
 }
 
-static inline vast_statement v_block_add_blocking_assignment(vast_file *file, vast_block block, vast_expression lhs,
+static inline vast_statement v_block_add_blocking_assignment(vast_file *file, vast_block block,
+                                                             vast_expression lhs,
                                                              vast_expression rhs)
 {
     vast_statement answer = {{0, 0}};
@@ -1052,7 +1120,8 @@ static inline vast_statement v_block_add_blocking_assignment(vast_file *file, va
 #define v_block_add_blocking_assignment(file, block, lhs, rhs) \
     v_block_add_blocking_assignment(file, block, vast_expression_of(lhs), vast_expression_of(rhs))
 
-static inline vast_statement v_block_add_nonblocking_assignment(vast_file *file, vast_block block, vast_expression lhs,
+static inline vast_statement v_block_add_nonblocking_assignment(vast_file *file, vast_block block,
+                                                                vast_expression lhs,
                                                                 vast_expression rhs)
 {
     vast_statement answer = {{0, 0}};
@@ -1061,9 +1130,11 @@ static inline vast_statement v_block_add_nonblocking_assignment(vast_file *file,
     return answer;
 }
 #define v_block_add_nonblocking_assignment(file, block, lhs, rhs) \
-    v_block_add_nonblocking_assignment(file, block, vast_expression_of(lhs), vast_expression_of(rhs))
+    v_block_add_nonblocking_assignment(file, block, vast_expression_of(lhs), \
+                                       vast_expression_of(rhs))
 
-static inline vast_statement v_block_add_continuous_assignment(vast_file *file, vast_block block, vast_expression lhs,
+static inline vast_statement v_block_add_continuous_assignment(vast_file *file, vast_block block,
+                                                               vast_expression lhs,
                                                                vast_expression rhs)
 {
     vast_statement answer = {{0, 0}};
@@ -1072,7 +1143,8 @@ static inline vast_statement v_block_add_continuous_assignment(vast_file *file, 
     return answer;
 }
 #define v_block_add_continuous_assignment(file, block, lhs, rhs) \
-    v_block_add_continuous_assignment(file, block, vast_expression_of(lhs), vast_expression_of(rhs))
+    v_block_add_continuous_assignment(file, block, vast_expression_of(lhs), \
+                                      vast_expression_of(rhs))
 
 static inline void v_block_add_comment_text(vast_file *file, vast_block block, const char *text)
 {
@@ -1092,7 +1164,8 @@ static inline void v_block_add_blank_line(vast_file *file, vast_block block)
         file->fault = vast_block_add_blank_line(file, block);
 }
 
-static inline vast_conditional v_add_conditional(vast_file *file, vast_module owner, vast_expression condition)
+static inline vast_conditional v_add_conditional(vast_file *file, vast_module owner,
+                                                 vast_expression condition)
 {
     vast_conditional answer = {{0, 0}};
     if (file->fault == VAST_OK)
@@ -1102,7 +1175,8 @@ static inline vast_conditional v_add_conditional(vast_file *file, vast_module ow
 #define v_add_conditional(file, owner, condition) \
     v_add_conditional(file, owner, vast_expression_of(condition))
 
-static inline vast_conditional v_block_add_cond(vast_file *file, vast_block block, vast_expression condition)
+static inline vast_conditional v_block_add_cond(vast_file *file, vast_block block,
+                                                vast_expression condition)
 {
     vast_conditional answer = {{0, 0}};
     if (file->fault == VAST_OK)
@@ -1139,7 +1213,8 @@ static inline vast_block v_conditional_add_else(vast_file *file, vast_conditiona
     return answer;
 }
 
-static inline vast_case v_block_add_case(vast_file *file, vast_block block, vast_expression selector)
+static inline vast_case v_block_add_case(vast_file *file, vast_block block,
+                                         vast_expression selector)
 {
     vast_case answer = {{0, 0}};
     if (file->fault == VAST_OK)
@@ -1149,7 +1224,8 @@ static inline vast_case v_block_add_case(vast_file *file, vast_block block, vast
 #define v_block_add_case(file, block, selector) \
     v_block_add_case(file, block, vast_expression_of(selector))
 
-static inline vast_case v_block_add_casez(vast_file *file, vast_block block, vast_expression selector)
+static inline vast_case v_block_add_casez(vast_file *file, vast_block block,
+                                          vast_expression selector)
 {
     vast_case answer = {{0, 0}};
     if (file->fault == VAST_OK)
@@ -1159,7 +1235,8 @@ static inline vast_case v_block_add_casez(vast_file *file, vast_block block, vas
 #define v_block_add_casez(file, block, selector) \
     v_block_add_casez(file, block, vast_expression_of(selector))
 
-static inline vast_case v_block_add_casex(vast_file *file, vast_block block, vast_expression selector)
+static inline vast_case v_block_add_casex(vast_file *file, vast_block block,
+                                          vast_expression selector)
 {
     vast_case answer = {{0, 0}};
     if (file->fault == VAST_OK)
@@ -1169,7 +1246,8 @@ static inline vast_case v_block_add_casex(vast_file *file, vast_block block, vas
 #define v_block_add_casex(file, block, selector) \
     v_block_add_casex(file, block, vast_expression_of(selector))
 
-static inline vast_block v_case_add_item(vast_file *file, vast_case case_statement, vast_expression pattern)
+static inline vast_block v_case_add_item(vast_file *file, vast_case case_statement,
+                                         vast_expression pattern)
 {
     vast_block answer = {{0, 0}};
     if (file->fault == VAST_OK)
@@ -1193,7 +1271,8 @@ static inline void v_case_set_unique(vast_file *file, vast_case case_statement, 
         file->fault = vast_case_set_unique(file, case_statement, unique);
 }
 
-static inline vast_definition v_make_def(vast_file *file, const char *name, vast_data_kind kind, vast_type data_type)
+static inline vast_definition v_make_def(vast_file *file, const char *name, vast_data_kind kind,
+                                         vast_type data_type)
 {
     vast_definition answer = {{0, 0}};
     if (file->fault == VAST_OK)
@@ -1217,7 +1296,8 @@ static inline vast_comment v_make_comment(vast_file *file, const char *text)
     return answer;
 }
 
-static inline vast_inline_statement v_make_inline_verilog_statement(vast_file *file, const char *text)
+static inline vast_inline_statement v_make_inline_verilog_statement(vast_file *file,
+                                                                    const char *text)
 {
     vast_inline_statement answer = {{0, 0}};
     if (file->fault == VAST_OK)
@@ -1225,7 +1305,8 @@ static inline vast_inline_statement v_make_inline_verilog_statement(vast_file *f
     return answer;
 }
 
-static inline vast_macro_statement v_make_macro_statement(vast_file *file, vast_macro macro_ref, bool semicolon)
+static inline vast_macro_statement v_make_macro_statement(vast_file *file, vast_macro macro_ref,
+                                                          bool semicolon)
 {
     vast_macro_statement answer = {{0, 0}};
     if (file->fault == VAST_OK)
@@ -1233,7 +1314,8 @@ static inline vast_macro_statement v_make_macro_statement(vast_file *file, vast_
     return answer;
 }
 
-static inline vast_assignment v_make_continuous_assignment(vast_file *file, vast_expression lhs, vast_expression rhs)
+static inline vast_assignment v_make_continuous_assignment(vast_file *file, vast_expression lhs,
+                                                           vast_expression rhs)
 {
     vast_assignment answer = {{0, 0}};
     if (file->fault == VAST_OK)
@@ -1243,7 +1325,8 @@ static inline vast_assignment v_make_continuous_assignment(vast_file *file, vast
 #define v_make_continuous_assignment(file, lhs, rhs) \
     v_make_continuous_assignment(file, vast_expression_of(lhs), vast_expression_of(rhs))
 
-static inline vast_statement v_make_nonblocking_assignment(vast_file *file, vast_expression lhs, vast_expression rhs)
+static inline vast_statement v_make_nonblocking_assignment(vast_file *file, vast_expression lhs,
+                                                           vast_expression rhs)
 {
     vast_statement answer = {{0, 0}};
     if (file->fault == VAST_OK)
@@ -1253,7 +1336,8 @@ static inline vast_statement v_make_nonblocking_assignment(vast_file *file, vast
 #define v_make_nonblocking_assignment(file, lhs, rhs) \
     v_make_nonblocking_assignment(file, vast_expression_of(lhs), vast_expression_of(rhs))
 
-static inline vast_statement v_make_blocking_assignment(vast_file *file, vast_expression lhs, vast_expression rhs)
+static inline vast_statement v_make_blocking_assignment(vast_file *file, vast_expression lhs,
+                                                        vast_expression rhs)
 {
     vast_statement answer = {{0, 0}};
     if (file->fault == VAST_OK)
@@ -1264,7 +1348,8 @@ static inline vast_statement v_make_blocking_assignment(vast_file *file, vast_ex
     v_make_blocking_assignment(file, vast_expression_of(lhs), vast_expression_of(rhs))
 
 static inline vast_instantiation v_make_instantiation(vast_file *file, const char *module_name,
-                                                      const char *instance_name, const vast_string *parameter_names,
+                                                      const char *instance_name,
+                                                      const vast_string *parameter_names,
                                                       size_t parameter_names_count,
                                                       const vast_expression *parameter_expressions,
                                                       size_t parameter_expressions_count,
@@ -1275,26 +1360,31 @@ static inline vast_instantiation v_make_instantiation(vast_file *file, const cha
 {
     vast_instantiation answer = {{0, 0}};
     if (file->fault == VAST_OK)
-        file->fault = vast_make_instantiation(file, vast_str(module_name), vast_str(instance_name), parameter_names,
-                                              parameter_names_count, parameter_expressions, parameter_expressions_count,
-                                              connection_names, connection_names_count, connection_expressions,
-                                              connection_expressions_count, &answer);
+        file->fault = vast_make_instantiation(file, vast_str(module_name), vast_str(instance_name),
+                                              parameter_names, parameter_names_count,
+                                              parameter_expressions, parameter_expressions_count,
+                                              connection_names, connection_names_count,
+                                              connection_expressions, connection_expressions_count,
+                                              &answer);
     return answer;
 }
 
-static inline void v_add_member_instantiation(vast_file *file, vast_module owner, vast_instantiation instantiation)
+static inline void v_add_member_instantiation(vast_file *file, vast_module owner,
+                                              vast_instantiation instantiation)
 {
     if (file->fault == VAST_OK)
         file->fault = vast_add_member_instantiation(file, owner, instantiation);
 }
 
-static inline void v_add_member_continuous_assignment(vast_file *file, vast_module owner, vast_assignment assignment)
+static inline void v_add_member_continuous_assignment(vast_file *file, vast_module owner,
+                                                      vast_assignment assignment)
 {
     if (file->fault == VAST_OK)
         file->fault = vast_add_member_continuous_assignment(file, owner, assignment);
 }
 
-static inline void v_add_member_blank_line(vast_file *file, vast_module owner, vast_blank_line blank)
+static inline void v_add_member_blank_line(vast_file *file, vast_module owner,
+                                           vast_blank_line blank)
 {
     if (file->fault == VAST_OK)
         file->fault = vast_add_member_blank_line(file, owner, blank);
@@ -1306,13 +1396,15 @@ static inline void v_add_member_comment(vast_file *file, vast_module owner, vast
         file->fault = vast_add_member_comment(file, owner, comment);
 }
 
-static inline void v_add_member_inline_statement(vast_file *file, vast_module owner, vast_inline_statement statement)
+static inline void v_add_member_inline_statement(vast_file *file, vast_module owner,
+                                                 vast_inline_statement statement)
 {
     if (file->fault == VAST_OK)
         file->fault = vast_add_member_inline_statement(file, owner, statement);
 }
 
-static inline void v_add_member_macro_statement(vast_file *file, vast_module owner, vast_macro_statement statement)
+static inline void v_add_member_macro_statement(vast_file *file, vast_module owner,
+                                                vast_macro_statement statement)
 {
     if (file->fault == VAST_OK)
         file->fault = vast_add_member_macro_statement(file, owner, statement);
@@ -1475,15 +1567,18 @@ static inline bool v_width_is_usable(vast_file *file, vast_expression width)
     v_width_is_usable(file, vast_expression_of(width))
 
 static inline void v_add_registers(vast_file *file, vast_expression clk, const vast_reset *reset,
-                                   const vast_register_definition *registers, size_t registers_count, vast_scope scope)
+                                   const vast_register_definition *registers,
+                                   size_t registers_count, vast_scope scope)
 {
     if (file->fault == VAST_OK)
         file->fault = vast_add_registers(file, clk, reset, registers, registers_count, scope);
 }
 #define v_add_registers(file, clk, reset, registers, registers_count, scope) \
-    v_add_registers(file, vast_expression_of(clk), reset, registers, registers_count, vast_scope_of(scope))
+    v_add_registers(file, vast_expression_of(clk), reset, registers, registers_count, \
+                    vast_scope_of(scope))
 
-static inline vast_expression v_bitwise_or_reduce(vast_file *file, const vast_expression *values, size_t values_count)
+static inline vast_expression v_bitwise_or_reduce(vast_file *file, const vast_expression *values,
+                                                  size_t values_count)
 {
     vast_expression answer = {{0, 0}};
     if (file->fault == VAST_OK)
@@ -1491,19 +1586,23 @@ static inline vast_expression v_bitwise_or_reduce(vast_file *file, const vast_ex
     return answer;
 }
 
-static inline vast_expression v_bitwise_or_reduce_array_elements(vast_file *file, vast_indexable value,
-                                                                 const int64_t *dimensions, size_t dimensions_count)
+static inline vast_expression v_bitwise_or_reduce_array_elements(vast_file *file,
+                                                                 vast_indexable value,
+                                                                 const int64_t *dimensions,
+                                                                 size_t dimensions_count)
 {
     vast_expression answer = {{0, 0}};
     if (file->fault == VAST_OK)
-        file->fault = vast_bitwise_or_reduce_array_elements(file, value, dimensions, dimensions_count, &answer);
+        file->fault = vast_bitwise_or_reduce_array_elements(file, value, dimensions,
+                                                            dimensions_count, &answer);
     return answer;
 }
 #define v_bitwise_or_reduce_array_elements(file, value, dimensions, dimensions_count) \
-    v_bitwise_or_reduce_array_elements(file, vast_indexable_of(value), dimensions, dimensions_count)
+    v_bitwise_or_reduce_array_elements(file, vast_indexable_of(value), dimensions, \
+                                       dimensions_count)
 
-static inline vast_expression v_logical_and_reduce(vast_file *file, const vast_expression *values, size_t values_count,
-                                                   bool invert)
+static inline vast_expression v_logical_and_reduce(vast_file *file, const vast_expression *values,
+                                                   size_t values_count, bool invert)
 {
     vast_expression answer = {{0, 0}};
     if (file->fault == VAST_OK)
@@ -1511,8 +1610,8 @@ static inline vast_expression v_logical_and_reduce(vast_file *file, const vast_e
     return answer;
 }
 
-static inline vast_expression v_logical_or_reduce(vast_file *file, const vast_expression *values, size_t values_count,
-                                                  bool invert)
+static inline vast_expression v_logical_or_reduce(vast_file *file, const vast_expression *values,
+                                                  size_t values_count, bool invert)
 {
     vast_expression answer = {{0, 0}};
     if (file->fault == VAST_OK)

@@ -22,14 +22,17 @@ static inline vast_expression v_number(vast_file *file, int32_t value)
 }
 
 /* `assign lhs = rhs`, as the module's last member. */
-static inline void v_assign(vast_file *file, vast_module owner, vast_expression lhs, vast_expression rhs)
+static inline void v_assign(vast_file *file, vast_module owner, vast_expression lhs,
+                            vast_expression rhs)
 {
     v_add_member_continuous_assignment(file, owner, v_make_continuous_assignment(file, lhs, rhs));
 }
-#define v_assign(file, owner, lhs, rhs) v_assign(file, owner, vast_expression_of(lhs), vast_expression_of(rhs))
+#define v_assign(file, owner, lhs, rhs) \
+    v_assign(file, owner, vast_expression_of(lhs), vast_expression_of(rhs))
 
 /* `lhs <= rhs`, as the block's last statement. */
-static inline void v_nonblocking(vast_file *file, vast_block block, vast_expression lhs, vast_expression rhs)
+static inline void v_nonblocking(vast_file *file, vast_block block, vast_expression lhs,
+                                 vast_expression rhs)
 {
     v_block_add_nonblocking_assignment(file, block, lhs, rhs);
 }

@@ -3,8 +3,9 @@ returns a status; `vast_values.h`, the same calls by value; and programs that ma
 `tests/every_value.c`."""
 import re
 
+from c_heads import CALLS_HEAD, KINDS_HEAD, VALUES_HEAD
 from c_test import every_call, every_value
-from c_text import comment, declaration, snake
+from c_text import comment, declaration, function, snake
 from python_words import CONDITIONS, MEANINGS, NOTES, REFUSALS, SAYS
 from rust_binding import ROOT
 from table import parts
@@ -167,21 +168,20 @@ class CBinding:
     def family(self, kind):
         """What turns the handles that may stand for one of a kind into it."""
         name = f"vast_{kind.kind}"
-        functions = [
-            f"static inline {name} {self.converts(kind, each)}(vast_{each} given) {converted(name, name == f'vast_{each}')}"
-            for each in kind.takes
-        ]
-        overloads = [
-            f"static inline {name} {name}_of(vast_{each} given) {{ return {self.converts(kind, each)}(given); }}"
-            for each in kind.takes
-        ]
-        choices = ", \\\n        ".join(f"vast_{each}: {self.converts(kind, each)}" for each in kind.takes)
+        functions, overloads, choices = [], [], []
+        for each in kind.takes:
+            given, converts = [f"vast_{each} given"], self.converts(kind, each)
+            rows = ["return given;"] if each == kind.kind else [f"{name} same = {{given.id}};", "return same;"]
+            functions.append(function(f"static inline {name} {converts}", given, rows))
+            overloads.append(function(f"static inline {name} {name}_of", given, [f"return {converts}(given);"]))
+            choices.append(f"vast_{each}: {converts}")
+        choice = ", \\\n        ".join(choices)
         return (
             f"/* Handles that stand for {article(kind.kind)}, as one; `{name}_of` takes each of them. */\n"
             + "\n".join(functions)
-            + "\n\n#ifdef __cplusplus\n"
+            + "\n#ifdef __cplusplus\n"
             + "\n".join(overloads)
-            + f"\n#else\n#define {name}_of(given) \\\n    _Generic((given), \\\n        {choices})(given)\n#endif\n"
+            + f"#else\n#define {name}_of(given) \\\n    _Generic((given), \\\n        {choice})(given)\n#endif\n"
         )
 
     @staticmethod
@@ -216,23 +216,18 @@ class CBinding:
     @staticmethod
     def writer(type):
         """Such a function."""
-        head = f"static inline void vast_line_{item(type)}(vast_file *file, "
-        if type.form == "list":
-            return (
-                f"{head}{c_type(type)}items, size_t count)\n{{\n    vast_line_word(file, \"[\");\n"
-                f"    for (size_t at = 0; at < count; at++)\n        {written(type.of, 'items[at]')}\n"
-                f"    vast_line_word(file, \"]\");\n}}\n"
-            )
+        given = ["vast_file *file", declared(c_type(type), "given")]
         if type.form == "optional":
-            return (
-                f"{head}{c_type(type)}given)\n{{\n    vast_line_word(file, given == NULL ? \"-\" : \"+\");\n"
-                f"    if (given != NULL)\n        {written(type.of, 'given', is_pointer=True)}\n}}\n"
-            )
-        rows = "\n".join(f"    {written(field.type, 'given.' + name_of(field))}" for field in type.fields)
-        return (
-            f"{head}{c_type(type)} given)\n{{\n    vast_line_word(file, \"[\");\n{rows}\n"
-            f"    vast_line_word(file, \"]\");\n}}\n"
-        )
+            rows = ['vast_line_word(file, given == NULL ? "-" : "+");', "if (given != NULL)"]
+            rows.append(f"    {written(type.of, 'given', is_pointer=True)}")
+        elif type.form == "list":
+            given.append("size_t count")
+            rows = ["for (size_t at = 0; at < count; at++)", f"    {written(type.of, 'given[at]')}"]
+        else:
+            rows = [written(field.type, f"given.{name_of(field)}") for field in type.fields]
+        if type.form != "optional":
+            rows = ['vast_line_word(file, "[");', *rows, 'vast_line_word(file, "]");']
+        return function(f"static inline void vast_line_{item(type)}", given, rows)
 
     def says(self, call):
         """What the comment of a call says."""
@@ -267,9 +262,7 @@ class CBinding:
             rows.append("return vast_line_make(file, NULL);")
         else:
             rows.append("return vast_line_make(file, made == NULL ? NULL : &made->id);")
-        head = declaration(f"static inline int32_t vast_{call.method}(", ", ".join(given), ")")
-        body = "\n".join(f"    {row}" for row in rows)
-        return f"{comment(self.says(call))}\n{head}\n{{\n{body}\n}}\n"
+        return f"{comment(self.says(call))}\n" + function(f"static inline int32_t vast_{call.method}", given, rows)
 
     # vast_values.h
 
@@ -282,24 +275,18 @@ class CBinding:
         """A call by value."""
         answer = call.answer
         type = "void" if answer.form == "nothing" else answer_type(answer)
-        head = declaration(
-            f"static inline {type} v_{call.method}(", ", ".join(parameters_of(call, "const char *")), ")"
-        )
         arguments = ["file"]
         for parameter in call.parameters:
             name = passed(parameter)
             arguments.append(f"vast_str({name})" if c_type(parameter.type) == "vast_string" else name)
-        rows = []
         if answer.form != "nothing":
             arguments.append("&answer")
-            rows.append(f"{type} answer = {NOTHING[answer.form]};")
         start = f"        file->fault = vast_{call.method}("
-        rows += ["if (file->fault == VAST_OK)", declaration(start, ", ".join(arguments), ");").strip()]
-        rows[-1] = "    " + rows[-1]
+        rows = ["if (file->fault == VAST_OK)", declaration(start, ", ".join(arguments), ");")[4:]]
         if answer.form != "nothing":
-            rows.append("return answer;")
-        body = "\n".join(f"    {row}" for row in rows)
-        return f"{head}\n{{\n{body}\n}}\n{self.operands(call)}"
+            rows = [f"{type} answer = {NOTHING[answer.form]};", *rows, "return answer;"]
+        given = parameters_of(call, "const char *")
+        return function(f"static inline {type} v_{call.method}", given, rows) + self.operands(call)
 
     def operands(self, call):
         """The macro of a call by value that takes each kind of handles which may stand for another."""
@@ -327,11 +314,6 @@ NOTHING = {
 }
 
 
-def converted(to, is_same):
-    """The body of a function that turns a handle of one kind into one of another."""
-    return "{ return given; }" if is_same else f"{{ {to} same = {{given.id}}; return same; }}"
-
-
 def article(word):
     """The word with its article."""
     return f"an {word}" if word[0] in "aeiou" else f"a {word}"
@@ -348,80 +330,3 @@ def said_of_handles():
             words = words.removeprefix("A handle of ")
             said.setdefault(name, words[0].upper() + words[1:])
     return said
-
-
-KINDS_HEAD = """/* Handles, each kind a type of its own, the enums and the groups of calls. Programs include vast_calls.h.
- *
- * {written}
- */
-#ifndef VAST_KINDS_H
-#define VAST_KINDS_H
-
-#ifndef __cplusplus
-#include <stdbool.h>
-#endif
-#include <stddef.h>
-#include <stdint.h>
-#include <string.h>
-
-/* A text of UTF-8 of so many bytes, which needs no NUL after it and may hold some. No text, where there may be none, has
- * NULL for its bytes. */
-typedef struct {{
-    const char *bytes;
-    size_t length;
-}} vast_string;
-
-/* The text that ends before a NUL, as a literal's; of NULL no text. */
-static inline vast_string vast_str(const char *string)
-{{
-    vast_string text = {{string, string == NULL ? 0 : strlen(string)}};
-    return text;
-}}
-
-/* Which file's handle it is, and its number. */
-typedef struct {{
-    uintptr_t file;
-    size_t step;
-}} vast_handle;
-
-"""
-
-CALLS_HEAD = """/* Each call as a function: `vast_make_add(&file, a, b, &sum)` makes `sum` of `a` and `b`.
- *
- * vast_file.h says how a file is opened and closed, who owns what, and what a handle is. A function returns the status of its
- * call as vast.h has them; what it gives comes by its last pointer, `made` or `answer`. A handle that is not wanted has
- * NULL for `made`. VAST_CONDITION is also for handles that are none of the file's, VAST_FORM for texts that are not UTF-8 and
- * numbers that are no variant of their enum, VAST_MEMORY and VAST_NOT_OPEN as for all. An array is a pointer and how many
- * items it has; where it has none the pointer may be NULL. What may be missing is a pointer, NULL where it is, or a text
- * without bytes.
- *
- * An expression is wanted of its own kind: `vast_expression_of(signal)` is any handle that stands for one, as one, and
- * `vast_signal_expression(signal)` and its like are the same as functions. vast_values.h has the calls by value.
- *
- * {written}
- */
-#ifndef VAST_CALLS_H
-#define VAST_CALLS_H
-
-#include "vast_file.h"
-
-"""
-
-VALUES_HEAD = """/* The calls of vast_calls.h by value: `v_make_add(&file, a, b)` is the sum, so that calls stand in calls.
- *
- * `v_NAME` makes the call that `vast_NAME` makes and returns what it gives. The first call at fault leaves its status in
- * `file.fault`; from then on no call here is made, and each returns nothing: a handle of all zeros, an empty text, 0. So it
- * is enough to look at `file.fault` at the end, and `vast_file_message` tells what was wrong. Who goes on sets it to VAST_OK.
- *
- * Texts end before a NUL. Where an expression, an `indexable` or a `scope` is wanted, each kind of handle that may stand for
- * one is taken, but for arrays, whose items are of the kind. In which order arguments are evaluated is not told, so a call that
- * adds something stands in a statement of its own.
- *
- * {written}
- */
-#ifndef VAST_VALUES_H
-#define VAST_VALUES_H
-
-#include "vast_calls.h"
-
-"""

@@ -2,7 +2,7 @@
 import re
 import textwrap
 
-WIDTH = 120
+WIDTH = 100
 
 
 def snake(word):
@@ -30,3 +30,9 @@ def declaration(start, items, end, continued=""):
             rows.append(indent)
         rows[-1] += part
     return "\n".join(rows)
+
+
+def function(start, parameters, rows):
+    """A function of such a start, which ends before its parameters, with these rows as its body."""
+    body = "\n".join(f"    {row}" for row in rows)
+    return f"{declaration(start + '(', ', '.join(parameters), ')')}\n{{\n{body}\n}}\n"

@@ -284,14 +284,16 @@ static int part_8(answers *have)
     CHECK(have->file.fault == VAST_OK && is_line(have, "AddIntLocalparam 2 \"name_81\" 3"));
     v_hoist_module_declarations(&have->file, have->module, 0);
     CHECK(have->file.fault == VAST_OK && is_line(have, "HoistModuleDeclarations 2 0"));
-    have->loop = v_add_generate_loop(&have->file, have->module, "name_83", have->signal, have->expression, "label");
+    have->loop = v_add_generate_loop(&have->file, have->module, "name_83", have->signal,
+                                     have->expression, "label");
     CHECK(have->file.fault == VAST_OK && is_line(have, "AddGenerateLoop 2 \"name_83\" 3 0 + \"label\""));
     return 0;
 }
 
 static int part_9(answers *have)
 {
-    v_generate_add_generate_loop(&have->file, have->loop, "name_84", have->signal, have->expression, "label");
+    v_generate_add_generate_loop(&have->file, have->loop, "name_84", have->signal, have->expression,
+                                 "label");
     CHECK(have->file.fault == VAST_OK && is_line(have, "GenerateAddGenerateLoop 83 \"name_84\" 3 0 + \"label\""));
     v_generate_genvar(&have->file, have->loop);
     CHECK(have->file.fault == VAST_OK && is_line(have, "GenerateGenvar 83"));
@@ -303,7 +305,8 @@ static int part_9(answers *have)
     CHECK(have->file.fault == VAST_OK && is_line(have, "GenerateAddAlwaysAt 83 [ 3 3 ]"));
     v_generate_add_localparam(&have->file, have->loop, "name_89", have->signal);
     CHECK(have->file.fault == VAST_OK && is_line(have, "GenerateAddLocalparam 83 \"name_89\" 3"));
-    have->statement = v_generate_add_continuous_assignment(&have->file, have->loop, have->signal, have->expression);
+    have->statement = v_generate_add_continuous_assignment(&have->file, have->loop, have->signal,
+                                                           have->expression);
     CHECK(have->file.fault == VAST_OK && is_line(have, "GenerateAddContinuousAssignment 83 3 0"));
     have->conditional = v_generate_add_conditional(&have->file, have->loop, have->signal);
     CHECK(have->file.fault == VAST_OK && is_line(have, "GenerateAddConditional 83 3"));
@@ -420,8 +423,9 @@ static int part_14(answers *have)
     CHECK(have->file.fault == VAST_OK && is_line(have, "MakeNonblockingAssignment 3 0"));
     v_make_blocking_assignment(&have->file, have->signal, have->expression);
     CHECK(have->file.fault == VAST_OK && is_line(have, "MakeBlockingAssignment 3 0"));
-    have->instantiation = v_make_instantiation(&have->file, "module_name_136", "instance_name_136", have->strings, 2,
-                                               have->expressions, 2, have->strings, 2, have->options, 2);
+    have->instantiation = v_make_instantiation(&have->file, "module_name_136", "instance_name_136",
+                                               have->strings, 2, have->expressions, 2,
+                                               have->strings, 2, have->options, 2);
     CHECK(have->file.fault == VAST_OK && is_line(have, "MakeInstantiation \"module_name_136\" \"instance_name_136\" [ \"first\" \"second\" ] [ 3 3 ] [ \"first\" \"second\" ] [ + 3 - ]"));
     v_generate_add_instantiation(&have->file, have->loop, have->instantiation);
     CHECK(have->file.fault == VAST_OK && is_line(have, "GenerateAddInstantiation 83 136"));
@@ -504,9 +508,9 @@ static int part_17(answers *have)
 int main(void)
 {
     static answers have; /* of all zeros, so the file is closed */
-    static int (*const parts[])(answers *) = {part_0, part_1, part_2, part_3, part_4, part_5, part_6, part_7, part_8,
-                                              part_9, part_10, part_11, part_12, part_13, part_14, part_15, part_16,
-                                              part_17};
+    static int (*const parts[])(answers *) = {part_0, part_1, part_2, part_3, part_4, part_5,
+                                              part_6, part_7, part_8, part_9, part_10, part_11,
+                                              part_12, part_13, part_14, part_15, part_16, part_17};
     vast_string text;
     CHECK(vast_file_open(&have.file, VAST_SYSTEMVERILOG) == VAST_OK);
     for (size_t part = 0; part < sizeof parts / sizeof parts[0]; part++)
