@@ -151,8 +151,8 @@ static inline bool vast_read_port(vast_string *text, vast_port *port)
     return vast_read_bytes(text, port->name) && (text->length == 0 || *text->bytes == '\n');
 }
 
-/* Takes the next port; false where there is none. Its name stands at both ends of its row, since it
- * may have any bytes. */
+/* Takes the next port; false where there is none. Its name stands at both ends of its row, so it may
+ * have spaces and line breaks. */
 static inline bool vast_next_port(vast_ports *ports, vast_port *port)
 {
     if (ports->count == 0 || !vast_read_bytes(&ports->rest, vast_str("\n")))

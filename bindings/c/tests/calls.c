@@ -144,7 +144,7 @@ static int ports(void)
     vast_file file = VAST_CLOSED_FILE;
     vast_ports found;
     vast_port port;
-    const char *odd = "x Input 1 false x\ny";
+    const char *odd = "x Input 1 false y\nz";
     CHECK(vast_file_open(&file, VAST_SYSTEMVERILOG) == VAST_OK);
     vast_module m = v_add_module(&file, "m");
     CHECK(vast_module_ports(&file, m, &found) == VAST_OK && found.count == 0 && !vast_next_port(&found, &port));
@@ -169,15 +169,15 @@ static int values(void)
     CHECK(is_none(v_make_scalar_type(&file).id) && file.fault == VAST_NOT_OPEN);
     CHECK(vast_file_open(&file, VAST_VERILOG) == VAST_OK && file.fault == VAST_OK);
     vast_module m = v_add_module(&file, "m");
-    vast_type bit = v_make_scalar_type(&file);
-    vast_signal a = v_add_wire(&file, m, "a", bit);
+    vast_type byte = v_make_bit_vector_type(&file, 8, false);
+    vast_signal a = v_add_wire(&file, m, "a", byte);
     vast_expression sum = v_make_add(&file, a, v_make_mul(&file, v_make_index(&file, a, 0), a));
     CHECK(is_text(v_emit_expression(&file, sum), "a + a[0] * a") && file.fault == VAST_OK);
-    CHECK(is_none(v_add_wire(&file, m, "a", bit).id) && file.fault == VAST_CONDITION);
-    CHECK(is_none(v_add_wire(&file, m, "b", bit).id) && v_module_name(&file, m).length == 0);
+    CHECK(is_none(v_add_wire(&file, m, "a", byte).id) && file.fault == VAST_CONDITION);
+    CHECK(is_none(v_add_wire(&file, m, "b", byte).id) && v_module_name(&file, m).length == 0);
     CHECK(is_told(&file, "8: AddWire: the name \"a\" is taken in the module"));
     file.fault = VAST_OK;
-    CHECK(!is_none(v_add_wire(&file, m, "b", bit).id) && v_module_member_count(&file, m) == 2);
+    CHECK(!is_none(v_add_wire(&file, m, "b", byte).id) && v_module_member_count(&file, m) == 2);
     vast_file_close(&file);
     return 0;
 }
