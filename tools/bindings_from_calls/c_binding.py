@@ -231,8 +231,7 @@ class CBinding:
 
     def says(self, call):
         """What the comment of a call says."""
-        meaning = MEANINGS.get(call.method) or call.meaning[0].upper() + call.meaning[1:]
-        said = [meaning + "."]
+        said = [(MEANINGS.get(call.method) or call.meaning[0].upper() + call.meaning[1:]) + "."]
         for parameter in call.parameters:
             note = NOTES.get(f"{call.method}.{parameter.name}") or NOTES.get(parameter.name)
             if note:
@@ -241,11 +240,11 @@ class CBinding:
             said.append(f"VAST_CONDITION unless: {', '.join(CONDITIONS[it] for it in call.conditions)}.")
         if call.method in REFUSALS:
             said.append(f"VAST_REFUSED {REFUSALS[call.method]}.")
-        return re.sub(r"`(\w+)`", self.in_c, in_c("\n".join(said)))
+        return self.in_c("\n".join(said))
 
-    def in_c(self, found):
-        """A word between ticks; a call's name as C has it."""
-        return f"`vast_{found[1]}`" if found[1] in self.methods else found[0]
+    def in_c(self, words):
+        """The words of a comment, with the names of calls as C has them."""
+        return re.sub(r"`(\w+)`", lambda it: f"`vast_{it[1]}`" if it[1] in self.methods else it[0], in_c(words))
 
     def call(self, call):
         """The function of a call."""
@@ -286,7 +285,8 @@ class CBinding:
         if answer.form != "nothing":
             rows = [f"{type} answer = {NOTHING[answer.form]};", *rows, "return answer;"]
         given = parameters_of(call, "const char *")
-        return function(f"static inline {type} v_{call.method}", given, rows) + self.operands(call)
+        said = comment(self.in_c(f"`{call.method}`: {call.meaning}."))
+        return f"{said}\n" + function(f"static inline {type} v_{call.method}", given, rows) + self.operands(call)
 
     def operands(self, call):
         """The macro of a call by value that takes each kind of handles which may stand for another."""

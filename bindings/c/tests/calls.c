@@ -80,7 +80,7 @@ static int refused_text(void)
     vast_assignment drive = v_make_continuous_assignment(&file, a, v_make_index(&file, a, 1));
     v_add_member_continuous_assignment(&file, m, drive);
     CHECK(file.fault == VAST_OK && vast_emit(&file, &text) == VAST_REFUSED && is_text(text, ""));
-    CHECK(is_told(&file, "4: MakeIndex: a scalar signal can only be indexed with zero"));
+    CHECK(is_told(&file, "4: a scalar signal can only be indexed with zero"));
     vast_file_close(&file);
     return 0;
 }
