@@ -96,6 +96,8 @@ static inline void vast_line_begin(vast_file *file, const char *call)
     vast_line_bytes(file, call, strlen(call));
 }
 
+/* Arguments, each after a space. */
+
 static inline void vast_line_word(vast_file *file, const char *word)
 {
     vast_line_bytes(file, " ", 1);
