@@ -1,15 +1,16 @@
 """The headers of the C binding: `vast_kinds.h`, the handles, enums and groups; `vast_calls.h`, a function for each call, which
 returns a status; `vast_values.h`, the same calls by value; and programs that make each call, `tests/every_call.c` and
 `tests/every_value.c`."""
+import pathlib
 import re
 
 from c_heads import CALLS_HEAD, KINDS_HEAD, VALUES_HEAD
 from c_test import every_call, every_value
 from c_text import comment, declaration, function, snake
 from python_words import CONDITIONS, MEANINGS, NOTES, REFUSALS, SAYS
-from rust_binding import ROOT
 from table import parts
 
+ROOT = pathlib.Path(__file__).resolve().parent.parent.parent
 FOLDER = "bindings/c"
 WRITTEN = "Written by tools/bindings_from_calls from the table of calls; not to be edited."
 # Names that are words of C.
