@@ -25,7 +25,7 @@ static int write_text(vast_session *session, int32_t text, FILE *to)
 {
     uint8_t none;
     size_t length = vast_text(session, text, &none, 0);
-    uint8_t *room = malloc(length + 1);
+    uint8_t *room = (uint8_t *)malloc(length + 1);
     if (!room)
         return 1;
     vast_text(session, text, room, length);

@@ -1,27 +1,10 @@
 /* Each request for memory is refused in turn, of all that the counter's session and its warnings ask for: the call whose
  * request it is answers VAST_MEMORY and leaves the session as it was, and made again it gives what it gives undisturbed.
- * Linked with -Wl,--wrap=malloc -Wl,--wrap=realloc. The last line counts; the status is 1 where an answer was another. */
+ */
+#include "refusing.h"
 #include "vast.h"
 
-#include <stdio.h>
-#include <stdlib.h>
 #include <string.h>
-
-static long left = -1; /* requests before the one that is refused; below 0: none is */
-static int was_refused;
-
-static int is_refused(void)
-{
-    if (left < 0 || left-- > 0)
-        return 0;
-    was_refused = 1;
-    return 1;
-}
-
-void *__real_malloc(size_t size);
-void *__real_realloc(void *old, size_t size);
-void *__wrap_malloc(size_t size) { return is_refused() ? NULL : __real_malloc(size); }
-void *__wrap_realloc(void *old, size_t size) { return is_refused() ? NULL : __real_realloc(old, size); }
 
 static const char *const lines[] = {
     "counter = AddModule \"counter\"",
@@ -114,20 +97,5 @@ static int session_with(long k)
 
 int main(void)
 {
-    long request = 0, answers = 0;
-    if (session_with(-1) != 0)
-        return 1;
-    for (;; request++) {
-        was_refused = 0;
-        int refused = session_with(request);
-        if (refused < 0 || refused > was_refused) {
-            printf("request %ld: another answer\n", request);
-            return 1;
-        }
-        if (!was_refused)
-            break;
-        answers += refused;
-    }
-    printf("refused: %ld requests in turn, %ld told by VAST_MEMORY\n", request, answers);
-    return answers == 0;
+    return refuse_each(session_with);
 }

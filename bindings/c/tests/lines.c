@@ -1,17 +1,9 @@
 /* Each function of vast.h, each status, each text and each number, on two sessions at once.
  * Says the first check that fails, with its line, and ends with status 1. */
+#include "check.h"
 #include "vast.h"
 
-#include <stdio.h>
 #include <string.h>
-
-#define CHECK(condition)                                                            \
-    do {                                                                            \
-        if (!(condition)) {                                                         \
-            fprintf(stderr, "%s:%d: %s does not hold\n", __FILE__, __LINE__, #condition); \
-            return 1;                                                               \
-        }                                                                           \
-    } while (0)
 
 static int32_t lines(vast_session *session, const char *text, size_t *taken)
 {
@@ -60,7 +52,7 @@ static int made(void)
     CHECK(is_text(&one, VAST_FILE, ""));
     CHECK(vast_print(&one) == VAST_OK && is_text(&one, VAST_FILE, "module first;\n  wire a;\nendmodule\n"));
     CHECK(vast_print(&other) == VAST_OK && is_text(&other, VAST_FILE, "module second;\n\nendmodule\n"));
-    uint8_t room[4] = "....";
+    uint8_t room[4] = {'.', '.', '.', '.'};
     CHECK(vast_text(&one, VAST_FILE, room, 3) == 34 && memcmp(room, "mod.", 4) == 0);
     CHECK(vast_text(&one, 99, room, 3) == 0 && vast_number(&one, 99) == 0);
     CHECK(vast_open(&one, VAST_VERILOG) == VAST_OK && vast_number(&one, VAST_COUNT) == 0);
@@ -117,7 +109,7 @@ static int warnings(void)
     CHECK(is_told(VAST_SYSTEMVERILOG, repeated, told));
     CHECK(is_told(VAST_VERILOG, "MakeNot 0\nm = AddModule \"m\"\nAddModule \"m\"", "3: AddModule: a second module of the name"
                                 " is no SystemVerilog (Icarus refuses it)\n"));
-    uint8_t room[4] = "....";
+    uint8_t room[4] = {'.', '.', '.', '.'};
     size_t all = 7;
     CHECK(vast_warnings(2, (const uint8_t *)module, strlen(module), room, 3, &all) == VAST_NO_DIALECT);
     CHECK(all == 0 && memcmp(room, "....", 4) == 0);
