@@ -15,8 +15,8 @@ HERE = os.path.dirname(os.path.abspath(__file__))
 LIBRARY = f"{HERE}/../out/libvast.so"
 # The first time that a zip file can name: 1980-01-01.
 EARLIEST = 315532800
-# The oldest C library for which pip knows a name of such wheels.
-OLDEST_GLIBC = 5
+# The oldest C library that a wheel is tagged for, glibc 2.17, which is that of manylinux2014.
+OLDEST_GLIBC = 17
 
 
 def build_wheel(wheel_directory, config_settings=None, metadata_directory=None):
