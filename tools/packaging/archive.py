@@ -1,8 +1,8 @@
 """An archive of files, which is the same bytes for the same files."""
 import gzip
 import io
-import os
 import tarfile
+from pathlib import PurePosixPath
 from typing import NamedTuple
 
 
@@ -27,11 +27,7 @@ def archive(top, files, date):
 
 def folders_of(paths):
     """The folders that the paths lie in."""
-    found = set()
-    for path in paths:
-        while path := os.path.dirname(path):
-            found.add(path)
-    return found
+    return {str(folder) for path in paths for folder in PurePosixPath(path).parents if folder.name}
 
 
 def header(path, entry, date):

@@ -71,19 +71,16 @@ def refuse_stale(built, path):
     """Refuses what isn't there, and what is older than one of the sources that it was built from."""
     if not os.path.isfile(path):
         raise Refusal(f"{path} isn't there: `rt ci` makes the programs, then `tools/bindings` the libraries")
-    source = max(sources_of(built.crate), key=os.path.getmtime)
-    if os.path.getmtime(path) < os.path.getmtime(source):
-        raise Refusal(f"{path} is older than {os.path.relpath(source, ROOT)}: run `rt ci`, then `tools/bindings`")
+    source = max(sources_of(built.crate), key=lambda it: os.path.getmtime(f"{ROOT}/{it}"))
+    if os.path.getmtime(path) < os.path.getmtime(f"{ROOT}/{source}"):
+        raise Refusal(f"{path} is older than {source}: run `rt ci`, then `tools/bindings`")
 
 
 def sources_of(crate):
     """The sources of a crate and of those that it stands on."""
     with open(f"{ROOT}/crates.txt", encoding="utf-8") as file:
         below = re.search(rf"^{crate}\b[^:]*:(.*)$", file.read(), re.M).group(1).split()
-    for name in [crate, *below]:
-        for part in ("src", "specs", "proofs"):
-            for at, _, files in os.walk(f"{ROOT}/crates/{name}/{part}"):
-                yield from (f"{at}/{it}" for it in files)
+    return [path for name in [crate, *below] for path in tracked(f"crates/{name}", r"(src|specs|proofs)/.*")]
 
 
 def refuse_other_calls(program):

@@ -17,8 +17,8 @@ their version, their calls and their functions tell. `rust/xlsynth-vast/libvast.
 one, in `lib/` and in the wheel, is linked from it by the C compiler.
 
 What is proved stands below in the words of the repository's `README.md` and `docs/believe/PROOFS.md`. Tested and not
-proved are the crate for Rust and the package for Python, which write lines of calls and hand them to the library, and
-the rest of this release; the compilers and the linker are trusted.
+proved are the crate for Rust and the package for Python, which hand each call to the library, and the rest of this
+release; the compilers and the linker are trusted.
 
 ## The main statement
 
