@@ -53,10 +53,9 @@ def built_files(version):
     paths = {it.name: path_of(it) for it in BUILT}
     for it in BUILT:
         refuse_stale(it, paths[it.name])
+    refuse_other_version(paths["vast_replay"], version)
+    refuse_other_version(paths["vast_check"], version)
     refuse_other_calls(paths["vast_replay"])
-    for program in ("vast_replay", "vast_check"):
-        if version not in printed(paths[program], "--version"):
-            raise Refusal(f"{paths[program]} is not of version {version}")
     refuse_other_functions(paths["libvast.so"])
     return paths
 
@@ -81,6 +80,12 @@ def sources_of(crate):
     with open(f"{ROOT}/crates.txt", encoding="utf-8") as file:
         below = re.search(rf"^{crate}\b[^:]*:(.*)$", file.read(), re.M).group(1).split()
     return [path for name in [crate, *below] for path in tracked(f"crates/{name}", r"(src|specs|proofs)/.*")]
+
+
+def refuse_other_version(program, version):
+    """Refuses a program that doesn't say this version."""
+    if f" {version}" not in printed(program, "--version"):
+        raise Refusal(f"{program} is not of version {version}")
 
 
 def refuse_other_calls(program):

@@ -1,5 +1,6 @@
 """What stands in a release."""
 import os
+import re
 import sys
 
 from archive import Entry
@@ -74,7 +75,5 @@ def libraries(version, built):
 def filled(words):
     """The files that are made for the release, with these words in their places."""
     for path in tracked(FILLED, r".*"):
-        text = read(f"{ROOT}/{path}").decode()
-        for name, word in words.items():
-            text = text.replace(f"@{name}@", word)
+        text = re.sub(r"@([A-Z_]+)@", lambda found: words[found[1]], read(f"{ROOT}/{path}").decode())
         yield os.path.relpath(path, FILLED), Entry(text.encode())
