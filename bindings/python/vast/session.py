@@ -325,9 +325,11 @@ class ListSession:
 
 @functools.lru_cache(maxsize=None)
 def found_library() -> Optional[CDLL]:
-    """The shared library: that of the path VAST_LIBRARY, or as `tools/bindings` leaves it; an empty path is none."""
-    path = os.environ.get("VAST_LIBRARY", f"{_ROOT}/bindings/out/libvast.so")
-    return load_library(path) if os.path.exists(path) else None
+    """The shared library: that of the path VAST_LIBRARY, of which an empty one is none; without it that in the package, as
+    a wheel has it, or that which `tools/bindings` left in this checkout."""
+    named = os.environ.get("VAST_LIBRARY")
+    paths = [f"{_HERE}/libvast.so", f"{_ROOT}/bindings/out/libvast.so"] if named is None else [named]
+    return next((load_library(path) for path in paths if os.path.exists(path)), None)
 
 
 def found_program() -> Optional[str]:
