@@ -35,7 +35,7 @@ wrapped_opens true true p f = refl
 wrapped_opens false true p f = refl
 wrapped_opens tight false p f = f refl
 
-front : (tight : Bool) (p q : Printed) → opens tight p.text ≡ true → opens tight (p ⊕ q).text ≡ true
+pub front : (tight : Bool) (p q : Printed) → opens tight p.text ≡ true → opens tight (p ⊕ q).text ≡ true
 unfolding ◌⊕◌
 front tight p q h = opens-append tight p.text q.text h
 

@@ -8,9 +8,9 @@ pub first_none : (a b : Option Refusal) → first_fault a b ≡ None → (a ≡ 
 first_none None b e = (refl, e)
 first_none (Some r) b e = absurd (cc e)
 
-pub both_fine : (p q : Printed) → (p ⊕ q).fault ≡ None → (p.fault ≡ None) × (q.fault ≡ None)
-unfolding ◌⊕◌
-both_fine p q e = first_none p.fault q.fault e
+pub first_assoc : (a b c : Option Refusal) → first_fault (first_fault a b) c ≡ first_fault a (first_fault b c)
+first_assoc None b c = refl
+first_assoc (Some r) b c = refl
 
 pub wrapped_fine : (b : Bool) (p : Printed) → (wrapped b p).fault ≡ None → p.fault ≡ None
 unfolding wrapped ◌⊕◌ plain_text
