@@ -2,8 +2,7 @@
 use Rattle.std.proofs.Common.{◌≡◌, List, [], ◌∷◌, map, true, ◌&&◌, refl, append_assoc, codes}
 use Rattle.vast_literal.specs.Tokens.{Token, Mark}
 use Rattle.vast_literal.specs.declared.token.Mark.TheVariants.{OpenParen, CloseParen, Semicolon, Comma, Dot, Hash}
-use Rattle.vast_literal.specs.Tree.{MaybeExpr, NoExpr, SomeExpr}
-use Rattle.vast_literal.specs.Tree.{Connection}
+use Rattle.vast_literal.specs.Tree.{MaybeExpr, NoExpr, SomeExpr, Connection}
 use Rattle.vast_literal.specs.Scan.{scan}
 use Rattle.vast_literal.specs.Plain.{is_plain_name}
 use Rattle.vast_literal.specs.PlainFile.{is_plain_maybe, are_plain_connections}
@@ -16,7 +15,7 @@ use Rattle.vast_literal.proofs.Words.{name_reads}
 use Rattle.vast_print.specs.Printed.{Printed}
 use Rattle.vast_print.specs.Page.{line}
 use Rattle.vast_print.specs.Members.{entries_page, value_text, connection_text, connections_page}
-use Rattle.vast_print.proofs.Shapes.{Prints, nothing_reads, sum_assoc, stands, after, closed, parted}
+use Rattle.vast_print.proofs.Shapes.{Prints, nothing_reads, sum_assoc, stands, after, closed, enclosing}
 use Rattle.vast_print.proofs.ExprReads.{expr_reads}
 use Rattle.vast_print.proofs.PageReads.{Whole, page_regrouped, whole_above, whole_lead, whole_none, whole_line, whole_written, whole_blank}
 
@@ -50,7 +49,7 @@ value_reads (SomeExpr e) p w = expr_reads e p w
 
 connection_reads : (c : Connection) → is_plain_name c.name ≡ true → is_plain_maybe c.value ≡ true → is_well_formed_maybe c.value ≡ true → Prints Reads (connection_text c) (connection_tokens c)
 unfolding connection_text connection_tokens
-connection_reads c p q w = simp sum_assoc (after (stands _ dot_free) (parted (stands _ (name_reads c.name p)) open_paren (closed (value_reads c.value q w) close_paren)))
+connection_reads c p q w = simp sum_assoc (after (stands _ dot_free) (enclosing (stands _ (name_reads c.name p)) open_paren (value_reads c.value q w) close_paren))
 
 pub connections_read : (cs : List Connection) → are_plain_connections cs ≡ true → are_well_formed_connections cs ≡ true → AllRead (map connection_text cs) (each_connection cs)
 unfolding each_connection

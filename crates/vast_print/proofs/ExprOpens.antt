@@ -5,8 +5,7 @@ use Rattle.vast_literal.specs.declared.operator.UnaryOperator.{UnaryOperator as 
 use Rattle.vast_literal.specs.declared.operator.UnaryOperator.TheVariants.{Negate as NegateOp}
 use Rattle.vast_literal.specs.declared.operator.BinaryOperator.{BinaryOperator as BinaryOp}
 use Rattle.vast_literal.specs.declared.operator.BinaryOperator.TheVariants.{Add as AddOp}
-use Rattle.vast_literal.specs.Tree.{ExprTree, NameTree, LiteralTree, StringTree, UnaryTree, BinaryTree, TernaryTree, IndexTree, SliceTree, PartSelectTree, ConcatTree, PatternTree, WidthCastTree, TypeCastTree, PosEdgeTree, NegEdgeTree, MacroTree, CallTree, MissingExpr}
-use Rattle.vast_literal.specs.Tree.{TypeTree, ScalarTree, VectorTree, IntegerTree, IntTree, ExternalTree, PackageTree, PackedTree, UnpackedTree, MissingType}
+use Rattle.vast_literal.specs.Tree.{ExprTree, NameTree, LiteralTree, StringTree, UnaryTree, BinaryTree, TernaryTree, IndexTree, SliceTree, PartSelectTree, ConcatTree, PatternTree, WidthCastTree, TypeCastTree, PosEdgeTree, NegEdgeTree, MacroTree, CallTree, MissingExpr, TypeTree, ScalarTree, VectorTree, IntegerTree, IntTree, ExternalTree, PackageTree, PackedTree, UnpackedTree, MissingType}
 use Rattle.vast_literal.specs.Scan.{is_letter, is_digit, is_word_byte}
 use Rattle.vast_literal.specs.LiteralToken.{every, is_number, is_based, is_filled, is_based_tail, is_bare_literal, is_literal_text, is_string_text}
 use Rattle.vast_literal.specs.Plain.{is_identifier, is_plain_name, is_called_name, is_plain, is_plain_type}

@@ -7,14 +7,12 @@ use Rattle.vast_literal.specs.declared.token.Mark.TheVariants.{Apostrophe, OpenP
 use Rattle.vast_literal.specs.declared.token.Key.{Key}
 use Rattle.vast_literal.specs.declared.token.Key.TheVariants.{Logic as LogicKey, Signed as SignedKey, Unsigned as UnsignedKey, Integer as IntegerKey, Int as IntKey}
 use Rattle.vast_literal.specs.declared.operator.UnaryOperator.{UnaryOperator as UnaryOp}
-use Rattle.vast_literal.specs.Tree.{ExprTree, NameTree, LiteralTree, StringTree, UnaryTree, BinaryTree, TernaryTree, IndexTree, SliceTree, PartSelectTree, ConcatTree, PatternTree, WidthCastTree, TypeCastTree, PosEdgeTree, NegEdgeTree, MacroTree, CallTree, MissingExpr}
-use Rattle.vast_literal.specs.Tree.{TypeTree, ScalarTree, VectorTree, IntegerTree, IntTree, ExternalTree, PackageTree}
-use Rattle.vast_literal.specs.Tree.{NoExpr, SomeExpr, Exprs, NoExprs, MoreExprs, NoArguments, SomeArguments}
+use Rattle.vast_literal.specs.Tree.{ExprTree, NameTree, LiteralTree, StringTree, UnaryTree, BinaryTree, TernaryTree, IndexTree, SliceTree, PartSelectTree, ConcatTree, PatternTree, WidthCastTree, TypeCastTree, PosEdgeTree, NegEdgeTree, MacroTree, CallTree, MissingExpr, TypeTree, ScalarTree, VectorTree, IntegerTree, IntTree, ExternalTree, PackageTree, NoExpr, SomeExpr, Exprs, NoExprs, MoreExprs, NoArguments, SomeArguments}
 use Rattle.vast_literal.specs.Scan as Scan
 use Rattle.vast_literal.specs.Scan.{tokens}
 use Rattle.vast_literal.specs.Grammar.{DerivesExpression}
 use Rattle.vast_literal.specs.NormalExpr.{normal, signing_key, scalar_sign, integer_sign, binary_operator_token}
-use Rattle.vast_literal.proofs.Pieces.{add_tokens-nil, sign_reads, operator_divides}
+use Rattle.vast_literal.proofs.Pieces.{add_tokens-nil, sign_reads, operator_divides, as_reads, open_paren, close_paren, open_bracket, close_bracket, open_brace, close_brace, comma, question, colon}
 use Rattle.vast_literal.proofs.Spelled.{spelled, low}
 use Rattle.vast_literal.proofs.Longest.{scan_lexes}
 use Rattle.vast_literal.specs.Plain.{is_plain_name, is_called_name, is_plain, is_plain_type, are_plain}
@@ -23,7 +21,6 @@ use Rattle.vast_literal.proofs.ExprTokens as Tokens
 use Rattle.vast_literal.specs.WellFormed.{is_well_formed, is_well_formed_type, is_cast_type, are_well_formed, is_positive}
 use Rattle.vast_literal.proofs.ScanLaws.{and_left, and_right}
 use Rattle.vast_literal.proofs.TokenReads.{Free, Reads}
-use Rattle.vast_literal.proofs.Pieces.{as_reads, open_paren, close_paren, open_bracket, close_bracket, open_brace, close_brace, comma, question, colon}
 use Rattle.vast_literal.proofs.LiteralLaws.{literal_reads}
 use Rattle.vast_literal.proofs.Words.{name_reads, number_reads, string_reads, macro_reads, called_reads, name_cast_free, key_cast_free, plus_colon, pattern_open}
 use Rattle.vast_literal.specs.Shape.{is_scalar_name, is_zero, left_child_wraps, right_child_wraps, select_wraps, ternary_wraps, unary_wraps}
@@ -34,7 +31,7 @@ use Rattle.vast_print.specs.Bare.{is_bare}
 use Rattle.vast_print.specs.Text.{elided, cast_to, width_cast, sign_cast, scalar_cast, number_cast, package_text, expr_text, list_text, more_text, type_cast}
 use Rattle.vast_print.proofs.FaultLaws.{first_none, wrapped_fine}
 use Rattle.vast_print.proofs.ExprOpens.{front, opens_text, wrapped_opens}
-use Rattle.vast_print.proofs.Shapes.{Prints, nothing_reads, Rest, regrouped, sum_assoc, stands, rest_none, after, closed, parted, parted_by_colon, goes_on, rest_more, in_parentheses, bracketed, head_reads}
+use Rattle.vast_print.proofs.Shapes.{Prints, nothing_reads, Rest, regrouped, sum_assoc, stands, rest_none, after, closed, parted, enclosing, parted_by_colon, goes_on, rest_more, in_parentheses, bracketed, head_reads}
 use Rattle.vast_print.proofs.CastReads.{operand_tight, positive_number, pick_reads, package_free, head_of_text, head_of_tree}
 
 -- Each form of expression over its parts.
@@ -116,7 +113,7 @@ mutual
   expr_reads (IndexTree s i) p w =
       let r = expr_reads s (and_left _ _ p) (and_left _ _ w) in
       pick_told (is_scalar_name s) (is_zero i) ScalarIndex r
-      (simp sum_assoc (parted (bracketed (select_wraps s) r) open_bracket (closed (expr_reads i (and_right (is_plain s) _ p) (and_right (is_well_formed s) _ w)) close_bracket)))
+      (simp sum_assoc (enclosing (bracketed (select_wraps s) r) open_bracket (expr_reads i (and_right (is_plain s) _ p) (and_right (is_well_formed s) _ w)) close_bracket))
   expr_reads (SliceTree s a b) p w =
       let p1 = and_right (is_plain s) (is_plain a && is_plain b) p in
       let w1 = and_right (is_well_formed s) (is_well_formed a && is_well_formed b) w in
@@ -142,7 +139,7 @@ mutual
   expr_reads (NegEdgeTree e) p w = absurd (cc p)
   expr_reads (MacroTree m NoArguments) p w = goes_on (macro_name m p) rest_none
   expr_reads (MacroTree m (SomeArguments es)) p w = goes_on (macro_name m (and_left _ _ p)) (in_parentheses (list_reads es (and_right (is_plain_name m) _ p) w))
-  expr_reads (CallTree n es) p w = simp sum_assoc (parted (stands _ (called_reads n (and_left _ _ p))) open_paren (closed (list_reads es (and_right (is_called_name n) _ p) w) close_paren))
+  expr_reads (CallTree n es) p w = simp sum_assoc (enclosing (stands _ (called_reads n (and_left _ _ p))) open_paren (list_reads es (and_right (is_called_name n) _ p) w) close_paren)
   expr_reads MissingExpr p w = absurd (cc w)
 
   type_reads : (t : TypeTree) {q : Printed} {ts : List Token} → is_plain_type t ≡ true → is_cast_type t ≡ true → is_well_formed_type t ≡ true → Prints Reads q ts → Prints Reads (type_cast t q) (cast_tokens t ts)

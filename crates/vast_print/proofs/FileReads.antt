@@ -1,54 +1,40 @@
 -- The grammar derives the normal form of a plain file from its printed layout.
-use Rattle.std.proofs.Common.{◌≡◌, ℕ, List, [], ◌∷◌, ◌++◌, map, true, false, ◌&&◌, Some, None, refl, append_assoc, codes}
-use Rattle.vast_literal.specs.Tokens.{Token, key_text, Reserved, Mark, Word}
+use Rattle.std.proofs.Common.{◌≡◌, ℕ, List, [], ◌∷◌, ◌++◌, map, true, false, ◌&&◌, Some, None, refl, append_assoc, codes, ◌||◌, eqb}
+use Rattle.vast_literal.specs.Tokens.{Token, key_text, Reserved, Mark, Word, MacroWord, Quoted}
 use Rattle.vast_literal.specs.declared.token.Mark.TheVariants.{OpenParen, CloseParen, Semicolon}
-use Rattle.vast_literal.specs.declared.token.Key.TheVariants.{Input as InputKey, Parameter as ParameterKey}
+use Rattle.vast_literal.specs.declared.token.Key.TheVariants.{Input as InputKey, Parameter as ParameterKey, Module as ModuleKey, EndModule as EndModuleKey, Output as OutputKey, InOut as InOutKey}
 use Rattle.vast_literal.specs.declared.kind.VastFileType.{VastFileType as Dialect}
-use Rattle.vast_literal.specs.Scan.{scan}
+use Rattle.vast_literal.specs.Scan.{scan, tokens}
 use Rattle.vast_literal.specs.Plain.{is_plain_name, is_plain}
-use Rattle.vast_literal.specs.PlainFile.{is_plain_declared}
+use Rattle.vast_literal.specs.PlainFile.{is_plain_declared, are_plain_members, are_plain_ports, is_plain_typed, are_plain_parameters, is_plain_module, is_path_byte, are_plain_items, is_plain_file}
 use Rattle.vast_literal.specs.WellFormed.{is_well_formed, is_well_formed_type}
-use Rattle.vast_literal.proofs.FileTokens.{separated}
+use Rattle.vast_literal.proofs.FileTokens.{separated, member_tokens, members_tokens, each_port, typed_tokens, each_parameter, header_parameter_tokens, header_port_tokens, module_tokens, item_tokens, items_tokens, file_tokens}
 use Rattle.vast_literal.proofs.TokenReads.{Free, Divides, Reads}
-use Rattle.vast_literal.proofs.ScanLaws.{and_left, and_right}
+use Rattle.vast_literal.proofs.ScanLaws.{and_left, and_right, scan_macro, not_or_left, not_or_right, or_left, or_right}
 use Rattle.vast_literal.proofs.Pieces.{reads_sep, open_paren}
-use Rattle.vast_literal.proofs.Words.{key_reads, name_reads}
+use Rattle.vast_literal.proofs.Words.{key_reads, name_reads, string_reads}
 use Rattle.vast_literal.specs.Shape.{base_kind, base_of}
 use Rattle.vast_print.specs.Printed.{plain_text, ◌⊕◌}
-use Rattle.vast_print.specs.Page.{Page}
+use Rattle.vast_print.specs.Page.{Page, print}
 use Rattle.vast_print.proofs.Shapes.{Prints, sum_assoc, stands, after, closed, parted}
 use Rattle.vast_print.proofs.DeclarationReads.{declaration_reads}
 use Rattle.vast_print.proofs.ExprReads.{expr_reads}
-use Rattle.vast_print.proofs.PageReads.{Whole, page_regrouped, whole_above, whole_inner, whole_none, whole_line, whole_written, whole_blank, space_divides, equals, semicolon, key_space}
-use Rattle.vast_literal.specs.PlainFile.{are_plain_members}
-use Rattle.vast_literal.specs.WellFormedFile.{are_well_formed_members}
-use Rattle.vast_literal.specs.Tree.{Members, NoMembers, MoreMembers}
-use Rattle.vast_literal.proofs.FileTokens.{member_tokens, members_tokens}
+use Rattle.vast_print.proofs.PageReads.{Whole, page_regrouped, whole_above, whole_inner, whole_none, whole_line, whole_written, whole_blank, space_divides, equals, semicolon, key_space, whole_comment}
+use Rattle.vast_literal.specs.WellFormedFile.{are_well_formed_members, are_well_formed_ports, is_well_formed_typed, are_well_formed_parameters, is_well_formed_module, are_well_formed_items, is_well_formed_file}
+use Rattle.vast_literal.specs.Tree.{Members, NoMembers, MoreMembers, MaybeType, Untyped, Typed, PortTree, ParameterPortTree, ModuleTree, FileItemTree, ModuleItem, IncludeItem, CommentItem, BlankItem, FileTree}
 use Rattle.vast_print.specs.Members.{members_page}
-use Rattle.vast_print.proofs.PageReads.{whole_comment}
-use Rattle.std.proofs.Common.{◌||◌, eqb}
-use Rattle.vast_literal.specs.Tokens.{MacroWord, Quoted}
-use Rattle.vast_literal.specs.declared.token.Key.TheVariants.{Module as ModuleKey, EndModule as EndModuleKey, Output as OutputKey, InOut as InOutKey}
-use Rattle.vast_literal.specs.Tree.{MaybeType, Untyped, Typed, PortTree, ParameterPortTree, ModuleTree, FileItemTree, ModuleItem, IncludeItem, CommentItem, BlankItem, FileTree}
 use Rattle.vast_literal.specs.declared.kind.ModulePortDirection.{ModulePortDirection as PortDirection}
 use Rattle.vast_literal.specs.declared.kind.ModulePortDirection.TheVariants.{Input as InputDirection, Output as OutputDirection, InOut as InOutDirection}
-use Rattle.vast_literal.specs.Scan.{tokens}
 use Rattle.vast_literal.specs.LiteralToken.{every, is_string_rest}
-use Rattle.vast_literal.specs.PlainFile.{are_plain_ports, is_plain_typed, are_plain_parameters, is_plain_module, is_path_byte, are_plain_items, is_plain_file}
-use Rattle.vast_literal.specs.WellFormedFile.{are_well_formed_ports, is_well_formed_typed, are_well_formed_parameters, is_well_formed_module, are_well_formed_items, is_well_formed_file}
 use Rattle.vast_literal.specs.NormalTree.{direction_key, normal_file}
-use Rattle.vast_literal.proofs.FileTokens.{each_port, typed_tokens, each_parameter, header_parameter_tokens, header_port_tokens, module_tokens, item_tokens, items_tokens, file_tokens}
 use Rattle.vast_literal.specs.FileGrammar.{DerivesFile}
-use Rattle.vast_literal.proofs.Words.{string_reads}
 use Rattle.vast_literal.proofs.FilesSpelled.{file_spelled}
 use Rattle.vast_literal.proofs.Longest.{scan_lexes}
-use Rattle.vast_print.specs.Page.{print}
 use Rattle.vast_print.specs.Layout.{direction_word, port_text, typed_text, parameter_port_text, ports_page, parameter_ports_page, opening_page, header_page, body_page, module_page, item_page, items_page, layout}
 use Rattle.vast_print.proofs.PageLines.{print_tokens}
 use Rattle.vast_print.proofs.EntryReads.{AllRead, all_none, all_more, entries_whole, hash_open, list_closed}
 use Rattle.vast_print.proofs.FunctionReads.{port_reads}
 use Rattle.vast_print.proofs.MemberReads.{members_whole}
-use Rattle.vast_literal.proofs.ScanLaws.{scan_macro, not_or_left, not_or_right, or_left, or_right}
 
 -- ports
 

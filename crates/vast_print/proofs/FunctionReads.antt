@@ -3,10 +3,8 @@ use Rattle.std.proofs.Common.{◌≡◌, List, [], ◌∷◌, ◌++◌, Bool, tr
 use Rattle.vast_literal.specs.Tokens.{Token, key_text, Reserved, Mark}
 use Rattle.vast_literal.specs.declared.token.Mark.TheVariants.{Comma}
 use Rattle.vast_literal.specs.declared.token.Key.TheVariants.{Function as FunctionKey, Automatic as AutomaticKey, EndFunction as EndFunctionKey, Input as InputKey}
-use Rattle.vast_literal.specs.Tree.{Declaration}
+use Rattle.vast_literal.specs.Tree.{Declaration, FunctionTree, Statements}
 use Rattle.vast_literal.specs.declared.kind.VastFileType.{VastFileType as Dialect}
-use Rattle.vast_literal.specs.Tree.{FunctionTree}
-use Rattle.vast_literal.specs.Tree.{Statements}
 use Rattle.vast_literal.specs.PlainFile.{is_plain_declaration, is_plain_declared, are_plain_statements, is_plain_function}
 use Rattle.vast_literal.specs.WellFormed.{is_well_formed_type}
 use Rattle.vast_literal.specs.WellFormedFile.{are_well_formed_statements, are_well_formed_inputs, are_well_formed_locals, is_well_formed_function, is_local_word}
@@ -15,12 +13,11 @@ use Rattle.vast_literal.proofs.TokenReads.{Free, Reads}
 use Rattle.vast_literal.proofs.ScanLaws.{and_left, and_right}
 use Rattle.vast_literal.proofs.Pieces.{free_free, comma}
 use Rattle.vast_literal.proofs.Words.{key_reads}
-use Rattle.vast_literal.specs.Shape.{port_kind, result_kind}
+use Rattle.vast_literal.specs.Shape.{port_kind, result_kind, is_one_casez}
 use Rattle.vast_print.specs.Declaration.{declared_text, port_declaration_text}
 use Rattle.vast_print.specs.Statements.{statements_page, block_page}
 use Rattle.vast_print.specs.Members.{input_text, more_inputs_text, inputs_text, local_page, locals_page, function_body_page, function_page}
-use Rattle.vast_literal.specs.Shape.{is_one_casez}
-use Rattle.vast_print.proofs.Shapes.{Prints, nothing_reads, Rest, regrouped, leftward, stands, rest_none, after, closed, parted, goes_on, rest_more}
+use Rattle.vast_print.proofs.Shapes.{Prints, nothing_reads, Rest, regrouped, leftward, stands, rest_none, after, closed, enclosing, goes_on, rest_more}
 use Rattle.vast_print.proofs.DeclarationReads.{declaration_reads}
 use Rattle.vast_print.proofs.StatementReads.{statements_whole, block_open}
 use Rattle.vast_print.proofs.PageReads.{Whole, page_regrouped, whole_above, whole_inner, whole_none, whole, whole_line, whole_written, space_open, semicolon, key_space}
@@ -94,7 +91,7 @@ function_whole dialect f p w =
     let w1 = and_right (is_well_formed_type f.result) (are_well_formed_inputs f.inputs && (are_well_formed_locals f.locals && are_well_formed_statements f.body)) w in
     let p2 = and_right (every is_plain_declared f.inputs) (every is_plain_declared f.locals && are_plain_statements f.body) p1 in
     let w2 = and_right (are_well_formed_inputs f.inputs) (are_well_formed_locals f.locals && are_well_formed_statements f.body) w1 in
-    page_regrouped (whole_above (whole_written (leftward _ _ _ (leftward _ _ _ (leftward _ _ _ (after (stands _ function_opens) (parted (declaration_reads dialect (result_kind dialect f.result) f.result f.name (and_left _ _ p) (and_left _ _ w)) space_open
-    (closed (inputs_read dialect f.inputs (and_left _ _ p1) (and_left _ _ w1)) close_semicolon)))))))
+    page_regrouped (whole_above (whole_written (leftward _ _ _ (leftward _ _ _ (leftward _ _ _ (after (stands _ function_opens) (enclosing (declaration_reads dialect (result_kind dialect f.result) f.result f.name (and_left _ _ p) (and_left _ _ w)) space_open
+    (inputs_read dialect f.inputs (and_left _ _ p1) (and_left _ _ w1)) close_semicolon))))))
     (whole_above (whole_inner (whole_above (locals_whole dialect f.locals (and_left _ _ p2) (and_left _ _ w2))
     (body_whole f.body (statements_whole f.body (and_right (every is_plain_declared f.locals) _ p2) (and_right (are_well_formed_locals f.locals) _ w2))))) (whole_line (key_reads EndFunctionKey)))) (simp append_assoc)

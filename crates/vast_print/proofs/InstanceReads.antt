@@ -4,11 +4,9 @@ use Rattle.vast_literal.specs.Tokens.{key_text, Reserved, Mark, Word}
 use Rattle.vast_literal.specs.declared.token.Mark.TheVariants.{OpenParen, At}
 use Rattle.vast_literal.specs.declared.token.Key.{Key}
 use Rattle.vast_literal.specs.declared.token.Key.TheVariants.{AlwaysComb as AlwaysCombKey, AlwaysFF as AlwaysFFKey, Always as AlwaysKey, Posedge as PosedgeKey, Negedge as NegedgeKey, Or as OrKey}
-use Rattle.vast_literal.specs.Tree.{ExprTree, NameTree, PosEdgeTree, NegEdgeTree, Exprs, NoExprs, MoreExprs}
-use Rattle.vast_literal.specs.Tree.{Connection, InstanceTree}
+use Rattle.vast_literal.specs.Tree.{ExprTree, NameTree, PosEdgeTree, NegEdgeTree, Exprs, NoExprs, MoreExprs, Connection, InstanceTree, Statements}
 use Rattle.vast_literal.specs.declared.kind.AlwaysKind.{AlwaysKind as AlwaysWord}
 use Rattle.vast_literal.specs.declared.kind.AlwaysKind.TheVariants.{AlwaysFF as AlwaysFFWord, AlwaysAt as AlwaysAtWord, AlwaysComb as AlwaysCombWord}
-use Rattle.vast_literal.specs.Tree.{Statements}
 use Rattle.vast_literal.specs.Scan.{scan}
 use Rattle.vast_literal.specs.Plain.{is_plain_name}
 use Rattle.vast_literal.specs.PlainFile.{is_plain_event, are_plain_events, are_plain_awaited, are_plain_connections, is_plain_instance}
@@ -23,7 +21,7 @@ use Rattle.vast_print.specs.Text.{expr_text}
 use Rattle.vast_print.specs.Page.{beside, written}
 use Rattle.vast_print.specs.Statements.{block_page}
 use Rattle.vast_print.specs.Members.{connection_text, instance_head_page, instance_page, more_events_text, events_text, always_text}
-use Rattle.vast_print.proofs.Shapes.{Prints, nothing_reads, Rest, sum_assoc, leftward, stands, rest_none, after, after_free, ended_by, closed, parted, goes_on, rest_more}
+use Rattle.vast_print.proofs.Shapes.{Prints, nothing_reads, Rest, sum_assoc, leftward, stands, rest_none, after, after_free, ended_by, closed, enclosing, goes_on, rest_more}
 use Rattle.vast_print.proofs.ExprReads.{expr_reads}
 use Rattle.vast_print.proofs.PageReads.{Whole, Open, page_regrouped, whole_above, whole_written, open_free, space_divides, space_open, close_space, key_space}
 use Rattle.vast_print.proofs.EntryReads.{entries_whole, connections_read, given_connections, connections_whole, hash_open, list_closed}
@@ -33,7 +31,7 @@ use Rattle.vast_print.proofs.EntryReads.{entries_whole, connections_read, given_
 head_whole : (m : List ℕ) (cs : List Connection) (i : List ℕ) → is_plain_name m ≡ true → is_plain_name i ≡ true → are_plain_connections cs ≡ true → are_given cs ≡ true →
     Whole (instance_head_page m cs i) (Word m ∷ (given_tokens cs ++ (Word i ∷ Mark OpenParen ∷ [])))
 unfolding instance_head_page given_tokens
-head_whole m [] i p q r w = whole_written (simp sum_assoc (parted (stands _ (name_reads m p)) space_divides (closed (stands _ (name_reads i q)) space_open)))
+head_whole m [] i p q r w = whole_written (simp sum_assoc (enclosing (stands _ (name_reads m p)) space_divides (stands _ (name_reads i q)) space_open))
 head_whole m (c ∷ cs) i p q r w = page_regrouped (whole_above (whole_written (closed (stands _ (name_reads m p)) hash_open))
     (whole_above (entries_whole (map connection_text (c ∷ cs)) (each_connection (c ∷ cs)) (connections_read (c ∷ cs) r (given_connections (c ∷ cs) w)))
     (whole_written (leftward _ _ _ (after (stands _ close_space.free) (closed (stands _ (name_reads i q)) space_open)))))) (simp append_assoc)

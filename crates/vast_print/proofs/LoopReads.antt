@@ -12,7 +12,7 @@ use Rattle.vast_literal.specs.PlainFile.{is_plain_label}
 use Rattle.vast_literal.proofs.ExprTokens.{expr_tokens, wrapped_tokens}
 use Rattle.vast_literal.proofs.FileTokens.{loop_label_tokens}
 use Rattle.vast_literal.proofs.TokenReads.{Free, Divides, Reads}
-use Rattle.vast_literal.proofs.Pieces.{free_reads, free_free, reads_sep, operator_divides}
+use Rattle.vast_literal.proofs.Pieces.{free_reads, free_free, reads_sep, operator_divides, colon}
 use Rattle.vast_literal.proofs.Words.{key_reads, name_reads, number_reads}
 use Rattle.vast_literal.specs.Shape.{right_child_wraps}
 use Rattle.vast_print.specs.Printed.{plain_text, ◌⊕◌}
@@ -20,7 +20,6 @@ use Rattle.vast_print.specs.Text.{expr_text}
 use Rattle.vast_print.specs.Members.{loop_label_text, loop_text}
 use Rattle.vast_print.proofs.Shapes.{Prints, Rest, sum_assoc, stands, rest_none, after, parted, goes_on, rest_append, bracketed}
 use Rattle.vast_print.proofs.PageReads.{equals, close_space, key_space, key_open}
-use Rattle.vast_literal.proofs.Pieces.{colon}
 
 semicolon_space : Divides (59 ∷ 32 ∷ []) (Mark Semicolon ∷ [])
 unfolding scan

@@ -3,32 +3,24 @@ use Rattle.std.proofs.Common.{◌≡◌, List, [], ◌∷◌, ◌++◌, Bool, tr
 use Rattle.vast_literal.specs.Tokens.{Token, key_text, Reserved}
 use Rattle.vast_literal.specs.declared.token.Key.TheVariants.{End as EndKey, Parameter as ParameterKey, Localparam as LocalparamKey, Int as IntKey}
 use Rattle.vast_literal.specs.declared.kind.VastFileType.{VastFileType as Dialect}
-use Rattle.vast_literal.specs.Tree.{ParameterName, PlainParameter, IntParameter, DefinedParameter}
-use Rattle.vast_literal.specs.Tree.{ConditionalTree}
+use Rattle.vast_literal.specs.Tree.{ParameterName, PlainParameter, IntParameter, DefinedParameter, ConditionalTree, MemberTree, DeclarationMember, AssignMember, ParameterMember, CommentMember, BlankMember, InlineMember, MacroMember, InstanceMember, AlwaysMember, ConditionalMember, FunctionMember, LoopMember, Members, NoMembers, MoreMembers}
 use Rattle.vast_literal.specs.declared.kind.AssignmentForm.TheVariants.{Continuous}
 use Rattle.vast_literal.specs.Plain.{is_plain_name, is_plain}
-use Rattle.vast_literal.specs.PlainFile.{are_plain_awaited, is_plain_parameter_name, is_plain_label}
+use Rattle.vast_literal.specs.PlainFile.{are_plain_awaited, is_plain_parameter_name, is_plain_label, is_plain_member, are_plain_members}
 use Rattle.vast_literal.specs.WellFormed.{is_well_formed}
-use Rattle.vast_literal.specs.WellFormedFile.{are_well_formed_events, is_well_formed_parameter_name}
+use Rattle.vast_literal.specs.WellFormedFile.{are_well_formed_events, is_well_formed_parameter_name, is_well_formed_member, are_well_formed_members, is_macro, is_own_kind}
 use Rattle.vast_literal.specs.NormalTree.{parameter_key}
-use Rattle.vast_literal.proofs.FileTokens.{parameter_name_tokens}
+use Rattle.vast_literal.proofs.FileTokens.{parameter_name_tokens, semicolon_tokens, member_tokens, members_tokens, statement_tokens}
 use Rattle.vast_literal.proofs.TokenReads.{Free, Reads}
 use Rattle.vast_literal.proofs.ScanLaws.{and_left, and_right}
 use Rattle.vast_literal.proofs.Words.{key_reads, name_reads}
 use Rattle.vast_print.specs.Printed.{Printed, plain_text, ◌⊕◌}
-use Rattle.vast_print.specs.Members.{parameter_word, parameter_text}
-use Rattle.vast_print.proofs.Shapes.{Prints, sum_assoc, stands, rest_none, after, closed, parted, goes_on}
+use Rattle.vast_print.specs.Members.{parameter_word, parameter_text, semicolon_text, member_page, members_page}
+use Rattle.vast_print.proofs.Shapes.{Prints, sum_assoc, stands, rest_none, after, closed, enclosing, goes_on}
 use Rattle.vast_print.proofs.ExprReads.{expr_reads}
-use Rattle.vast_print.proofs.StatementReads.{statements_whole, block_open}
-use Rattle.vast_print.proofs.PageReads.{Whole, page_regrouped, whole_above, whole_inner, whole_none, whole, whole_line, whole_written, whole_blank, equals, semicolon, key_space}
-use Rattle.vast_literal.specs.PlainFile.{is_plain_member, are_plain_members}
-use Rattle.vast_literal.specs.WellFormedFile.{is_well_formed_member, are_well_formed_members, is_macro, is_own_kind}
-use Rattle.vast_literal.specs.Tree.{MemberTree, DeclarationMember, AssignMember, ParameterMember, CommentMember, BlankMember, InlineMember, MacroMember, InstanceMember, AlwaysMember, ConditionalMember, FunctionMember, LoopMember, Members, NoMembers, MoreMembers}
-use Rattle.vast_literal.proofs.FileTokens.{semicolon_tokens, member_tokens, members_tokens, statement_tokens}
-use Rattle.vast_print.specs.Members.{semicolon_text, member_page, members_page}
+use Rattle.vast_print.proofs.StatementReads.{statements_whole, block_open, assignment_open, statement_whole}
+use Rattle.vast_print.proofs.PageReads.{Whole, page_regrouped, whole_above, whole_inner, whole_none, whole, whole_line, whole_written, whole_blank, equals, semicolon, key_space, whole_comment}
 use Rattle.vast_print.specs.Statements.{statement_page}
-use Rattle.vast_print.proofs.StatementReads.{assignment_open, statement_whole}
-use Rattle.vast_print.proofs.PageReads.{whole_comment}
 use Rattle.vast_print.proofs.InstanceReads.{instance_whole, always_open}
 use Rattle.vast_print.proofs.FunctionReads.{declared_reads, function_whole}
 use Rattle.vast_print.proofs.LoopReads.{loop_reads}
@@ -55,8 +47,8 @@ mutual
   pub member_whole : (dialect : Dialect) (m : MemberTree) → is_plain_member m ≡ true → is_well_formed_member m ≡ true → Whole (member_page dialect m) (member_tokens dialect m)
   member_whole dialect (DeclarationMember d) p w = whole_written (closed (declared_reads dialect d p (and_right (is_own_kind d.kind) _ w)) semicolon)
   member_whole dialect (AssignMember l r) p w = whole (assignment_open Continuous l r p w)
-  member_whole dialect (ParameterMember local n v) p w = whole_written (simp sum_assoc (after (stands _ (parameter_free local)) (parted (parameter_name_reads dialect n (and_left _ _ p) (and_left _ _ w)) equals
-      (closed (expr_reads v (and_right (is_plain_parameter_name n) _ p) (and_right (is_well_formed_parameter_name n) _ w)) semicolon))))
+  member_whole dialect (ParameterMember local n v) p w = whole_written (simp sum_assoc (after (stands _ (parameter_free local)) (enclosing (parameter_name_reads dialect n (and_left _ _ p) (and_left _ _ w)) equals
+      (expr_reads v (and_right (is_plain_parameter_name n) _ p) (and_right (is_well_formed_parameter_name n) _ w)) semicolon)))
   member_whole dialect (CommentMember text) p w = whole_comment text
   member_whole dialect BlankMember p w = whole_blank
   member_whole dialect (InlineMember text) p w = absurd (cc p)

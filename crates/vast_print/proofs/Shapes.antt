@@ -4,7 +4,7 @@ use Rattle.vast_literal.specs.Tokens.{Token, Mark}
 use Rattle.vast_literal.specs.declared.token.Mark.TheVariants.{OpenParen, CloseParen, Colon, Apostrophe}
 use Rattle.vast_literal.proofs.ExprTokens.{wrapped_tokens}
 use Rattle.vast_literal.proofs.TokenReads.{stops, opens, Free, Divides, Reads}
-use Rattle.vast_literal.proofs.Pieces.{free_reads, free_free, reads_end, as_reads, reads_reads, reads_sep, enclosed, open_paren, close_paren, colon_reads, paren, paren_reads, head_wrapped, head_free}
+use Rattle.vast_literal.proofs.Pieces.{free_reads, free_free, reads_end, as_reads, reads_reads, reads_sep, reads_closed, enclosed, open_paren, close_paren, colon_reads, paren, paren_reads, head_wrapped, head_free}
 use Rattle.vast_print.specs.Printed.{Printed, plain_text, ◌⊕◌, wrapped}
 use Rattle.vast_print.proofs.FaultLaws.{first_none, first_assoc, wrapped_fine}
 
@@ -66,6 +66,11 @@ closed f g = record { told = λ e. as_reads ((ended_by f g).told e) }
 pub parted : {p q : Printed} {w : List ℕ} {ts us vs : List Token} → Prints Reads p ts → Divides w us → Prints Reads q vs → Prints Reads (p ⊕ (plain_text w ⊕ q)) (ts ++ (us ++ vs))
 unfolding ◌⊕◌ plain_text
 parted f g h = record { told = λ e. let (x, y) = first_none _ _ e in reads_sep (f.told x) g (h.told y) }
+
+-- p, and q between two words
+pub enclosing : {p q : Printed} {o c : List ℕ} {ts os us cs : List Token} → Prints Reads p ts → Divides o os → Prints Reads q us → Divides c cs → Prints Reads (p ⊕ (plain_text o ⊕ (q ⊕ plain_text c))) (ts ++ (os ++ (us ++ cs)))
+unfolding ◌⊕◌ plain_text
+enclosing {q = q} f g h k = record { told = λ e. let (x, y) = first_none _ _ e in reads_closed (f.told x) g (h.told ((first_none q.fault None y).0)) k }
 
 -- parted by a colon, which the first byte of q makes no longer
 pub parted_by_colon : {p q : Printed} {ts us : List Token} → Prints Reads p ts → opens false q.text ≡ true → Prints Reads q us → Prints Reads (p ⊕ (plain_text (codes ":") ⊕ q)) (ts ++ (Mark Colon ∷ us))

@@ -4,8 +4,7 @@ use Rattle.vast_literal.specs.Tokens.{Token, key_text, Reserved, Mark, Operator}
 use Rattle.vast_literal.specs.declared.token.Sign.TheVariants.{LessEqual}
 use Rattle.vast_literal.specs.declared.token.Mark.TheVariants.{OpenParen, Colon}
 use Rattle.vast_literal.specs.declared.token.Key.TheVariants.{If as IfKey, Case as CaseKey, Casez as CasezKey, Casex as CasexKey, EndCase as EndCaseKey, Default as DefaultKey, Unique as UniqueKey, Assign as AssignKey}
-use Rattle.vast_literal.specs.Tree.{ExprTree, MaybeExpr, NoExpr, SomeExpr}
-use Rattle.vast_literal.specs.Tree.{StatementTree, AssignTree, CommentTree, BlankTree, InlineTree, ConditionalTree, CaseTree, Statements, NoStatements, MoreStatements, Alternates, NoElse, ElseIf, Else, CaseArms, NoCaseArms, CaseArm}
+use Rattle.vast_literal.specs.Tree.{ExprTree, MaybeExpr, NoExpr, SomeExpr, StatementTree, AssignTree, CommentTree, BlankTree, InlineTree, ConditionalTree, CaseTree, Statements, NoStatements, MoreStatements, Alternates, NoElse, ElseIf, Else, CaseArms, NoCaseArms, CaseArm}
 use Rattle.vast_literal.specs.declared.kind.AssignmentForm.{AssignmentForm as AssignForm}
 use Rattle.vast_literal.specs.declared.kind.AssignmentForm.TheVariants.{Blocking, Nonblocking, Continuous}
 use Rattle.vast_literal.specs.declared.kind.CaseKind.{CaseKind as CaseWord}
@@ -26,7 +25,7 @@ use Rattle.vast_print.specs.Page.{Page, no_lines, above}
 use Rattle.vast_print.specs.Statements.{assign_text, case_word, unique_word, label_text, statement_page, statements_page, block_page, alternates_page, arms_page}
 use Rattle.vast_print.proofs.FaultLaws.{first_none}
 use Rattle.vast_print.proofs.ExprReads.{expr_reads}
-use Rattle.vast_print.proofs.Shapes.{Prints, sum_assoc, leftward, stands, nothing, after, after_free, ended_by, closed, parted}
+use Rattle.vast_print.proofs.Shapes.{Prints, sum_assoc, leftward, stands, nothing, after, after_free, ended_by, closed, enclosing}
 use Rattle.vast_print.proofs.PageReads.{Whole, Open, Follows, page_regrouped, whole_above, whole_inner, whole_none, whole, whole_line, open_written, whole_written, open_free, open_follows, follows_none, follows_written, follows_line, whole_blank, whole_comment, equals, semicolon, close_space, label_colon, key_space, key_open, else_divides, else_if_divides, condition_divides, open_empty, open_block}
 
 less_equal : Divides (32 ∷ 60 ∷ 61 ∷ 32 ∷ []) (Operator LessEqual ∷ [])
@@ -34,9 +33,9 @@ less_equal = operator_divides LessEqual
 
 pub assign_reads : (form : AssignForm) {l r : Printed} {ls rs : List Token} → Prints Reads l ls → Prints Reads r rs → Prints Reads (assign_text form l r) (assignment_tokens form ls rs)
 unfolding assignment_tokens key_text
-assign_reads Blocking f g = simp sum_assoc (after nothing (parted f equals (closed g semicolon)))
-assign_reads Nonblocking f g = simp sum_assoc (after nothing (parted f less_equal (closed g semicolon)))
-assign_reads Continuous f g = simp sum_assoc (after (stands _ (key_space AssignKey)) (parted f equals (closed g semicolon)))
+assign_reads Blocking f g = simp sum_assoc (after nothing (enclosing f equals g semicolon))
+assign_reads Nonblocking f g = simp sum_assoc (after nothing (enclosing f less_equal g semicolon))
+assign_reads Continuous f g = simp sum_assoc (after (stands _ (key_space AssignKey)) (enclosing f equals g semicolon))
 
 pub assignment_open : (form : AssignForm) (l r : ExprTree) → is_plain_assignment l r ≡ true → (is_well_formed l && is_well_formed r) ≡ true → Open (statement_page (AssignTree form l r)) (statement_tokens (AssignTree form l r))
 unfolding statement_page statement_tokens
