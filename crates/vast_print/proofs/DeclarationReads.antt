@@ -32,7 +32,7 @@ use Rattle.vast_print.specs.Declaration.{packed_range, packed_text, unpacked_ran
 use Rattle.vast_print.proofs.FaultLaws.{first_none}
 use Rattle.vast_print.proofs.ExprOpens.{literal_opens}
 use Rattle.vast_print.proofs.ExprReads.{expr_reads}
-use Rattle.vast_print.proofs.Shapes.{Prints, Rest, nothing_reads, rest_empty, sum_assoc, leftward, regrouped, stands, after, after_free, enclosing, parted, goes_on, bracketed}
+use Rattle.vast_print.proofs.TextReads.{Prints, Rest, nothing_reads, rest_empty, printed_assoc, leftward, regrouped, stands, after, after_free, enclosing, parted, goes_on, bracketed}
 use Rattle.vast_print.proofs.PageReads.{space_divides}
 
 -- what brings no bytes brings no tokens
@@ -141,7 +141,7 @@ based_told : (base : TypeTree) (ds : List ℕ) {us : List Token} → is_base bas
     Prints Reads (based_text base ds) (type_name_tokens base ++ (maybe_tokens (sign_of base) ++ (us ++ vector_tokens base)))
 unfolding based_text package_text type_name_tokens sign_of vector_tokens is_base
 based_told (ScalarTree signed) ds {us = us} e p w g = rw (append-nil us) (with_dimensions_told ds (stands _ (signed_told signed)) g)
-based_told (VectorTree h v signed) ds e p w g = simp sum_assoc (after (spaced_free (stands _ (signed_told signed))) (enclosing (stands _ g.reads) open_bracket (highest_index_reads h v p w) zero_close))
+based_told (VectorTree h v signed) ds e p w g = simp printed_assoc (after (spaced_free (stands _ (signed_told signed))) (enclosing (stands _ g.reads) open_bracket (highest_index_reads h v p w) zero_close))
 based_told (IntegerTree signed) ds {us = us} e p w g = rw (append-nil us) (with_dimensions_told ds (stands _ (unsigned_told signed)) g)
 based_told (IntTree signed) ds {us = us} e p w g = rw (append-nil us) (with_dimensions_told ds (stands _ (unsigned_told signed)) g)
 based_told (ExternalTree n) ds {us = us} e p w g = rw (append-nil us) (with_dimensions_told ds (stands _ (name_reads n p)) g)

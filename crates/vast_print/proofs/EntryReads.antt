@@ -15,7 +15,7 @@ use Rattle.vast_literal.proofs.Words.{name_reads}
 use Rattle.vast_print.specs.Printed.{Printed}
 use Rattle.vast_print.specs.Page.{line}
 use Rattle.vast_print.specs.Members.{entries_page, value_text, connection_text, connections_page}
-use Rattle.vast_print.proofs.Shapes.{Prints, nothing_reads, sum_assoc, stands, after, closed, enclosing}
+use Rattle.vast_print.proofs.TextReads.{Prints, nothing_reads, printed_assoc, stands, after, closed, enclosing}
 use Rattle.vast_print.proofs.ExprReads.{expr_reads}
 use Rattle.vast_print.proofs.PageReads.{Whole, page_regrouped, whole_above, whole_lead, whole_none, whole_line, whole_written, whole_blank}
 
@@ -49,12 +49,12 @@ value_reads (SomeExpr e) p w = expr_reads e p w
 
 connection_reads : (c : Connection) → is_plain_name c.name ≡ true → is_plain_maybe c.value ≡ true → is_well_formed_maybe c.value ≡ true → Prints Reads (connection_text c) (connection_tokens c)
 unfolding connection_text connection_tokens
-connection_reads c p q w = simp sum_assoc (after (stands _ dot_free) (enclosing (stands _ (name_reads c.name p)) open_paren (value_reads c.value q w) close_paren))
+connection_reads c p q w = simp printed_assoc (after (stands _ dot_free) (enclosing (stands _ (name_reads c.name p)) open_paren (value_reads c.value q w) close_paren))
 
 pub connections_read : (cs : List Connection) → are_plain_connections cs ≡ true → are_well_formed_connections cs ≡ true → AllRead (map connection_text cs) (each_connection cs)
 unfolding each_connection
 connections_read [] p w = all_none
-connections_read (c ∷ cs) p w = all_more (connection_reads c (and_left _ _ (and_left _ _ p)) (and_right (is_plain_name c.name) (is_plain_maybe c.value) (and_left _ _ p)) (and_left _ _ w))
+connections_read (c ∷ cs) p w = all_more (connection_reads c (and_left _ _ (and_left _ _ p)) (and_right (is_plain_name c.name) _ (and_left _ _ p)) (and_left _ _ w))
     (connections_read cs (and_right (is_plain_name c.name && is_plain_maybe c.value) _ p) (and_right (is_well_formed_maybe c.value) _ w))
 
 given_formed : (v : MaybeExpr) → is_given v ≡ true → is_well_formed_maybe v ≡ true
@@ -63,7 +63,7 @@ given_formed (SomeExpr e) h = h
 
 pub given_connections : (cs : List Connection) → are_given cs ≡ true → are_well_formed_connections cs ≡ true
 given_connections [] h = refl
-given_connections (c ∷ cs) h = let a = given_formed c.value (and_left _ _ h) in let b = given_connections cs (and_right (is_given c.value) (are_given cs) h) in rw (a, b) refl
+given_connections (c ∷ cs) h = let a = given_formed c.value (and_left _ _ h) in let b = given_connections cs (and_right (is_given c.value) _ h) in rw (a, b) refl
 
 pub connections_whole : (cs : List Connection) → are_plain_connections cs ≡ true → are_well_formed_connections cs ≡ true → Whole (connections_page cs) (separated (each_connection cs))
 unfolding connections_page each_connection separated

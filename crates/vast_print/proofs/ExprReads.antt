@@ -18,7 +18,7 @@ use Rattle.vast_literal.proofs.Longest.{scan_lexes}
 use Rattle.vast_literal.specs.Plain.{is_plain_name, is_called_name, is_plain, is_plain_type, are_plain}
 use Rattle.vast_literal.proofs.ExprTokens.{expr_tokens, cast_tokens, each_tokens, comma_tokens, comma_tail_tokens, wrapped_tokens, cast_operand, word_cast_tokens}
 use Rattle.vast_literal.proofs.ExprTokens as Tokens
-use Rattle.vast_literal.specs.WellFormed.{is_well_formed, is_well_formed_type, is_cast_type, are_well_formed, is_positive}
+use Rattle.vast_literal.specs.WellFormed.{is_well_formed, is_well_formed_type, is_cast_type, are_well_formed}
 use Rattle.vast_literal.proofs.ScanLaws.{and_left, and_right}
 use Rattle.vast_literal.proofs.TokenReads.{Free, Reads}
 use Rattle.vast_literal.proofs.LiteralLaws.{literal_reads}
@@ -31,7 +31,7 @@ use Rattle.vast_print.specs.Bare.{is_bare}
 use Rattle.vast_print.specs.Text.{elided, cast_to, width_cast, sign_cast, scalar_cast, number_cast, package_text, expr_text, list_text, more_text, type_cast}
 use Rattle.vast_print.proofs.FaultLaws.{first_none, wrapped_fine}
 use Rattle.vast_print.proofs.ExprOpens.{front, opens_text, wrapped_opens}
-use Rattle.vast_print.proofs.Shapes.{Prints, nothing_reads, Rest, regrouped, sum_assoc, stands, rest_none, after, closed, parted, enclosing, parted_by_colon, goes_on, rest_more, in_parentheses, bracketed, head_reads}
+use Rattle.vast_print.proofs.TextReads.{Prints, nothing_reads, Rest, regrouped, printed_assoc, stands, rest_none, after, closed, parted, enclosing, parted_by_colon, goes_on, rest_more, in_parentheses, bracketed, head_reads}
 use Rattle.vast_print.proofs.CastReads.{operand_tight, positive_number, pick_reads, package_free, head_of_text, head_of_tree}
 
 -- Each form of expression over its parts.
@@ -103,43 +103,40 @@ mutual
   expr_reads (LiteralTree t v) p w = stands _ (literal_reads t w)
   expr_reads (StringTree t) p w = stands _ (string_reads t w)
   expr_reads (UnaryTree o e) p w = unary_told o e p w (expr_reads e p w)
-  expr_reads (BinaryTree o a b) p w = simp sum_assoc (parted (bracketed (left_child_wraps o a) (expr_reads a (and_left _ _ p) (and_left _ _ w))) (operator_divides (binary_operator_token o))
+  expr_reads (BinaryTree o a b) p w = simp printed_assoc (parted (bracketed (left_child_wraps o a) (expr_reads a (and_left _ _ p) (and_left _ _ w))) (operator_divides (binary_operator_token o))
       (bracketed (right_child_wraps o b) (expr_reads b (and_right (is_plain a) _ p) (and_right (is_well_formed a) _ w))))
   expr_reads (TernaryTree c a b) p w =
-      let p1 = and_right (is_plain c) (is_plain a && is_plain b) p in
-      let w1 = and_right (is_well_formed c) (is_well_formed a && is_well_formed b) w in
-      simp sum_assoc (parted (bracketed (ternary_wraps c) (expr_reads c (and_left _ _ p) (and_left _ _ w))) question (parted (bracketed (ternary_wraps a) (expr_reads a (and_left _ _ p1) (and_left _ _ w1))) colon
+      let p1 = and_right (is_plain c) _ p in let w1 = and_right (is_well_formed c) _ w in
+      simp printed_assoc (parted (bracketed (ternary_wraps c) (expr_reads c (and_left _ _ p) (and_left _ _ w))) question (parted (bracketed (ternary_wraps a) (expr_reads a (and_left _ _ p1) (and_left _ _ w1))) colon
       (bracketed (ternary_wraps b) (expr_reads b (and_right (is_plain a) _ p1) (and_right (is_well_formed a) _ w1)))))
   expr_reads (IndexTree s i) p w =
       let r = expr_reads s (and_left _ _ p) (and_left _ _ w) in
       pick_told (is_scalar_name s) (is_zero i) ScalarIndex r
-      (simp sum_assoc (enclosing (bracketed (select_wraps s) r) open_bracket (expr_reads i (and_right (is_plain s) _ p) (and_right (is_well_formed s) _ w)) close_bracket))
+      (simp printed_assoc (enclosing (bracketed (select_wraps s) r) open_bracket (expr_reads i (and_right (is_plain s) _ p) (and_right (is_well_formed s) _ w)) close_bracket))
   expr_reads (SliceTree s a b) p w =
-      let p1 = and_right (is_plain s) (is_plain a && is_plain b) p in
-      let w1 = and_right (is_well_formed s) (is_well_formed a && is_well_formed b) w in
-      let pb = and_right (is_plain a) (is_plain b) p1 in
-      let wb = and_right (is_well_formed a) (is_well_formed b) w1 in
+      let p1 = and_right (is_plain s) _ p in let w1 = and_right (is_well_formed s) _ w in
+      let pb = and_right (is_plain a) _ p1 in let wb = and_right (is_well_formed a) _ w1 in
       let r = expr_reads s (and_left _ _ p) (and_left _ _ w) in
       pick_told (is_scalar_name s) (is_zero a && is_zero b) ScalarSlice r
-      (simp sum_assoc (parted (bracketed (select_wraps s) r) open_bracket (parted_by_colon (expr_reads a (and_left _ _ p1) (and_left _ _ w1))
+      (simp printed_assoc (parted (bracketed (select_wraps s) r) open_bracket (parted_by_colon (expr_reads a (and_left _ _ p1) (and_left _ _ w1))
       (front false _ _ (opens_text false b pb wb (λ e. absurd (cc e)))) (closed (expr_reads b pb wb) close_bracket))))
   expr_reads (PartSelectTree s i n) p w =
-      let w1 = and_right (is_well_formed s) (is_well_formed i && is_positive n) w in
-      simp sum_assoc (parted (bracketed (select_wraps s) (expr_reads s (and_left _ _ p) (and_left _ _ w))) open_bracket (parted (expr_reads i (and_right (is_plain s) _ p) (and_left _ _ w1)) plus_colon
+      let w1 = and_right (is_well_formed s) _ w in
+      simp printed_assoc (parted (bracketed (select_wraps s) (expr_reads s (and_left _ _ p) (and_left _ _ w))) open_bracket (parted (expr_reads i (and_right (is_plain s) _ p) (and_left _ _ w1)) plus_colon
       (closed (stands _ (number_reads (signed_decimal n) (positive_number n (and_right (is_well_formed i) _ w1)))) close_bracket)))
-  expr_reads (ConcatTree NoExpr es) p w = simp sum_assoc (after (stands _ open_brace.free) (closed (list_reads es p w) close_brace))
-  expr_reads (ConcatTree (SomeExpr n) es) p w = simp sum_assoc (after (stands _ open_brace.free) (parted (expr_reads n (and_left _ _ p) (and_left _ _ w)) open_brace
+  expr_reads (ConcatTree NoExpr es) p w = simp printed_assoc (after (stands _ open_brace.free) (closed (list_reads es p w) close_brace))
+  expr_reads (ConcatTree (SomeExpr n) es) p w = simp printed_assoc (after (stands _ open_brace.free) (parted (expr_reads n (and_left _ _ p) (and_left _ _ w)) open_brace
       (parted (list_reads es (and_right (is_plain n) _ p) (and_right (is_well_formed n) _ w)) close_brace (stands _ (as_reads close_brace.free)))))
-  expr_reads (PatternTree es) p w = simp sum_assoc (after (stands _ pattern_open) (closed (list_reads es p w) close_brace))
+  expr_reads (PatternTree es) p w = simp printed_assoc (after (stands _ pattern_open) (closed (list_reads es p w) close_brace))
   expr_reads (WidthCastTree h e) p w = width_told h (and_left _ _ w) (expr_reads h (and_left _ _ p) (and_left _ _ w)) (expr_reads e (and_right (is_plain h) _ p) (and_right (is_well_formed h) _ w))
   expr_reads (TypeCastTree t e) p w =
-      let w1 = and_right (is_cast_type t) (is_well_formed_type t && is_well_formed e) w in
+      let w1 = and_right (is_cast_type t) _ w in
       type_reads t (and_left _ _ p) (and_left _ _ w) (and_left _ _ w1) (expr_reads e (and_right (is_plain_type t) _ p) (and_right (is_well_formed_type t) _ w1))
   expr_reads (PosEdgeTree e) p w = absurd (cc p)
   expr_reads (NegEdgeTree e) p w = absurd (cc p)
   expr_reads (MacroTree m NoArguments) p w = goes_on (macro_name m p) rest_none
   expr_reads (MacroTree m (SomeArguments es)) p w = goes_on (macro_name m (and_left _ _ p)) (in_parentheses (list_reads es (and_right (is_plain_name m) _ p) w))
-  expr_reads (CallTree n es) p w = simp sum_assoc (enclosing (stands _ (called_reads n (and_left _ _ p))) open_paren (list_reads es (and_right (is_called_name n) _ p) w) close_paren)
+  expr_reads (CallTree n es) p w = simp printed_assoc (enclosing (stands _ (called_reads n (and_left _ _ p))) open_paren (list_reads es (and_right (is_called_name n) _ p) w) close_paren)
   expr_reads MissingExpr p w = absurd (cc w)
 
   type_reads : (t : TypeTree) {q : Printed} {ts : List Token} → is_plain_type t ≡ true → is_cast_type t ≡ true → is_well_formed_type t ≡ true → Prints Reads q ts → Prints Reads (type_cast t q) (cast_tokens t ts)

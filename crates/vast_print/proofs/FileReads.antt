@@ -6,7 +6,7 @@ use Rattle.vast_literal.specs.declared.token.Key.TheVariants.{Input as InputKey,
 use Rattle.vast_literal.specs.declared.kind.VastFileType.{VastFileType as Dialect}
 use Rattle.vast_literal.specs.Scan.{scan, tokens}
 use Rattle.vast_literal.specs.Plain.{is_plain_name, is_plain}
-use Rattle.vast_literal.specs.PlainFile.{is_plain_declared, are_plain_members, are_plain_ports, is_plain_typed, are_plain_parameters, is_plain_module, is_path_byte, are_plain_items, is_plain_file}
+use Rattle.vast_literal.specs.PlainFile.{is_plain_declared, are_plain_ports, is_plain_typed, are_plain_parameters, is_plain_module, is_path_byte, are_plain_items, is_plain_file}
 use Rattle.vast_literal.specs.WellFormed.{is_well_formed, is_well_formed_type}
 use Rattle.vast_literal.proofs.FileTokens.{separated, member_tokens, members_tokens, each_port, typed_tokens, each_parameter, header_parameter_tokens, header_port_tokens, module_tokens, item_tokens, items_tokens, file_tokens}
 use Rattle.vast_literal.proofs.TokenReads.{Free, Divides, Reads}
@@ -16,11 +16,11 @@ use Rattle.vast_literal.proofs.Words.{key_reads, name_reads, string_reads}
 use Rattle.vast_literal.specs.Shape.{base_kind, base_of}
 use Rattle.vast_print.specs.Printed.{plain_text, ◌⊕◌}
 use Rattle.vast_print.specs.Page.{Page, print}
-use Rattle.vast_print.proofs.Shapes.{Prints, sum_assoc, stands, after, closed, parted}
+use Rattle.vast_print.proofs.TextReads.{Prints, printed_assoc, stands, after, closed, parted}
 use Rattle.vast_print.proofs.DeclarationReads.{declaration_reads}
 use Rattle.vast_print.proofs.ExprReads.{expr_reads}
 use Rattle.vast_print.proofs.PageReads.{Whole, page_regrouped, whole_above, whole_inner, whole_none, whole_line, whole_written, whole_blank, space_divides, equals, semicolon, key_space, whole_comment}
-use Rattle.vast_literal.specs.WellFormedFile.{are_well_formed_members, are_well_formed_ports, is_well_formed_typed, are_well_formed_parameters, is_well_formed_module, are_well_formed_items, is_well_formed_file}
+use Rattle.vast_literal.specs.WellFormedFile.{are_well_formed_ports, is_well_formed_typed, are_well_formed_parameters, is_well_formed_module, are_well_formed_items, is_well_formed_file}
 use Rattle.vast_literal.specs.Tree.{Members, NoMembers, MoreMembers, MaybeType, Untyped, Typed, PortTree, ParameterPortTree, ModuleTree, FileItemTree, ModuleItem, IncludeItem, CommentItem, BlankItem, FileTree}
 use Rattle.vast_print.specs.Members.{members_page}
 use Rattle.vast_literal.specs.declared.kind.ModulePortDirection.{ModulePortDirection as PortDirection}
@@ -65,9 +65,9 @@ header_parameters_read : (dialect : Dialect) (ps : List ParameterPortTree) → a
 unfolding parameter_port_text each_parameter key_text
 header_parameters_read dialect [] h w = all_none
 header_parameters_read dialect (p ∷ ps) h w =
-    let h0 = and_left (is_plain_typed p.type p.name && is_plain p.value) (are_plain_parameters ps) h in
-    let w0 = and_left (is_well_formed_typed p.type && is_well_formed p.value) (are_well_formed_parameters ps) w in
-    all_more (simp sum_assoc (after (stands _ (key_space ParameterKey)) (parted (typed_reads dialect p.type p.name (and_left _ _ h0) (and_left _ _ w0)) equals
+    let h0 = and_left (is_plain_typed p.type p.name && is_plain p.value) _ h in
+    let w0 = and_left (is_well_formed_typed p.type && is_well_formed p.value) _ w in
+    all_more (simp printed_assoc (after (stands _ (key_space ParameterKey)) (parted (typed_reads dialect p.type p.name (and_left _ _ h0) (and_left _ _ w0)) equals
     (expr_reads p.value (and_right (is_plain_typed p.type p.name) _ h0) (and_right (is_well_formed_typed p.type) _ w0)))))
     (header_parameters_read dialect ps (and_right (is_plain_typed p.type p.name && is_plain p.value) _ h) (and_right (is_well_formed_typed p.type && is_well_formed p.value) _ w))
 
@@ -79,7 +79,7 @@ header_parameters_whole dialect ps h w = entries_whole (map (parameter_port_text
 
 opening_whole : {n e : List ℕ} {es : List Token} → is_plain_name n ≡ true → Divides e es → Whole (opening_page n e) (Reserved ModuleKey ∷ (Word n ∷ es))
 unfolding opening_page key_text
-opening_whole {n = n} p f = whole_written (simp sum_assoc (after (stands _ (key_space ModuleKey)) (closed (stands _ (name_reads n p)) f)))
+opening_whole {n = n} p f = whole_written (simp printed_assoc (after (stands _ (key_space ModuleKey)) (closed (stands _ (name_reads n p)) f)))
 
 close_open : Reads (41 ∷ 32 ∷ 40 ∷ []) (Mark CloseParen ∷ Mark OpenParen ∷ [])
 unfolding scan
@@ -104,9 +104,9 @@ body_whole dialect (MoreMembers m ms) h = whole_inner h
 module_whole : (dialect : Dialect) (m : ModuleTree) → is_plain_module m ≡ true → is_well_formed_module m ≡ true → Whole (module_page dialect m) (module_tokens dialect m)
 unfolding module_page module_tokens key_text
 module_whole dialect m p w =
-    let p1 = and_right (is_plain_name m.name) (are_plain_parameters m.parameters && (are_plain_ports m.ports && are_plain_members m.members)) p in
-    let p2 = and_right (are_plain_parameters m.parameters) (are_plain_ports m.ports && are_plain_members m.members) p1 in
-    let w2 = and_right (are_well_formed_parameters m.parameters) (are_well_formed_ports m.ports && are_well_formed_members m.members) w in
+    let p1 = and_right (is_plain_name m.name) _ p in
+    let p2 = and_right (are_plain_parameters m.parameters) _ p1 in
+    let w2 = and_right (are_well_formed_parameters m.parameters) _ w in
     page_regrouped (whole_above (header_whole dialect m.name m.parameters m.ports (and_left _ _ p) (and_left _ _ p1) (and_left _ _ p2) (and_left _ _ w) (and_left _ _ w2))
     (whole_above (body_whole dialect m.members (members_whole dialect m.members (and_right (are_plain_ports m.ports) _ p2) (and_right (are_well_formed_ports m.ports) _ w2))) (whole_line (key_reads EndModuleKey)))) (simp append_assoc)
 
@@ -120,7 +120,7 @@ path_byte c v h k =
 
 path_string : (path : List ℕ) → every is_path_byte path ≡ true → is_string_rest false (path ++ (34 ∷ [])) ≡ true
 path_string [] h = refl
-path_string (c ∷ path) h = path_byte c (path ++ (34 ∷ [])) (and_left _ _ h) (path_string path (and_right (is_path_byte c) (every is_path_byte path) h))
+path_string (c ∷ path) h = path_byte c (path ++ (34 ∷ [])) (and_left _ _ h) (path_string path (and_right (is_path_byte c) _ h))
 
 include_word : Reads (96 ∷ codes "include") (MacroWord (codes "include") ∷ [])
 include_word = record { at = λ rest h. scan_macro (codes "include") rest refl h }

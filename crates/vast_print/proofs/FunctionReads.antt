@@ -5,9 +5,9 @@ use Rattle.vast_literal.specs.declared.token.Mark.TheVariants.{Comma}
 use Rattle.vast_literal.specs.declared.token.Key.TheVariants.{Function as FunctionKey, Automatic as AutomaticKey, EndFunction as EndFunctionKey, Input as InputKey}
 use Rattle.vast_literal.specs.Tree.{Declaration, FunctionTree, Statements}
 use Rattle.vast_literal.specs.declared.kind.VastFileType.{VastFileType as Dialect}
-use Rattle.vast_literal.specs.PlainFile.{is_plain_declaration, is_plain_declared, are_plain_statements, is_plain_function}
+use Rattle.vast_literal.specs.PlainFile.{is_plain_declaration, is_plain_declared, is_plain_function}
 use Rattle.vast_literal.specs.WellFormed.{is_well_formed_type}
-use Rattle.vast_literal.specs.WellFormedFile.{are_well_formed_statements, are_well_formed_inputs, are_well_formed_locals, is_well_formed_function, is_local_word}
+use Rattle.vast_literal.specs.WellFormedFile.{are_well_formed_inputs, are_well_formed_locals, is_well_formed_function, is_local_word}
 use Rattle.vast_literal.proofs.FileTokens.{declared_tokens, port_declaration_tokens, block_tokens, statements_tokens, separated, each_input, local_tokens, body_tokens, function_tokens}
 use Rattle.vast_literal.proofs.TokenReads.{Free, Reads}
 use Rattle.vast_literal.proofs.ScanLaws.{and_left, and_right}
@@ -17,7 +17,7 @@ use Rattle.vast_literal.specs.Shape.{port_kind, result_kind, is_one_casez}
 use Rattle.vast_print.specs.Declaration.{declared_text, port_declaration_text}
 use Rattle.vast_print.specs.Statements.{statements_page, block_page}
 use Rattle.vast_print.specs.Members.{input_text, more_inputs_text, inputs_text, local_page, locals_page, function_body_page, function_page}
-use Rattle.vast_print.proofs.Shapes.{Prints, nothing_reads, Rest, regrouped, leftward, stands, rest_none, after, closed, enclosing, goes_on, rest_more}
+use Rattle.vast_print.proofs.TextReads.{Prints, nothing_reads, Rest, regrouped, leftward, stands, rest_none, after, closed, enclosing, goes_on, rest_more}
 use Rattle.vast_print.proofs.DeclarationReads.{declaration_reads}
 use Rattle.vast_print.proofs.StatementReads.{statements_whole, block_open}
 use Rattle.vast_print.proofs.PageReads.{Whole, page_regrouped, whole_above, whole_inner, whole_none, whole, whole_line, whole_written, space_open, semicolon, key_space}
@@ -67,7 +67,7 @@ locals_whole : (dialect : Dialect) (ds : List Declaration) → every is_plain_de
 unfolding locals_page local_page local_tokens
 locals_whole dialect [] p w = whole_none
 locals_whole dialect (d ∷ ds) p w = whole_above
-    (whole_written (closed (declared_reads dialect d (and_left _ _ p) (and_right (is_local_word d.kind) (is_well_formed_type d.type) (and_left _ _ w))) semicolon))
+    (whole_written (closed (declared_reads dialect d (and_left _ _ p) (and_right (is_local_word d.kind) _ (and_left _ _ w))) semicolon))
     (locals_whole dialect ds (and_right (is_plain_declared d) _ p) (and_right (is_local_word d.kind && is_well_formed_type d.type) _ w))
 
 body_whole : (b : Statements) → Whole (statements_page b) (statements_tokens b) → Whole (function_body_page b) (body_tokens b)
@@ -87,10 +87,8 @@ function_opens = free_free (key_space FunctionKey) (key_space AutomaticKey)
 pub function_whole : (dialect : Dialect) (f : FunctionTree) → is_plain_function f ≡ true → is_well_formed_function f ≡ true → Whole (function_page dialect f) (function_tokens dialect f)
 unfolding function_page function_tokens key_text
 function_whole dialect f p w =
-    let p1 = and_right (is_plain_declaration f.result f.name) (every is_plain_declared f.inputs && (every is_plain_declared f.locals && are_plain_statements f.body)) p in
-    let w1 = and_right (is_well_formed_type f.result) (are_well_formed_inputs f.inputs && (are_well_formed_locals f.locals && are_well_formed_statements f.body)) w in
-    let p2 = and_right (every is_plain_declared f.inputs) (every is_plain_declared f.locals && are_plain_statements f.body) p1 in
-    let w2 = and_right (are_well_formed_inputs f.inputs) (are_well_formed_locals f.locals && are_well_formed_statements f.body) w1 in
+    let p1 = and_right (is_plain_declaration f.result f.name) _ p in let w1 = and_right (is_well_formed_type f.result) _ w in
+    let p2 = and_right (every is_plain_declared f.inputs) _ p1 in let w2 = and_right (are_well_formed_inputs f.inputs) _ w1 in
     page_regrouped (whole_above (whole_written (leftward _ _ _ (leftward _ _ _ (leftward _ _ _ (after (stands _ function_opens) (enclosing (declaration_reads dialect (result_kind dialect f.result) f.result f.name (and_left _ _ p) (and_left _ _ w)) space_open
     (inputs_read dialect f.inputs (and_left _ _ p1) (and_left _ _ w1)) close_semicolon))))))
     (whole_above (whole_inner (whole_above (locals_whole dialect f.locals (and_left _ _ p2) (and_left _ _ w2))

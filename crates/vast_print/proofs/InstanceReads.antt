@@ -21,7 +21,7 @@ use Rattle.vast_print.specs.Text.{expr_text}
 use Rattle.vast_print.specs.Page.{beside, written}
 use Rattle.vast_print.specs.Statements.{block_page}
 use Rattle.vast_print.specs.Members.{connection_text, instance_head_page, instance_page, more_events_text, events_text, always_text}
-use Rattle.vast_print.proofs.Shapes.{Prints, nothing_reads, Rest, sum_assoc, leftward, stands, rest_none, after, after_free, ended_by, closed, enclosing, goes_on, rest_more}
+use Rattle.vast_print.proofs.TextReads.{Prints, nothing_reads, Rest, printed_assoc, leftward, stands, rest_none, after, after_free, ended_by, closed, enclosing, goes_on, rest_more}
 use Rattle.vast_print.proofs.ExprReads.{expr_reads}
 use Rattle.vast_print.proofs.PageReads.{Whole, Open, page_regrouped, whole_above, whole_written, open_free, space_divides, space_open, close_space, key_space}
 use Rattle.vast_print.proofs.EntryReads.{entries_whole, connections_read, given_connections, connections_whole, hash_open, list_closed}
@@ -31,7 +31,7 @@ use Rattle.vast_print.proofs.EntryReads.{entries_whole, connections_read, given_
 head_whole : (m : List ℕ) (cs : List Connection) (i : List ℕ) → is_plain_name m ≡ true → is_plain_name i ≡ true → are_plain_connections cs ≡ true → are_given cs ≡ true →
     Whole (instance_head_page m cs i) (Word m ∷ (given_tokens cs ++ (Word i ∷ Mark OpenParen ∷ [])))
 unfolding instance_head_page given_tokens
-head_whole m [] i p q r w = whole_written (simp sum_assoc (enclosing (stands _ (name_reads m p)) space_divides (stands _ (name_reads i q)) space_open))
+head_whole m [] i p q r w = whole_written (simp printed_assoc (enclosing (stands _ (name_reads m p)) space_divides (stands _ (name_reads i q)) space_open))
 head_whole m (c ∷ cs) i p q r w = page_regrouped (whole_above (whole_written (closed (stands _ (name_reads m p)) hash_open))
     (whole_above (entries_whole (map connection_text (c ∷ cs)) (each_connection (c ∷ cs)) (connections_read (c ∷ cs) r (given_connections (c ∷ cs) w)))
     (whole_written (leftward _ _ _ (after (stands _ close_space.free) (closed (stands _ (name_reads i q)) space_open)))))) (simp append_assoc)
@@ -39,8 +39,8 @@ head_whole m (c ∷ cs) i p q r w = page_regrouped (whole_above (whole_written (
 pub instance_whole : (i : InstanceTree) → is_plain_instance i ≡ true → (are_given i.parameters && are_well_formed_connections i.connections) ≡ true → Whole (instance_page i) (instance_tokens i)
 unfolding instance_page instance_tokens
 instance_whole i p w =
-    let p0 = and_left (is_plain_name i.module_name && is_plain_name i.instance_name) (are_plain_connections i.parameters && are_plain_connections i.connections) p in
-    let p1 = and_right (is_plain_name i.module_name && is_plain_name i.instance_name) (are_plain_connections i.parameters && are_plain_connections i.connections) p in
+    let p0 = and_left (is_plain_name i.module_name && is_plain_name i.instance_name) _ p in
+    let p1 = and_right (is_plain_name i.module_name && is_plain_name i.instance_name) _ p in
     page_regrouped (whole_above (head_whole i.module_name i.parameters i.instance_name (and_left _ _ p0) (and_right (is_plain_name i.module_name) _ p0) (and_left _ _ p1) (and_left _ _ w))
     (whole_above (connections_whole i.connections (and_right (are_plain_connections i.parameters) _ p1) (and_right (are_given i.parameters) _ w)) list_closed)) (simp append_assoc)
 

@@ -18,7 +18,7 @@ use Rattle.vast_literal.specs.Shape.{right_child_wraps}
 use Rattle.vast_print.specs.Printed.{plain_text, ◌⊕◌}
 use Rattle.vast_print.specs.Text.{expr_text}
 use Rattle.vast_print.specs.Members.{loop_label_text, loop_text}
-use Rattle.vast_print.proofs.Shapes.{Prints, Rest, sum_assoc, stands, rest_none, after, parted, goes_on, rest_append, bracketed}
+use Rattle.vast_print.proofs.TextReads.{Prints, Rest, printed_assoc, stands, rest_none, after, parted, goes_on, rest_append, bracketed}
 use Rattle.vast_print.proofs.PageReads.{equals, close_space, key_space, key_open}
 
 semicolon_space : Divides (59 ∷ 32 ∷ []) (Mark Semicolon ∷ [])
@@ -45,5 +45,5 @@ pub loop_reads : (i : List ℕ) (s e : ExprTree) (l : Option (List ℕ)) → is_
 unfolding loop_text
 loop_reads i s e l p q r t =
     let name : Prints Reads (plain_text i) (Word i ∷ []) = stands _ (name_reads i p) in
-    simp sum_assoc (after (stands _ for_free) (parted name equals (parted r semicolon_space (parted name (operator_divides Less) (parted (bracketed (right_child_wraps LtOp e) t) semicolon_space
+    simp printed_assoc (after (stands _ for_free) (parted name equals (parted r semicolon_space (parted name (operator_divides Less) (parted (bracketed (right_child_wraps LtOp e) t) semicolon_space
     (parted name equals (goes_on name (rest_append (stands _ step_rest) (label_reads l q)))))))))

@@ -16,7 +16,7 @@ use Rattle.vast_literal.proofs.ScanLaws.{and_left, and_right}
 use Rattle.vast_literal.proofs.Words.{key_reads, name_reads}
 use Rattle.vast_print.specs.Printed.{Printed, plain_text, ◌⊕◌}
 use Rattle.vast_print.specs.Members.{parameter_word, parameter_text, semicolon_text, member_page, members_page}
-use Rattle.vast_print.proofs.Shapes.{Prints, sum_assoc, stands, rest_none, after, closed, enclosing, goes_on}
+use Rattle.vast_print.proofs.TextReads.{Prints, printed_assoc, stands, rest_none, after, closed, enclosing, goes_on}
 use Rattle.vast_print.proofs.ExprReads.{expr_reads}
 use Rattle.vast_print.proofs.StatementReads.{statements_whole, block_open, assignment_open, statement_whole}
 use Rattle.vast_print.proofs.PageReads.{Whole, page_regrouped, whole_above, whole_inner, whole_none, whole, whole_line, whole_written, whole_blank, equals, semicolon, key_space, whole_comment}
@@ -47,7 +47,7 @@ mutual
   pub member_whole : (dialect : Dialect) (m : MemberTree) → is_plain_member m ≡ true → is_well_formed_member m ≡ true → Whole (member_page dialect m) (member_tokens dialect m)
   member_whole dialect (DeclarationMember d) p w = whole_written (closed (declared_reads dialect d p (and_right (is_own_kind d.kind) _ w)) semicolon)
   member_whole dialect (AssignMember l r) p w = whole (assignment_open Continuous l r p w)
-  member_whole dialect (ParameterMember local n v) p w = whole_written (simp sum_assoc (after (stands _ (parameter_free local)) (enclosing (parameter_name_reads dialect n (and_left _ _ p) (and_left _ _ w)) equals
+  member_whole dialect (ParameterMember local n v) p w = whole_written (simp printed_assoc (after (stands _ (parameter_free local)) (enclosing (parameter_name_reads dialect n (and_left _ _ p) (and_left _ _ w)) equals
       (expr_reads v (and_right (is_plain_parameter_name n) _ p) (and_right (is_well_formed_parameter_name n) _ w)) semicolon)))
   member_whole dialect (CommentMember text) p w = whole_comment text
   member_whole dialect BlankMember p w = whole_blank
@@ -59,10 +59,9 @@ mutual
   member_whole dialect (ConditionalMember c b rest) p w = statement_whole (ConditionalTree c b rest) p w
   member_whole dialect (FunctionMember g) p w = function_whole dialect g p w
   member_whole dialect (LoopMember i s e l ms) p w =
-      let p0 = and_left (is_plain_name i && is_plain_label l) ((is_plain s && is_plain e) && are_plain_members ms) p in
-      let p1 = and_right (is_plain_name i && is_plain_label l) ((is_plain s && is_plain e) && are_plain_members ms) p in
-      let p2 = and_left (is_plain s && is_plain e) (are_plain_members ms) p1 in
-      let w2 = and_left (is_well_formed s && is_well_formed e) (are_well_formed_members ms) w in
+      let p0 = and_left (is_plain_name i && is_plain_label l) _ p in
+      let p1 = and_right (is_plain_name i && is_plain_label l) _ p in
+      let p2 = and_left (is_plain s && is_plain e) _ p1 in let w2 = and_left (is_well_formed s && is_well_formed e) _ w in
       page_regrouped (whole_above (whole_written (loop_reads i s e l (and_left _ _ p0) (and_right (is_plain_name i) _ p0) (expr_reads s (and_left _ _ p2) (and_left _ _ w2)) (expr_reads e (and_right (is_plain s) _ p2) (and_right (is_well_formed s) _ w2))))
       (whole_above (whole_inner (members_whole dialect ms (and_right (is_plain s && is_plain e) _ p1) (and_right (is_well_formed s && is_well_formed e) _ w))) (whole_line (key_reads EndKey)))) (simp append_assoc)
 

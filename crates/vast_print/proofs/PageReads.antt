@@ -14,7 +14,7 @@ use Rattle.vast_print.specs.Printed.{Printed, plain_text, ◌⊕◌}
 use Rattle.vast_print.specs.Page.{Line, Page, one_line, beside_lines, written_lines, no_lines, line, inner, lead, above, beside, written, commented, commented_lines, note}
 use Rattle.vast_print.specs.Statements.{begin_end}
 use Rattle.vast_print.proofs.FaultLaws.{first_none}
-use Rattle.vast_print.proofs.Shapes.{Prints, nothing_reads}
+use Rattle.vast_print.proofs.TextReads.{Prints, nothing_reads}
 use Rattle.vast_print.proofs.PageLines.{flat, body, Lines, Hangs, Behind, above_lines, inner_whole, lead_whole, no_lines_free, lines_are_indented, line_is_indented, written_is_indented, above_is_indented, behind_none, free_is_indented, behind_divides, behind_is_indented, filled-written, body-written, comment_lines}
 
 -- Unless it is refused, the page brings the tokens so.

@@ -25,7 +25,7 @@ use Rattle.vast_print.specs.Page.{Page, no_lines, above}
 use Rattle.vast_print.specs.Statements.{assign_text, case_word, unique_word, label_text, statement_page, statements_page, block_page, alternates_page, arms_page}
 use Rattle.vast_print.proofs.FaultLaws.{first_none}
 use Rattle.vast_print.proofs.ExprReads.{expr_reads}
-use Rattle.vast_print.proofs.Shapes.{Prints, sum_assoc, leftward, stands, nothing, after, after_free, ended_by, closed, enclosing}
+use Rattle.vast_print.proofs.TextReads.{Prints, printed_assoc, leftward, stands, nothing, after, after_free, ended_by, closed, enclosing}
 use Rattle.vast_print.proofs.PageReads.{Whole, Open, Follows, page_regrouped, whole_above, whole_inner, whole_none, whole, whole_line, open_written, whole_written, open_free, open_follows, follows_none, follows_written, follows_line, whole_blank, whole_comment, equals, semicolon, close_space, label_colon, key_space, key_open, else_divides, else_if_divides, condition_divides, open_empty, open_block}
 
 less_equal : Divides (32 ∷ 60 ∷ 61 ∷ 32 ∷ []) (Operator LessEqual ∷ [])
@@ -33,14 +33,14 @@ less_equal = operator_divides LessEqual
 
 pub assign_reads : (form : AssignForm) {l r : Printed} {ls rs : List Token} → Prints Reads l ls → Prints Reads r rs → Prints Reads (assign_text form l r) (assignment_tokens form ls rs)
 unfolding assignment_tokens key_text
-assign_reads Blocking f g = simp sum_assoc (after nothing (enclosing f equals g semicolon))
-assign_reads Nonblocking f g = simp sum_assoc (after nothing (enclosing f less_equal g semicolon))
-assign_reads Continuous f g = simp sum_assoc (after (stands _ (key_space AssignKey)) (enclosing f equals g semicolon))
+assign_reads Blocking f g = simp printed_assoc (after nothing (enclosing f equals g semicolon))
+assign_reads Nonblocking f g = simp printed_assoc (after nothing (enclosing f less_equal g semicolon))
+assign_reads Continuous f g = simp printed_assoc (after (stands _ (key_space AssignKey)) (enclosing f equals g semicolon))
 
 pub assignment_open : (form : AssignForm) (l r : ExprTree) → is_plain_assignment l r ≡ true → (is_well_formed l && is_well_formed r) ≡ true → Open (statement_page (AssignTree form l r)) (statement_tokens (AssignTree form l r))
 unfolding statement_page statement_tokens
 assignment_open form l r p w = open_written (assign_reads form
-    (expr_reads l (and_right (is_left_side l) (is_plain l) (and_left _ _ p)) (and_left _ _ w))
+    (expr_reads l (and_right (is_left_side l) _ (and_left _ _ p)) (and_left _ _ w))
     (expr_reads r (and_right (is_left_side l && is_plain l) _ p) (and_right (is_well_formed l) _ w)))
 
 pub block_open : (b : Statements) → Whole (statements_page b) (statements_tokens b) → Open (block_page b) (block_tokens (statements_tokens b))
@@ -108,8 +108,7 @@ mutual
   statement_whole BlankTree p w = whole_blank
   statement_whole (InlineTree text) p w = absurd (cc p)
   statement_whole (ConditionalTree c b rest) p w =
-      let p1 = and_right (is_plain c) (are_plain_statements b && are_plain_alternates rest) p in
-      let w1 = and_right (is_well_formed c) (are_well_formed_statements b && are_well_formed_alternates rest) w in
+      let p1 = and_right (is_plain c) _ p in let w1 = and_right (is_well_formed c) _ w in
       whole (page_regrouped (open_free (leftward _ _ _ (after_free (stands _ (key_open IfKey)) (ended_by (expr_reads c (and_left _ _ p) (and_left _ _ w)) close_space)))
       (open_follows (block_open b (statements_whole b (and_left _ _ p1) (and_left _ _ w1))) (alternates_follow rest (and_right (are_plain_statements b) _ p1) (and_right (are_well_formed_statements b) _ w1)))) (simp append_assoc))
   statement_whole (CaseTree u word e arms) p w = page_regrouped
@@ -125,17 +124,14 @@ mutual
   alternates_follow NoElse p w = follows_none
   alternates_follow (Else b) p w = follows_line else_divides (block_open b (statements_whole b p w))
   alternates_follow (ElseIf c b rest) p w =
-      let p1 = and_right (is_plain c) (are_plain_statements b && are_plain_alternates rest) p in
-      let w1 = and_right (is_well_formed c) (are_well_formed_statements b && are_well_formed_alternates rest) w in
+      let p1 = and_right (is_plain c) _ p in let w1 = and_right (is_well_formed c) _ w in
       page_regrouped (follows_written (condition_divides else_if_divides (expr_reads c (and_left _ _ p) (and_left _ _ w)))
       (open_follows (block_open b (statements_whole b (and_left _ _ p1) (and_left _ _ w1))) (alternates_follow rest (and_right (are_plain_statements b) _ p1) (and_right (are_well_formed_statements b) _ w1)))) (simp append_assoc)
 
   arms_whole : (word : CaseWord) (arms : CaseArms) → are_plain_arms arms ≡ true → are_well_formed_arms arms ≡ true → Whole (arms_page word arms) (open_arms word arms)
   arms_whole word NoCaseArms p w = whole_none
   arms_whole word (CaseArm l b arms) p w =
-      let p1 = and_right (is_plain_maybe l) (are_plain_statements b && are_plain_arms arms) p in
-      let w1 = and_right (is_well_formed_maybe l) (are_well_formed_statements b && are_well_formed_arms arms) w in
-      let pb = and_left (are_plain_statements b) (are_plain_arms arms) p1 in
-      let wb = and_left (are_well_formed_statements b) (are_well_formed_arms arms) w1 in
+      let p1 = and_right (is_plain_maybe l) _ p in let w1 = and_right (is_well_formed_maybe l) _ w in
+      let pb = and_left (are_plain_statements b) _ p1 in let wb = and_left (are_well_formed_statements b) _ w1 in
       whole_above (whole (page_regrouped (open_free (ended_by (label_reads l (and_left _ _ p) (and_left _ _ w)) label_colon) (arm_body_open word b pb wb (statements_whole b pb wb))) (simp append_assoc)))
       (arms_whole word arms (and_right (are_plain_statements b) _ p1) (and_right (are_well_formed_statements b) _ w1))

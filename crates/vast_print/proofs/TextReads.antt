@@ -21,12 +21,12 @@ pub regrouped : {Brings : List ℕ → List Token → Type 0} {p : Printed} {ts 
 regrouped f e = rw (sym e) f
 
 -- texts are put together from the left, and read from the right
-pub sum_assoc : (p q r : Printed) → (p ⊕ q) ⊕ r ≡ p ⊕ (q ⊕ r)
+pub printed_assoc : (p q r : Printed) → (p ⊕ q) ⊕ r ≡ p ⊕ (q ⊕ r)
 unfolding ◌⊕◌
-sum_assoc p q r = rw (append_assoc, first_assoc p.fault q.fault r.fault) refl
+printed_assoc p q r = rw (append_assoc, first_assoc p.fault q.fault r.fault) refl
 
 pub leftward : {Brings : List ℕ → List Token → Type 0} (p q r : Printed) {ts : List Token} → Prints Brings (p ⊕ (q ⊕ r)) ts → Prints Brings ((p ⊕ q) ⊕ r) ts
-leftward p q r f = rw (sum_assoc p q r) f
+leftward p q r f = rw (printed_assoc p q r) f
 
 -- a text as it stands
 pub stands : {Brings : List ℕ → List Token → Type 0} (w : List ℕ) {ts : List Token} → Brings w ts → Prints Brings (plain_text w) ts
