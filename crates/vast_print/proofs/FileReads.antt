@@ -131,20 +131,13 @@ include_reads path h = record { told = λ e. rw append_assoc (reads_sep include_
 
 -- files
 
-item_whole : (dialect : Dialect) (i : FileItemTree) (is : List FileItemTree) → are_plain_items (i ∷ is) ≡ true → are_well_formed_items (i ∷ is) ≡ true → Whole (item_page dialect i) (item_tokens dialect i)
-unfolding item_page item_tokens
-item_whole dialect (ModuleItem m) is p w = module_whole dialect m (and_left _ _ p) (and_left _ _ w)
-item_whole dialect (IncludeItem path) is p w = whole_written (include_reads path (and_left _ _ p))
-item_whole dialect (CommentItem text) is p w = whole_comment text
-item_whole dialect BlankItem is p w = whole_blank
-
 items_whole : (dialect : Dialect) (is : List FileItemTree) → are_plain_items is ≡ true → are_well_formed_items is ≡ true → Whole (items_page dialect is) (items_tokens dialect is)
-unfolding items_page items_tokens
+unfolding items_page items_tokens item_page item_tokens
 items_whole dialect [] p w = whole_none
-items_whole dialect (ModuleItem m ∷ is) p w = whole_above (item_whole dialect (ModuleItem m) is p w) (items_whole dialect is (and_right (is_plain_module m) _ p) (and_right (is_well_formed_module m) _ w))
-items_whole dialect (IncludeItem path ∷ is) p w = whole_above (item_whole dialect (IncludeItem path) is p w) (items_whole dialect is (and_right (every is_path_byte path) _ p) w)
-items_whole dialect (CommentItem text ∷ is) p w = whole_above (item_whole dialect (CommentItem text) is p w) (items_whole dialect is p w)
-items_whole dialect (BlankItem ∷ is) p w = whole_above (item_whole dialect BlankItem is p w) (items_whole dialect is p w)
+items_whole dialect (ModuleItem m ∷ is) p w = whole_above (module_whole dialect m (and_left _ _ p) (and_left _ _ w)) (items_whole dialect is (and_right (is_plain_module m) _ p) (and_right (is_well_formed_module m) _ w))
+items_whole dialect (IncludeItem path ∷ is) p w = whole_above (whole_written (include_reads path (and_left _ _ p))) (items_whole dialect is (and_right (every is_path_byte path) _ p) w)
+items_whole dialect (CommentItem text ∷ is) p w = whole_above (whole_comment text) (items_whole dialect is p w)
+items_whole dialect (BlankItem ∷ is) p w = whole_above whole_blank (items_whole dialect is p w)
 
 layout_whole : (f : FileTree) → is_plain_file f ≡ true → is_well_formed_file f ≡ true → Whole (layout f) (file_tokens f)
 unfolding layout file_tokens

@@ -33,6 +33,7 @@ Open p ts = Lays Hangs p ts
 abbrev pub Follows : Page → List Token → Type 0
 Follows p ts = Lays Behind p ts
 
+-- the same tokens
 pub page_regrouped : {Brings : List Line → List Token → Type 0} {p : Page} {ts us : List Token} → Lays Brings p ts → ts ≡ us → Lays Brings p us
 page_regrouped f e = rw (sym e) f
 

@@ -17,6 +17,7 @@ pub record Rest (a : List ℕ) (ts : List Token) : Type 0 where
   pub reads : Reads a ts
   pub ends : (rest : List ℕ) → stops rest ≡ true → stops (a ++ rest) ≡ true
 
+-- the same tokens
 pub regrouped : {Brings : List ℕ → List Token → Type 0} {p : Printed} {ts us : List Token} → Prints Brings p ts → ts ≡ us → Prints Brings p us
 regrouped f e = rw (sym e) f
 
