@@ -13,14 +13,15 @@ use Rattle.vast_literal.specs.declared.kind.DataKind.{DataKind as Kind}
 use Rattle.vast_literal.specs.declared.kind.DataKind.TheVariants.{Reg as RegKind, Wire as WireKind, Logic as LogicKind, Integer as IntegerKind, Int as IntKind, User as UserKind, UntypedEnum as UntypedEnumKind, Genvar as GenvarKind}
 use Rattle.vast_literal.specs.Scan.{scan, cons_token}
 use Rattle.vast_literal.specs.NormalExpr.{scalar_sign, integer_sign}
-use Rattle.vast_literal.specs.Plain.{is_plain_name, is_plain, is_plain_type}
+use Rattle.vast_literal.specs.Plain.{is_plain, is_plain_type}
 use Rattle.vast_literal.specs.PlainFile.{is_plain_declaration}
 use Rattle.vast_literal.specs.WellFormed.{is_well_formed, is_well_formed_type}
 use Rattle.vast_literal.specs.NormalTree.{kind_key, sign_of}
 use Rattle.vast_literal.proofs.FileTokens.{maybe_tokens, type_name_tokens, number_tokens, zero_tokens, range_tokens, highest_index_tokens, vector_tokens, packed_tokens, unpacked_dimension_tokens, unpacked_tokens, declaration_tokens}
 use Rattle.vast_literal.proofs.DeclarationSpelled.{base_plain, base_formed}
 use Rattle.vast_literal.proofs.TokenReads.{stops, opens, Free, Divides, Reads}
-use Rattle.vast_literal.proofs.ScanLaws.{and_left, and_right, scan_colon}
+use Rattle.vast_literal.proofs.ScanLaws.{scan_colon}
+use Rattle.vast_print.proofs.FaultLaws.{halves, first_none}
 use Rattle.vast_literal.proofs.Pieces.{add_tokens-nil, free_reads, reads_end, divides_free, enclosed, open_bracket, close_bracket, operator_divides, opens-append}
 use Rattle.vast_literal.proofs.LiteralLaws.{literal_reads}
 use Rattle.vast_literal.proofs.NumberLaws.{signed_text}
@@ -29,7 +30,6 @@ use Rattle.vast_literal.specs.Shape.{base_of, packed_dimensions, unpacked_dimens
 use Rattle.vast_print.specs.Printed.{Printed, plain_text, ◌⊕◌, gapped, spaced}
 use Rattle.vast_print.specs.Text.{package_text}
 use Rattle.vast_print.specs.Declaration.{packed_range, packed_text, unpacked_range, unpacked_text, highest_index_text, signed_word, unsigned_word, with_dimensions, based_text, type_text, name_text, kind_word, declaration_text}
-use Rattle.vast_print.proofs.FaultLaws.{first_none}
 use Rattle.vast_print.proofs.ExprOpens.{literal_opens}
 use Rattle.vast_print.proofs.ExprReads.{expr_reads}
 use Rattle.vast_print.proofs.TextReads.{Prints, Rest, nothing_reads, rest_empty, printed_assoc, leftward, regrouped, stands, after, after_free, enclosing, parted, goes_on, bracketed}
@@ -146,7 +146,7 @@ based_told (IntegerTree signed) ds {us = us} e p w g = rw (append-nil us) (with_
 based_told (IntTree signed) ds {us = us} e p w g = rw (append-nil us) (with_dimensions_told ds (stands _ (unsigned_told signed)) g)
 based_told (ExternalTree n) ds {us = us} e p w g = rw (append-nil us) (with_dimensions_told ds (stands _ (name_reads n p)) g)
 based_told (PackageTree s n) ds {us = us} e p w g =
-    rw (append-nil us) (with_dimensions_told ds (leftward _ _ _ (parted (stands _ (name_reads s (and_left _ _ p))) double_colon (stands _ (name_reads n (and_right (is_plain_name s) _ p))))) g)
+    rw (append-nil us) (with_dimensions_told ds (leftward _ _ _ (parted (stands _ (name_reads s (search halves))) double_colon (stands _ (name_reads n (search halves))))) g)
 based_told (PackedTree t own) ds e p w g = absurd (cc e)
 based_told (UnpackedTree t own) ds e p w g = absurd (cc e)
 based_told MissingType ds e p w g = absurd (cc w)
@@ -173,5 +173,5 @@ kind_told UntypedEnumKind = nothing_reads
 pub declaration_reads : (dialect : Dialect) (kind : Kind) (t : TypeTree) (n : List ℕ) → is_plain_declaration t n ≡ true → is_well_formed_type t ≡ true → Prints Reads (declaration_text dialect kind t n) (declaration_tokens dialect kind t n)
 unfolding declaration_text declaration_tokens name_text
 declaration_reads dialect kind t n p w =
-    regrouped (after (after_free (spaced_free (stands _ (kind_told kind))) (spaced_free (type_told t (and_right (is_plain_name n) _ p) w)))
-    (goes_on (stands _ (name_reads n (and_left _ _ p))) (stands _ (unpacked_told dialect (unpacked_dimensions t))))) (simp append_assoc)
+    regrouped (after (after_free (spaced_free (stands _ (kind_told kind))) (spaced_free (type_told t (search halves) w)))
+    (goes_on (stands _ (name_reads n (search halves))) (stands _ (unpacked_told dialect (unpacked_dimensions t))))) (simp append_assoc)

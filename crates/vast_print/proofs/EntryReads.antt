@@ -1,5 +1,5 @@
 -- Lists of connections and of other entries have the tokens that the grammar reads.
-use Rattle.std.proofs.Common.{◌≡◌, List, [], ◌∷◌, map, true, ◌&&◌, refl, append_assoc, codes}
+use Rattle.std.proofs.Common.{◌≡◌, List, [], ◌∷◌, map, true, refl, append_assoc, codes}
 use Rattle.vast_literal.specs.Tokens.{Token, Mark}
 use Rattle.vast_literal.specs.declared.token.Mark.TheVariants.{OpenParen, CloseParen, Semicolon, Comma, Dot, Hash}
 use Rattle.vast_literal.specs.Tree.{MaybeExpr, NoExpr, SomeExpr, Connection}
@@ -9,7 +9,7 @@ use Rattle.vast_literal.specs.PlainFile.{is_plain_maybe, are_plain_connections}
 use Rattle.vast_literal.specs.WellFormedFile.{is_well_formed_maybe, are_well_formed_connections, is_given, are_given}
 use Rattle.vast_literal.proofs.FileTokens.{separated, value_tokens, connection_tokens, each_connection}
 use Rattle.vast_literal.proofs.TokenReads.{Free, Divides, Reads}
-use Rattle.vast_literal.proofs.ScanLaws.{and_left, and_right}
+use Rattle.vast_print.proofs.FaultLaws.{halves}
 use Rattle.vast_literal.proofs.Pieces.{as_reads, open_paren, close_paren}
 use Rattle.vast_literal.proofs.Words.{name_reads}
 use Rattle.vast_print.specs.Printed.{Printed}
@@ -54,8 +54,8 @@ connection_reads c p q w = simp printed_assoc (after (stands _ dot_free) (enclos
 pub connections_read : (cs : List Connection) → are_plain_connections cs ≡ true → are_well_formed_connections cs ≡ true → AllRead (map connection_text cs) (each_connection cs)
 unfolding each_connection
 connections_read [] p w = all_none
-connections_read (c ∷ cs) p w = all_more (connection_reads c (and_left _ _ (and_left _ _ p)) (and_right (is_plain_name c.name) _ (and_left _ _ p)) (and_left _ _ w))
-    (connections_read cs (and_right (is_plain_name c.name && is_plain_maybe c.value) _ p) (and_right (is_well_formed_maybe c.value) _ w))
+connections_read (c ∷ cs) p w = all_more (connection_reads c (search halves) (search halves) (search halves))
+    (connections_read cs (search halves) (search halves))
 
 given_formed : (v : MaybeExpr) → is_given v ≡ true → is_well_formed_maybe v ≡ true
 given_formed NoExpr h = absurd (cc h)
@@ -63,7 +63,7 @@ given_formed (SomeExpr e) h = h
 
 pub given_connections : (cs : List Connection) → are_given cs ≡ true → are_well_formed_connections cs ≡ true
 given_connections [] h = refl
-given_connections (c ∷ cs) h = let a = given_formed c.value (and_left _ _ h) in let b = given_connections cs (and_right (is_given c.value) _ h) in rw (a, b) refl
+given_connections (c ∷ cs) h = let a = given_formed c.value (search halves) in let b = given_connections cs (search halves) in rw (a, b) refl
 
 pub connections_whole : (cs : List Connection) → are_plain_connections cs ≡ true → are_well_formed_connections cs ≡ true → Whole (connections_page cs) (separated (each_connection cs))
 unfolding connections_page each_connection separated

@@ -20,7 +20,7 @@ use Rattle.vast_print.specs.Printed.{Printed, plain_text, ◌⊕◌, wrapped}
 use Rattle.vast_print.specs.Levels.{unary_operator_text}
 use Rattle.vast_print.specs.Bare.{is_bare}
 use Rattle.vast_print.specs.Text.{elided, cast_to, width_cast, package_text, expr_text, type_cast}
-use Rattle.vast_print.proofs.FaultLaws.{elided_text}
+use Rattle.vast_print.proofs.FaultLaws.{halves, elided_text}
 use Rattle.vast_print.proofs.TestLaws.{bare_same}
 use Rattle.vast_literal.specs.NormalExpr.{unary_operator_token}
 
@@ -43,7 +43,7 @@ identifier_opens tight [] h = absurd (cc h)
 identifier_opens tight (c ∷ w) h = opens_letter tight c w (and_left (is_letter c) (every is_word_byte w) h)
 
 name_opens : (tight : Bool) (w : List ℕ) → is_plain_name w ≡ true → opens tight w ≡ true
-name_opens tight w h = identifier_opens tight w (and_left _ _ h)
+name_opens tight w h = identifier_opens tight w (search halves)
 
 dollar_opens : (tight : Bool) (cs : List ℕ) → opens tight (36 ∷ cs) ≡ true
 dollar_opens true cs = refl
@@ -72,7 +72,7 @@ based_first c cs false e h = let d = and_left (is_digit c) (is_based cs) h in rw
 
 filled_first : (c : ℕ) (cs : List ℕ) → is_filled (c ∷ cs) ≡ true → (is_digit c || eqb c 39) ≡ true
 filled_first c [] h = absurd (cc h)
-filled_first c (d ∷ []) h = rw (eqb-true c 39 (and_left _ _ h)) refl
+filled_first c (d ∷ []) h = rw (eqb-true c 39 (search halves)) refl
 filled_first c (d ∷ x ∷ v) h = absurd (cc h)
 
 bare_first : (c : ℕ) (cs : List ℕ) (n b f : Bool) → is_number (c ∷ cs) ≡ n → is_based (c ∷ cs) ≡ b → is_filled (c ∷ cs) ≡ f → (n || (b || f)) ≡ true → (is_digit c || eqb c 39) ≡ true
@@ -102,7 +102,7 @@ literal_opens tight (c ∷ cs) h f = go (eqb c 45) refl h
 
 string_opens : (tight : Bool) (w : List ℕ) → is_string_text w ≡ true → opens tight w ≡ true
 string_opens tight [] h = absurd (cc h)
-string_opens tight (c ∷ cs) h = rw (eqb-true c 34 (and_left _ _ h)) (quote_opens tight cs)
+string_opens tight (c ∷ cs) h = rw (eqb-true c 34 (search halves)) (quote_opens tight cs)
 
 not_negative : (b : Bool) → not (nat_lt 13 13 || b) ≡ true → b ≡ false
 not_negative true h = absurd (cc h)
@@ -172,7 +172,7 @@ type_opens tight (IntegerTree false) p h c = cast_opens tight _ _ (word_opens ti
 type_opens tight (IntTree true) p h c = cast_opens tight _ _ (word_opens tight (codes "int") refl refl)
 type_opens tight (IntTree false) p h c = cast_opens tight _ _ (word_opens tight (codes "unsigned") refl refl)
 type_opens tight (ExternalTree n) p h c = cast_opens tight _ _ (plain_opens tight n (name_opens tight n h))
-type_opens tight (PackageTree s n) p h c = cast_opens tight _ _ (front tight _ _ (front tight _ _ (plain_opens tight s (name_opens tight s (and_left _ _ h)))))
+type_opens tight (PackageTree s n) p h c = cast_opens tight _ _ (front tight _ _ (front tight _ _ (plain_opens tight s (name_opens tight s (search halves)))))
 type_opens tight (PackedTree t ds) p h c = absurd (cc c)
 type_opens tight (UnpackedTree t ds) p h c = absurd (cc c)
 type_opens tight MissingType p h c = absurd (cc c)
@@ -186,23 +186,23 @@ opens_text tight (StringTree t) h w l = string_opens tight t w
 opens_text true (UnaryTree o e) h w l = let x = l refl in absurd (cc x)
 opens_text false (UnaryTree o e) h w l = sign_opens o _
 opens_text true (BinaryTree o a b) h w l = let x = l refl in let y = low o in absurd (cc (x, y))
-opens_text false (BinaryTree o a b) h w l = front false _ _ (front false _ _ (wrapped_opens false (left_child_wraps o a) (expr_text a) (λ _. opens_text false a (and_left _ _ h) (and_left _ _ w) (λ t. absurd (cc t)))))
+opens_text false (BinaryTree o a b) h w l = front false _ _ (front false _ _ (wrapped_opens false (left_child_wraps o a) (expr_text a) (λ _. opens_text false a (search halves) (search halves) (λ t. absurd (cc t)))))
 opens_text true (TernaryTree c a b) h w l = let x = l refl in absurd (cc x)
-opens_text false (TernaryTree c a b) h w l = front false _ _ (front false _ _ (front false _ _ (front false _ _ (wrapped_opens false (ternary_wraps c) (expr_text c) (λ _. opens_text false c (and_left _ _ h) (and_left _ _ w) (λ t. absurd (cc t)))))))
+opens_text false (TernaryTree c a b) h w l = front false _ _ (front false _ _ (front false _ _ (front false _ _ (wrapped_opens false (ternary_wraps c) (expr_text c) (λ _. opens_text false c (search halves) (search halves) (λ t. absurd (cc t)))))))
 opens_text tight (IndexTree s i) h w l =
-    pick_opens tight (is_scalar_name s) (is_zero i) ScalarIndex (expr_text s) _ (λ e. opens_text tight s (and_left _ _ h) (and_left _ _ w) (λ _. scalar_tight s e))
-    (λ _. front tight _ _ (front tight _ _ (front tight _ _ (wrapped_opens tight (select_wraps s) (expr_text s) (λ e. opens_text tight s (and_left _ _ h) (and_left _ _ w) (λ _. not_false (select_wraps s) _ refl e))))))
+    pick_opens tight (is_scalar_name s) (is_zero i) ScalarIndex (expr_text s) _ (λ e. opens_text tight s (search halves) (search halves) (λ _. scalar_tight s e))
+    (λ _. front tight _ _ (front tight _ _ (front tight _ _ (wrapped_opens tight (select_wraps s) (expr_text s) (λ e. opens_text tight s (search halves) (search halves) (λ _. not_false (select_wraps s) _ refl e))))))
 opens_text tight (SliceTree s a b) h w l =
-    pick_opens tight (is_scalar_name s) (is_zero a && is_zero b) ScalarSlice (expr_text s) _ (λ e. opens_text tight s (and_left _ _ h) (and_left _ _ w) (λ _. scalar_tight s e))
-    (λ _. front tight _ _ (front tight _ _ (front tight _ _ (front tight _ _ (front tight _ _ (wrapped_opens tight (select_wraps s) (expr_text s) (λ e. opens_text tight s (and_left _ _ h) (and_left _ _ w) (λ _. not_false (select_wraps s) _ refl e))))))))
+    pick_opens tight (is_scalar_name s) (is_zero a && is_zero b) ScalarSlice (expr_text s) _ (λ e. opens_text tight s (search halves) (search halves) (λ _. scalar_tight s e))
+    (λ _. front tight _ _ (front tight _ _ (front tight _ _ (front tight _ _ (front tight _ _ (wrapped_opens tight (select_wraps s) (expr_text s) (λ e. opens_text tight s (search halves) (search halves) (λ _. not_false (select_wraps s) _ refl e))))))))
 opens_text tight (PartSelectTree s i n) h w l =
-    front tight _ _ (front tight _ _ (front tight _ _ (front tight _ _ (front tight _ _ (wrapped_opens tight (select_wraps s) (expr_text s) (λ e. opens_text tight s (and_left _ _ h) (and_left _ _ w) (λ _. not_false (select_wraps s) _ refl e)))))))
+    front tight _ _ (front tight _ _ (front tight _ _ (front tight _ _ (front tight _ _ (wrapped_opens tight (select_wraps s) (expr_text s) (λ e. opens_text tight s (search halves) (search halves) (λ _. not_false (select_wraps s) _ refl e)))))))
 opens_text tight (ConcatTree n es) h w l = front tight _ _ (front tight _ _ (word_opens tight (codes "{") refl refl))
 opens_text tight (PatternTree es) h w l = front tight _ _ (front tight _ _ (word_opens tight (codes "'{") refl refl))
 opens_text tight (WidthCastTree w e) h k l = width_opens tight (expr_text w) (expr_text e)
-opens_text tight (TypeCastTree t e) h w l = type_opens tight t (expr_text e) (and_left _ _ h) (and_left _ _ w)
+opens_text tight (TypeCastTree t e) h w l = type_opens tight t (expr_text e) (search halves) (search halves)
 opens_text tight (PosEdgeTree e) h w l = absurd (cc h)
 opens_text tight (NegEdgeTree e) h w l = absurd (cc h)
 opens_text tight (MacroTree m es) h w l = front tight _ _ (front tight _ _ (word_opens tight (codes "`") refl refl))
-opens_text tight (CallTree f es) h w l = front tight _ _ (front tight _ _ (front tight _ _ (called_opens tight f (and_left _ _ h))))
+opens_text tight (CallTree f es) h w l = front tight _ _ (front tight _ _ (front tight _ _ (called_opens tight f (search halves))))
 opens_text tight MissingExpr h w l = absurd (cc w)

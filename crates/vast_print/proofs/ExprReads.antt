@@ -15,11 +15,11 @@ use Rattle.vast_literal.specs.NormalExpr.{normal, signing_key, scalar_sign, inte
 use Rattle.vast_literal.proofs.Pieces.{add_tokens-nil, sign_reads, operator_divides, as_reads, open_paren, close_paren, open_bracket, close_bracket, open_brace, close_brace, comma, question, colon}
 use Rattle.vast_literal.proofs.Spelled.{spelled, low}
 use Rattle.vast_literal.proofs.Longest.{scan_lexes}
-use Rattle.vast_literal.specs.Plain.{is_plain_name, is_called_name, is_plain, is_plain_type, are_plain}
+use Rattle.vast_literal.specs.Plain.{is_plain_name, is_plain, is_plain_type, are_plain}
 use Rattle.vast_literal.proofs.ExprTokens.{expr_tokens, cast_tokens, each_tokens, comma_tokens, comma_tail_tokens, wrapped_tokens, cast_operand, word_cast_tokens}
 use Rattle.vast_literal.proofs.ExprTokens as Tokens
 use Rattle.vast_literal.specs.WellFormed.{is_well_formed, is_well_formed_type, is_cast_type, are_well_formed}
-use Rattle.vast_literal.proofs.ScanLaws.{and_left, and_right}
+use Rattle.vast_print.proofs.FaultLaws.{halves, first_none, wrapped_fine}
 use Rattle.vast_literal.proofs.TokenReads.{Free, Reads}
 use Rattle.vast_literal.proofs.LiteralLaws.{literal_reads}
 use Rattle.vast_literal.proofs.Words.{name_reads, number_reads, string_reads, macro_reads, called_reads, name_cast_free, key_cast_free, plus_colon, pattern_open}
@@ -29,7 +29,6 @@ use Rattle.vast_print.specs.declared.refusal.Refusal.TheVariants.{ScalarIndex, S
 use Rattle.vast_print.specs.Printed.{Printed, plain_text, ◌⊕◌, wrapped}
 use Rattle.vast_print.specs.Bare.{is_bare}
 use Rattle.vast_print.specs.Text.{elided, cast_to, width_cast, sign_cast, scalar_cast, number_cast, package_text, expr_text, list_text, more_text, type_cast}
-use Rattle.vast_print.proofs.FaultLaws.{first_none, wrapped_fine}
 use Rattle.vast_print.proofs.ExprOpens.{front, opens_text, wrapped_opens}
 use Rattle.vast_print.proofs.TextReads.{Prints, nothing_reads, Rest, regrouped, printed_assoc, stands, rest_none, after, closed, parted, enclosing, parted_by_colon, goes_on, rest_more, in_parentheses, bracketed, head_reads}
 use Rattle.vast_print.proofs.CastReads.{operand_tight, positive_number, pick_reads, package_free, head_of_text, head_of_tree}
@@ -103,40 +102,35 @@ mutual
   expr_reads (LiteralTree t v) p w = stands _ (literal_reads t w)
   expr_reads (StringTree t) p w = stands _ (string_reads t w)
   expr_reads (UnaryTree o e) p w = unary_told o e p w (expr_reads e p w)
-  expr_reads (BinaryTree o a b) p w = simp printed_assoc (parted (bracketed (left_child_wraps o a) (expr_reads a (and_left _ _ p) (and_left _ _ w))) (operator_divides (binary_operator_token o))
-      (bracketed (right_child_wraps o b) (expr_reads b (and_right (is_plain a) _ p) (and_right (is_well_formed a) _ w))))
+  expr_reads (BinaryTree o a b) p w = simp printed_assoc (parted (bracketed (left_child_wraps o a) (expr_reads a (search halves) (search halves))) (operator_divides (binary_operator_token o))
+      (bracketed (right_child_wraps o b) (expr_reads b (search halves) (search halves))))
   expr_reads (TernaryTree c a b) p w =
-      let p1 = and_right (is_plain c) _ p in let w1 = and_right (is_well_formed c) _ w in
-      simp printed_assoc (parted (bracketed (ternary_wraps c) (expr_reads c (and_left _ _ p) (and_left _ _ w))) question (parted (bracketed (ternary_wraps a) (expr_reads a (and_left _ _ p1) (and_left _ _ w1))) colon
-      (bracketed (ternary_wraps b) (expr_reads b (and_right (is_plain a) _ p1) (and_right (is_well_formed a) _ w1)))))
+      simp printed_assoc (parted (bracketed (ternary_wraps c) (expr_reads c (search halves) (search halves))) question (parted (bracketed (ternary_wraps a) (expr_reads a (search halves) (search halves))) colon
+      (bracketed (ternary_wraps b) (expr_reads b (search halves) (search halves)))))
   expr_reads (IndexTree s i) p w =
-      let r = expr_reads s (and_left _ _ p) (and_left _ _ w) in
+      let r = expr_reads s (search halves) (search halves) in
       pick_told (is_scalar_name s) (is_zero i) ScalarIndex r
-      (simp printed_assoc (enclosing (bracketed (select_wraps s) r) open_bracket (expr_reads i (and_right (is_plain s) _ p) (and_right (is_well_formed s) _ w)) close_bracket))
+      (simp printed_assoc (enclosing (bracketed (select_wraps s) r) open_bracket (expr_reads i (search halves) (search halves)) close_bracket))
   expr_reads (SliceTree s a b) p w =
-      let p1 = and_right (is_plain s) _ p in let w1 = and_right (is_well_formed s) _ w in
-      let pb = and_right (is_plain a) _ p1 in let wb = and_right (is_well_formed a) _ w1 in
-      let r = expr_reads s (and_left _ _ p) (and_left _ _ w) in
+      let r = expr_reads s (search halves) (search halves) in
       pick_told (is_scalar_name s) (is_zero a && is_zero b) ScalarSlice r
-      (simp printed_assoc (parted (bracketed (select_wraps s) r) open_bracket (parted_by_colon (expr_reads a (and_left _ _ p1) (and_left _ _ w1))
-      (front false _ _ (opens_text false b pb wb (λ e. absurd (cc e)))) (closed (expr_reads b pb wb) close_bracket))))
+      (simp printed_assoc (parted (bracketed (select_wraps s) r) open_bracket (parted_by_colon (expr_reads a (search halves) (search halves))
+      (front false _ _ (opens_text false b (search halves) (search halves) (λ e. absurd (cc e)))) (closed (expr_reads b (search halves) (search halves)) close_bracket))))
   expr_reads (PartSelectTree s i n) p w =
-      let w1 = and_right (is_well_formed s) _ w in
-      simp printed_assoc (parted (bracketed (select_wraps s) (expr_reads s (and_left _ _ p) (and_left _ _ w))) open_bracket (parted (expr_reads i (and_right (is_plain s) _ p) (and_left _ _ w1)) plus_colon
-      (closed (stands _ (number_reads (signed_decimal n) (positive_number n (and_right (is_well_formed i) _ w1)))) close_bracket)))
+      simp printed_assoc (parted (bracketed (select_wraps s) (expr_reads s (search halves) (search halves))) open_bracket (parted (expr_reads i (search halves) (search halves)) plus_colon
+      (closed (stands _ (number_reads (signed_decimal n) (positive_number n (search halves)))) close_bracket)))
   expr_reads (ConcatTree NoExpr es) p w = simp printed_assoc (after (stands _ open_brace.free) (closed (list_reads es p w) close_brace))
-  expr_reads (ConcatTree (SomeExpr n) es) p w = simp printed_assoc (after (stands _ open_brace.free) (parted (expr_reads n (and_left _ _ p) (and_left _ _ w)) open_brace
-      (parted (list_reads es (and_right (is_plain n) _ p) (and_right (is_well_formed n) _ w)) close_brace (stands _ (as_reads close_brace.free)))))
+  expr_reads (ConcatTree (SomeExpr n) es) p w = simp printed_assoc (after (stands _ open_brace.free) (parted (expr_reads n (search halves) (search halves)) open_brace
+      (parted (list_reads es (search halves) (search halves)) close_brace (stands _ (as_reads close_brace.free)))))
   expr_reads (PatternTree es) p w = simp printed_assoc (after (stands _ pattern_open) (closed (list_reads es p w) close_brace))
-  expr_reads (WidthCastTree h e) p w = width_told h (and_left _ _ w) (expr_reads h (and_left _ _ p) (and_left _ _ w)) (expr_reads e (and_right (is_plain h) _ p) (and_right (is_well_formed h) _ w))
+  expr_reads (WidthCastTree h e) p w = width_told h (search halves) (expr_reads h (search halves) (search halves)) (expr_reads e (search halves) (search halves))
   expr_reads (TypeCastTree t e) p w =
-      let w1 = and_right (is_cast_type t) _ w in
-      type_reads t (and_left _ _ p) (and_left _ _ w) (and_left _ _ w1) (expr_reads e (and_right (is_plain_type t) _ p) (and_right (is_well_formed_type t) _ w1))
+      type_reads t (search halves) (search halves) (search halves) (expr_reads e (search halves) (search halves))
   expr_reads (PosEdgeTree e) p w = absurd (cc p)
   expr_reads (NegEdgeTree e) p w = absurd (cc p)
   expr_reads (MacroTree m NoArguments) p w = goes_on (macro_name m p) rest_none
-  expr_reads (MacroTree m (SomeArguments es)) p w = goes_on (macro_name m (and_left _ _ p)) (in_parentheses (list_reads es (and_right (is_plain_name m) _ p) w))
-  expr_reads (CallTree n es) p w = simp printed_assoc (enclosing (stands _ (called_reads n (and_left _ _ p))) open_paren (list_reads es (and_right (is_called_name n) _ p) w) close_paren)
+  expr_reads (MacroTree m (SomeArguments es)) p w = goes_on (macro_name m (search halves)) (in_parentheses (list_reads es (search halves) w))
+  expr_reads (CallTree n es) p w = simp printed_assoc (enclosing (stands _ (called_reads n (search halves))) open_paren (list_reads es (search halves) w) close_paren)
   expr_reads MissingExpr p w = absurd (cc w)
 
   type_reads : (t : TypeTree) {q : Printed} {ts : List Token} → is_plain_type t ≡ true → is_cast_type t ≡ true → is_well_formed_type t ≡ true → Prints Reads q ts → Prints Reads (type_cast t q) (cast_tokens t ts)
@@ -145,16 +139,16 @@ mutual
   type_reads (IntegerTree signed) p c w r = number_cast_told IntegerKey signed r
   type_reads (IntTree signed) p c w r = number_cast_told IntKey signed r
   type_reads (ExternalTree n) p c w r = cast_told _ (Word n ∷ []) (name_head _ (name_cast_free n p)) r
-  type_reads (PackageTree s n) p c w r = cast_told _ (Word s ∷ Mark DoubleColon ∷ Word n ∷ []) (package_head s n (and_left _ _ p) (and_right (is_plain_name s) _ p)) r
+  type_reads (PackageTree s n) p c w r = cast_told _ (Word s ∷ Mark DoubleColon ∷ Word n ∷ []) (package_head s n (search halves) (search halves)) r
   type_reads _ p c w r = absurd (cc c)
 
   list_reads : (es : Exprs) → are_plain es ≡ true → are_well_formed es ≡ true → Prints Reads (list_text es) (comma_tokens (each_tokens es))
   list_reads NoExprs p w = stands _ nothing_reads
-  list_reads (MoreExprs e es) p w = goes_on (expr_reads e (and_left _ _ p) (and_left _ _ w)) (more_reads es (and_right (is_plain e) _ p) (and_right (is_well_formed e) _ w))
+  list_reads (MoreExprs e es) p w = goes_on (expr_reads e (search halves) (search halves)) (more_reads es (search halves) (search halves))
 
   more_reads : (es : Exprs) → are_plain es ≡ true → are_well_formed es ≡ true → Prints Rest (more_text es) (comma_tail_tokens (each_tokens es))
   more_reads NoExprs p w = rest_none
-  more_reads (MoreExprs e es) p w = rest_more comma (expr_reads e (and_left _ _ p) (and_left _ _ w)) (more_reads es (and_right (is_plain e) _ p) (and_right (is_well_formed e) _ w))
+  more_reads (MoreExprs e es) p w = rest_more comma (expr_reads e (search halves) (search halves)) (more_reads es (search halves) (search halves))
 
 tokens_of : (a : List ℕ) (ts : List Token) → Reads a ts → tokens a ≡ Some ts
 unfolding tokens Scan.scan

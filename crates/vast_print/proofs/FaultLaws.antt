@@ -1,5 +1,6 @@
--- What is printed without a refusal has parts that are.
+-- The parts of what is printed without a refusal, and the halves of a test of two.
 use Rattle.std.proofs.Common.{◌≡◌, Bool, true, false, Option, Some, None, refl}
+use Rattle.vast_literal.proofs.ScanLaws.{and_left, and_right}
 use Rattle.vast_print.specs.declared.refusal.Refusal.{Refusal}
 use Rattle.vast_print.specs.Printed.{Printed, first_fault, plain_text, refused, ◌⊕◌, wrapped}
 use Rattle.vast_print.specs.Text.{elided}
@@ -26,3 +27,6 @@ pub elided_text : (b : Bool) (r : Refusal) (p : Printed) → (elided b r p).text
 unfolding elided refused
 elided_text true r p = refl
 elided_text false r p = refl
+
+-- the halves of a test of two, and theirs
+pub ruleset halves = (and_left, and_right)

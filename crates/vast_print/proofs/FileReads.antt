@@ -1,16 +1,16 @@
 -- The grammar derives the normal form of a plain file from its printed layout.
-use Rattle.std.proofs.Common.{◌≡◌, ℕ, List, [], ◌∷◌, ◌++◌, map, true, false, ◌&&◌, Some, None, refl, append_assoc, codes, ◌||◌, eqb}
+use Rattle.std.proofs.Common.{◌≡◌, ℕ, List, [], ◌∷◌, ◌++◌, map, true, false, Some, None, refl, append_assoc, codes, ◌||◌, eqb}
 use Rattle.vast_literal.specs.Tokens.{Token, key_text, Reserved, Mark, Word, MacroWord, Quoted}
 use Rattle.vast_literal.specs.declared.token.Mark.TheVariants.{OpenParen, CloseParen, Semicolon}
 use Rattle.vast_literal.specs.declared.token.Key.TheVariants.{Input as InputKey, Parameter as ParameterKey, Module as ModuleKey, EndModule as EndModuleKey, Output as OutputKey, InOut as InOutKey}
 use Rattle.vast_literal.specs.declared.kind.VastFileType.{VastFileType as Dialect}
 use Rattle.vast_literal.specs.Scan.{scan, tokens}
-use Rattle.vast_literal.specs.Plain.{is_plain_name, is_plain}
-use Rattle.vast_literal.specs.PlainFile.{is_plain_declared, are_plain_ports, is_plain_typed, are_plain_parameters, is_plain_module, is_path_byte, are_plain_items, is_plain_file}
-use Rattle.vast_literal.specs.WellFormed.{is_well_formed, is_well_formed_type}
+use Rattle.vast_literal.specs.Plain.{is_plain_name}
+use Rattle.vast_literal.specs.PlainFile.{are_plain_ports, is_plain_typed, are_plain_parameters, is_plain_module, is_path_byte, are_plain_items, is_plain_file}
 use Rattle.vast_literal.proofs.FileTokens.{separated, member_tokens, members_tokens, each_port, typed_tokens, each_parameter, header_parameter_tokens, header_port_tokens, module_tokens, item_tokens, items_tokens, file_tokens}
 use Rattle.vast_literal.proofs.TokenReads.{Free, Divides, Reads}
-use Rattle.vast_literal.proofs.ScanLaws.{and_left, and_right, scan_macro, not_or_left, not_or_right, or_left, or_right}
+use Rattle.vast_literal.proofs.ScanLaws.{scan_macro, not_or_left, not_or_right, or_left, or_right}
+use Rattle.vast_print.proofs.FaultLaws.{halves}
 use Rattle.vast_literal.proofs.Pieces.{reads_sep, open_paren}
 use Rattle.vast_literal.proofs.Words.{key_reads, name_reads, string_reads}
 use Rattle.vast_literal.specs.Shape.{base_kind, base_of}
@@ -47,8 +47,8 @@ direction_free InOutDirection = key_space InOutKey
 ports_read : (dialect : Dialect) (ps : List PortTree) → are_plain_ports ps ≡ true → are_well_formed_ports ps ≡ true → AllRead (map (port_text dialect) ps) (each_port dialect ps)
 unfolding port_text each_port
 ports_read dialect [] h w = all_none
-ports_read dialect (p ∷ ps) h w = all_more (after (stands _ (direction_free p.direction)) (port_reads dialect p.declaration (and_left _ _ h) (and_left _ _ w)))
-    (ports_read dialect ps (and_right (is_plain_declared p.declaration) _ h) (and_right (is_well_formed_type p.declaration.type) _ w))
+ports_read dialect (p ∷ ps) h w = all_more (after (stands _ (direction_free p.direction)) (port_reads dialect p.declaration (search halves) (search halves)))
+    (ports_read dialect ps (search halves) (search halves))
 
 ports_whole : (dialect : Dialect) (ps : List PortTree) → are_plain_ports ps ≡ true → are_well_formed_ports ps ≡ true → Whole (ports_page dialect ps) (separated (each_port dialect ps))
 unfolding ports_page
@@ -65,11 +65,9 @@ header_parameters_read : (dialect : Dialect) (ps : List ParameterPortTree) → a
 unfolding parameter_port_text each_parameter key_text
 header_parameters_read dialect [] h w = all_none
 header_parameters_read dialect (p ∷ ps) h w =
-    let h0 = and_left (is_plain_typed p.type p.name && is_plain p.value) _ h in
-    let w0 = and_left (is_well_formed_typed p.type && is_well_formed p.value) _ w in
-    all_more (simp printed_assoc (after (stands _ (key_space ParameterKey)) (parted (typed_reads dialect p.type p.name (and_left _ _ h0) (and_left _ _ w0)) equals
-    (expr_reads p.value (and_right (is_plain_typed p.type p.name) _ h0) (and_right (is_well_formed_typed p.type) _ w0)))))
-    (header_parameters_read dialect ps (and_right (is_plain_typed p.type p.name && is_plain p.value) _ h) (and_right (is_well_formed_typed p.type && is_well_formed p.value) _ w))
+    all_more (simp printed_assoc (after (stands _ (key_space ParameterKey)) (parted (typed_reads dialect p.type p.name (search halves) (search halves)) equals
+    (expr_reads p.value (search halves) (search halves)))))
+    (header_parameters_read dialect ps (search halves) (search halves))
 
 header_parameters_whole : (dialect : Dialect) (ps : List ParameterPortTree) → are_plain_parameters ps ≡ true → are_well_formed_parameters ps ≡ true → Whole (parameter_ports_page dialect ps) (separated (each_parameter dialect ps))
 unfolding parameter_ports_page
@@ -104,11 +102,8 @@ body_whole dialect (MoreMembers m ms) h = whole_inner h
 module_whole : (dialect : Dialect) (m : ModuleTree) → is_plain_module m ≡ true → is_well_formed_module m ≡ true → Whole (module_page dialect m) (module_tokens dialect m)
 unfolding module_page module_tokens key_text
 module_whole dialect m p w =
-    let p1 = and_right (is_plain_name m.name) _ p in
-    let p2 = and_right (are_plain_parameters m.parameters) _ p1 in
-    let w2 = and_right (are_well_formed_parameters m.parameters) _ w in
-    page_regrouped (whole_above (header_whole dialect m.name m.parameters m.ports (and_left _ _ p) (and_left _ _ p1) (and_left _ _ p2) (and_left _ _ w) (and_left _ _ w2))
-    (whole_above (body_whole dialect m.members (members_whole dialect m.members (and_right (are_plain_ports m.ports) _ p2) (and_right (are_well_formed_ports m.ports) _ w2))) (whole_line (key_reads EndModuleKey)))) (simp append_assoc)
+    page_regrouped (whole_above (header_whole dialect m.name m.parameters m.ports (search halves) (search halves) (search halves) (search halves) (search halves))
+    (whole_above (body_whole dialect m.members (members_whole dialect m.members (search halves) (search halves))) (whole_line (key_reads EndModuleKey)))) (simp append_assoc)
 
 -- includes
 
@@ -120,7 +115,7 @@ path_byte c v h k =
 
 path_string : (path : List ℕ) → every is_path_byte path ≡ true → is_string_rest false (path ++ (34 ∷ [])) ≡ true
 path_string [] h = refl
-path_string (c ∷ path) h = path_byte c (path ++ (34 ∷ [])) (and_left _ _ h) (path_string path (and_right (is_path_byte c) _ h))
+path_string (c ∷ path) h = path_byte c (path ++ (34 ∷ [])) (search halves) (path_string path (search halves))
 
 include_word : Reads (96 ∷ codes "include") (MacroWord (codes "include") ∷ [])
 include_word = record { at = λ rest h. scan_macro (codes "include") rest refl h }
@@ -134,8 +129,8 @@ include_reads path h = record { told = λ e. rw append_assoc (reads_sep include_
 items_whole : (dialect : Dialect) (is : List FileItemTree) → are_plain_items is ≡ true → are_well_formed_items is ≡ true → Whole (items_page dialect is) (items_tokens dialect is)
 unfolding items_page items_tokens item_page item_tokens
 items_whole dialect [] p w = whole_none
-items_whole dialect (ModuleItem m ∷ is) p w = whole_above (module_whole dialect m (and_left _ _ p) (and_left _ _ w)) (items_whole dialect is (and_right (is_plain_module m) _ p) (and_right (is_well_formed_module m) _ w))
-items_whole dialect (IncludeItem path ∷ is) p w = whole_above (whole_written (include_reads path (and_left _ _ p))) (items_whole dialect is (and_right (every is_path_byte path) _ p) w)
+items_whole dialect (ModuleItem m ∷ is) p w = whole_above (module_whole dialect m (search halves) (search halves)) (items_whole dialect is (search halves) (search halves))
+items_whole dialect (IncludeItem path ∷ is) p w = whole_above (whole_written (include_reads path (search halves))) (items_whole dialect is (search halves) w)
 items_whole dialect (CommentItem text ∷ is) p w = whole_above (whole_comment text) (items_whole dialect is p w)
 items_whole dialect (BlankItem ∷ is) p w = whole_above whole_blank (items_whole dialect is p w)
 

@@ -1,16 +1,16 @@
 -- Functions have the tokens that the grammar reads.
-use Rattle.std.proofs.Common.{◌≡◌, List, [], ◌∷◌, ◌++◌, Bool, true, false, cond, ◌&&◌, refl, sym, ap, append_assoc, append-nil, codes}
+use Rattle.std.proofs.Common.{◌≡◌, List, [], ◌∷◌, ◌++◌, Bool, true, false, cond, refl, sym, ap, append_assoc, append-nil, codes}
 use Rattle.vast_literal.specs.Tokens.{Token, key_text, Reserved, Mark}
 use Rattle.vast_literal.specs.declared.token.Mark.TheVariants.{Comma}
 use Rattle.vast_literal.specs.declared.token.Key.TheVariants.{Function as FunctionKey, Automatic as AutomaticKey, EndFunction as EndFunctionKey, Input as InputKey}
 use Rattle.vast_literal.specs.Tree.{Declaration, FunctionTree, Statements}
 use Rattle.vast_literal.specs.declared.kind.VastFileType.{VastFileType as Dialect}
-use Rattle.vast_literal.specs.PlainFile.{is_plain_declaration, is_plain_declared, is_plain_function}
+use Rattle.vast_literal.specs.PlainFile.{is_plain_declared, is_plain_function}
 use Rattle.vast_literal.specs.WellFormed.{is_well_formed_type}
-use Rattle.vast_literal.specs.WellFormedFile.{are_well_formed_inputs, are_well_formed_locals, is_well_formed_function, is_local_word}
+use Rattle.vast_literal.specs.WellFormedFile.{are_well_formed_inputs, are_well_formed_locals, is_well_formed_function}
 use Rattle.vast_literal.proofs.FileTokens.{declared_tokens, port_declaration_tokens, block_tokens, statements_tokens, separated, each_input, local_tokens, body_tokens, function_tokens}
 use Rattle.vast_literal.proofs.TokenReads.{Free, Reads}
-use Rattle.vast_literal.proofs.ScanLaws.{and_left, and_right}
+use Rattle.vast_print.proofs.FaultLaws.{halves}
 use Rattle.vast_literal.proofs.Pieces.{free_free, comma}
 use Rattle.vast_literal.proofs.Words.{key_reads}
 use Rattle.vast_literal.specs.Shape.{port_kind, result_kind, is_one_casez}
@@ -51,14 +51,14 @@ more_inputs_read : (dialect : Dialect) (ds : List Declaration) → every is_plai
 unfolding more_inputs_text each_input after_first
 more_inputs_read dialect [] p w = rest_none
 more_inputs_read dialect (d ∷ ds) p w = regrouped
-    (rest_more comma (input_reads dialect d (and_left _ _ p) (and_left _ _ w)) (more_inputs_read dialect ds (and_right (is_plain_declared d) _ p) (and_right (is_well_formed_type d.type) _ w)))
+    (rest_more comma (input_reads dialect d (search halves) (search halves)) (more_inputs_read dialect ds (search halves) (search halves)))
     (ap (λ (ts : List Token). Mark Comma ∷ ts) (sym (separated_more _ (each_input dialect ds))))
 
 inputs_read : (dialect : Dialect) (ds : List Declaration) → every is_plain_declared ds ≡ true → are_well_formed_inputs ds ≡ true → Prints Reads (inputs_text dialect ds) (separated (each_input dialect ds))
 unfolding inputs_text each_input separated
 inputs_read dialect [] p w = stands _ nothing_reads
 inputs_read dialect (d ∷ ds) p w = regrouped
-    (goes_on (input_reads dialect d (and_left _ _ p) (and_left _ _ w)) (more_inputs_read dialect ds (and_right (is_plain_declared d) _ p) (and_right (is_well_formed_type d.type) _ w)))
+    (goes_on (input_reads dialect d (search halves) (search halves)) (more_inputs_read dialect ds (search halves) (search halves)))
     (sym (separated_more _ (each_input dialect ds)))
 
 -- locals and bodies
@@ -67,8 +67,8 @@ locals_whole : (dialect : Dialect) (ds : List Declaration) → every is_plain_de
 unfolding locals_page local_page local_tokens
 locals_whole dialect [] p w = whole_none
 locals_whole dialect (d ∷ ds) p w = whole_above
-    (whole_written (closed (declared_reads dialect d (and_left _ _ p) (and_right (is_local_word d.kind) _ (and_left _ _ w))) semicolon))
-    (locals_whole dialect ds (and_right (is_plain_declared d) _ p) (and_right (is_local_word d.kind && is_well_formed_type d.type) _ w))
+    (whole_written (closed (declared_reads dialect d (search halves) (search halves)) semicolon))
+    (locals_whole dialect ds (search halves) (search halves))
 
 body_whole : (b : Statements) → Whole (statements_page b) (statements_tokens b) → Whole (function_body_page b) (body_tokens b)
 unfolding function_body_page body_tokens
@@ -87,9 +87,7 @@ function_opens = free_free (key_space FunctionKey) (key_space AutomaticKey)
 pub function_whole : (dialect : Dialect) (f : FunctionTree) → is_plain_function f ≡ true → is_well_formed_function f ≡ true → Whole (function_page dialect f) (function_tokens dialect f)
 unfolding function_page function_tokens key_text
 function_whole dialect f p w =
-    let p1 = and_right (is_plain_declaration f.result f.name) _ p in let w1 = and_right (is_well_formed_type f.result) _ w in
-    let p2 = and_right (every is_plain_declared f.inputs) _ p1 in let w2 = and_right (are_well_formed_inputs f.inputs) _ w1 in
-    page_regrouped (whole_above (whole_written (leftward _ _ _ (leftward _ _ _ (leftward _ _ _ (after (stands _ function_opens) (enclosing (declaration_reads dialect (result_kind dialect f.result) f.result f.name (and_left _ _ p) (and_left _ _ w)) space_open
-    (inputs_read dialect f.inputs (and_left _ _ p1) (and_left _ _ w1)) close_semicolon))))))
-    (whole_above (whole_inner (whole_above (locals_whole dialect f.locals (and_left _ _ p2) (and_left _ _ w2))
-    (body_whole f.body (statements_whole f.body (and_right (every is_plain_declared f.locals) _ p2) (and_right (are_well_formed_locals f.locals) _ w2))))) (whole_line (key_reads EndFunctionKey)))) (simp append_assoc)
+    page_regrouped (whole_above (whole_written (leftward _ _ _ (leftward _ _ _ (leftward _ _ _ (after (stands _ function_opens) (enclosing (declaration_reads dialect (result_kind dialect f.result) f.result f.name (search halves) (search halves)) space_open
+    (inputs_read dialect f.inputs (search halves) (search halves)) close_semicolon))))))
+    (whole_above (whole_inner (whole_above (locals_whole dialect f.locals (search halves) (search halves))
+    (body_whole f.body (statements_whole f.body (search halves) (search halves))))) (whole_line (key_reads EndFunctionKey)))) (simp append_assoc)

@@ -14,7 +14,7 @@ use Rattle.vast_literal.specs.WellFormedFile.{is_well_formed_event, are_well_for
 use Rattle.vast_literal.proofs.ExprTokens.{expr_tokens}
 use Rattle.vast_literal.proofs.FileTokens.{block_tokens, statements_tokens, each_connection, given_tokens, instance_tokens, more_event_tokens, event_tokens, always_tokens}
 use Rattle.vast_literal.proofs.TokenReads.{Free, Divides, Reads}
-use Rattle.vast_literal.proofs.ScanLaws.{and_left, and_right}
+use Rattle.vast_print.proofs.FaultLaws.{halves}
 use Rattle.vast_literal.proofs.Pieces.{reads_end, divides_free}
 use Rattle.vast_literal.proofs.Words.{key_reads, name_reads}
 use Rattle.vast_print.specs.Text.{expr_text}
@@ -39,10 +39,8 @@ head_whole m (c ∷ cs) i p q r w = page_regrouped (whole_above (whole_written (
 pub instance_whole : (i : InstanceTree) → is_plain_instance i ≡ true → (are_given i.parameters && are_well_formed_connections i.connections) ≡ true → Whole (instance_page i) (instance_tokens i)
 unfolding instance_page instance_tokens
 instance_whole i p w =
-    let p0 = and_left (is_plain_name i.module_name && is_plain_name i.instance_name) _ p in
-    let p1 = and_right (is_plain_name i.module_name && is_plain_name i.instance_name) _ p in
-    page_regrouped (whole_above (head_whole i.module_name i.parameters i.instance_name (and_left _ _ p0) (and_right (is_plain_name i.module_name) _ p0) (and_left _ _ p1) (and_left _ _ w))
-    (whole_above (connections_whole i.connections (and_right (are_plain_connections i.parameters) _ p1) (and_right (are_given i.parameters) _ w)) list_closed)) (simp append_assoc)
+    page_regrouped (whole_above (head_whole i.module_name i.parameters i.instance_name (search halves) (search halves) (search halves) (search halves))
+    (whole_above (connections_whole i.connections (search halves) (search halves)) list_closed)) (simp append_assoc)
 
 -- events
 
@@ -61,13 +59,13 @@ more_events_read : (es : Exprs) → are_plain_events es ≡ true → are_well_fo
 unfolding more_events_text more_event_tokens
 more_events_read NoExprs p w = rest_none
 more_events_read (MoreExprs e es) p w =
-    rest_more or_divides (event_reads e (and_left _ _ p) (and_left _ _ w)) (more_events_read es (and_right (is_plain_event e) _ p) (and_right (is_well_formed_event e) _ w))
+    rest_more or_divides (event_reads e (search halves) (search halves)) (more_events_read es (search halves) (search halves))
 
 events_read : (es : Exprs) → are_plain_events es ≡ true → are_well_formed_events es ≡ true → Prints Reads (events_text es) (event_tokens es)
 unfolding events_text event_tokens
 events_read NoExprs p w = stands _ nothing_reads
 events_read (MoreExprs e es) p w =
-    goes_on (event_reads e (and_left _ _ p) (and_left _ _ w)) (more_events_read es (and_right (is_plain_event e) _ p) (and_right (is_well_formed_event e) _ w))
+    goes_on (event_reads e (search halves) (search halves)) (more_events_read es (search halves) (search halves))
 
 -- always blocks
 

@@ -1,18 +1,16 @@
 -- The page of a plain member has the tokens that the grammar reads.
-use Rattle.std.proofs.Common.{◌≡◌, List, [], ◌∷◌, ◌++◌, Bool, true, false, ◌&&◌, append_assoc}
+use Rattle.std.proofs.Common.{◌≡◌, List, [], ◌∷◌, ◌++◌, Bool, true, false, append_assoc}
 use Rattle.vast_literal.specs.Tokens.{Token, key_text, Reserved}
 use Rattle.vast_literal.specs.declared.token.Key.TheVariants.{End as EndKey, Parameter as ParameterKey, Localparam as LocalparamKey, Int as IntKey}
 use Rattle.vast_literal.specs.declared.kind.VastFileType.{VastFileType as Dialect}
 use Rattle.vast_literal.specs.Tree.{ParameterName, PlainParameter, IntParameter, DefinedParameter, ConditionalTree, MemberTree, DeclarationMember, AssignMember, ParameterMember, CommentMember, BlankMember, InlineMember, MacroMember, InstanceMember, AlwaysMember, ConditionalMember, FunctionMember, LoopMember, Members, NoMembers, MoreMembers}
 use Rattle.vast_literal.specs.declared.kind.AssignmentForm.TheVariants.{Continuous}
-use Rattle.vast_literal.specs.Plain.{is_plain_name, is_plain}
-use Rattle.vast_literal.specs.PlainFile.{are_plain_awaited, is_plain_parameter_name, is_plain_label, is_plain_member, are_plain_members}
-use Rattle.vast_literal.specs.WellFormed.{is_well_formed}
-use Rattle.vast_literal.specs.WellFormedFile.{are_well_formed_events, is_well_formed_parameter_name, is_well_formed_member, are_well_formed_members, is_macro, is_own_kind}
+use Rattle.vast_literal.specs.PlainFile.{is_plain_parameter_name, is_plain_member, are_plain_members}
+use Rattle.vast_literal.specs.WellFormedFile.{is_well_formed_parameter_name, is_well_formed_member, are_well_formed_members}
 use Rattle.vast_literal.specs.NormalTree.{parameter_key}
 use Rattle.vast_literal.proofs.FileTokens.{parameter_name_tokens, semicolon_tokens, member_tokens, members_tokens, statement_tokens}
 use Rattle.vast_literal.proofs.TokenReads.{Free, Reads}
-use Rattle.vast_literal.proofs.ScanLaws.{and_left, and_right}
+use Rattle.vast_print.proofs.FaultLaws.{halves}
 use Rattle.vast_literal.proofs.Words.{key_reads, name_reads}
 use Rattle.vast_print.specs.Printed.{Printed, plain_text, ◌⊕◌}
 use Rattle.vast_print.specs.Members.{parameter_word, parameter_text, semicolon_text, member_page, members_page}
@@ -45,27 +43,24 @@ mutual
 
   -- The page of a plain, well-formed member that is printed without a refusal brings its tokens.
   pub member_whole : (dialect : Dialect) (m : MemberTree) → is_plain_member m ≡ true → is_well_formed_member m ≡ true → Whole (member_page dialect m) (member_tokens dialect m)
-  member_whole dialect (DeclarationMember d) p w = whole_written (closed (declared_reads dialect d p (and_right (is_own_kind d.kind) _ w)) semicolon)
+  member_whole dialect (DeclarationMember d) p w = whole_written (closed (declared_reads dialect d p (search halves)) semicolon)
   member_whole dialect (AssignMember l r) p w = whole (assignment_open Continuous l r p w)
-  member_whole dialect (ParameterMember local n v) p w = whole_written (simp printed_assoc (after (stands _ (parameter_free local)) (enclosing (parameter_name_reads dialect n (and_left _ _ p) (and_left _ _ w)) equals
-      (expr_reads v (and_right (is_plain_parameter_name n) _ p) (and_right (is_well_formed_parameter_name n) _ w)) semicolon)))
+  member_whole dialect (ParameterMember local n v) p w = whole_written (simp printed_assoc (after (stands _ (parameter_free local)) (enclosing (parameter_name_reads dialect n (search halves) (search halves)) equals
+      (expr_reads v (search halves) (search halves)) semicolon)))
   member_whole dialect (CommentMember text) p w = whole_comment text
   member_whole dialect BlankMember p w = whole_blank
   member_whole dialect (InlineMember text) p w = absurd (cc p)
-  member_whole dialect (MacroMember e s) p w = whole_written (macro_ends s (expr_reads e p (and_right (is_macro e) _ w)))
+  member_whole dialect (MacroMember e s) p w = whole_written (macro_ends s (expr_reads e p (search halves)))
   member_whole dialect (InstanceMember i) p w = instance_whole i p w
   member_whole dialect (AlwaysMember word es b) p w =
-      whole (always_open word es b (and_left _ _ p) (and_left _ _ w) (block_open b (statements_whole b (and_right (are_plain_awaited word es) _ p) (and_right (are_well_formed_events es) _ w))))
+      whole (always_open word es b (search halves) (search halves) (block_open b (statements_whole b (search halves) (search halves))))
   member_whole dialect (ConditionalMember c b rest) p w = statement_whole (ConditionalTree c b rest) p w
   member_whole dialect (FunctionMember g) p w = function_whole dialect g p w
   member_whole dialect (LoopMember i s e l ms) p w =
-      let p0 = and_left (is_plain_name i && is_plain_label l) _ p in
-      let p1 = and_right (is_plain_name i && is_plain_label l) _ p in
-      let p2 = and_left (is_plain s && is_plain e) _ p1 in let w2 = and_left (is_well_formed s && is_well_formed e) _ w in
-      page_regrouped (whole_above (whole_written (loop_reads i s e l (and_left _ _ p0) (and_right (is_plain_name i) _ p0) (expr_reads s (and_left _ _ p2) (and_left _ _ w2)) (expr_reads e (and_right (is_plain s) _ p2) (and_right (is_well_formed s) _ w2))))
-      (whole_above (whole_inner (members_whole dialect ms (and_right (is_plain s && is_plain e) _ p1) (and_right (is_well_formed s && is_well_formed e) _ w))) (whole_line (key_reads EndKey)))) (simp append_assoc)
+      page_regrouped (whole_above (whole_written (loop_reads i s e l (search halves) (search halves) (expr_reads s (search halves) (search halves)) (expr_reads e (search halves) (search halves))))
+      (whole_above (whole_inner (members_whole dialect ms (search halves) (search halves))) (whole_line (key_reads EndKey)))) (simp append_assoc)
 
   pub members_whole : (dialect : Dialect) (ms : Members) → are_plain_members ms ≡ true → are_well_formed_members ms ≡ true → Whole (members_page dialect ms) (members_tokens dialect ms)
   members_whole dialect NoMembers p w = whole_none
   members_whole dialect (MoreMembers m ms) p w =
-      whole_above (member_whole dialect m (and_left _ _ p) (and_left _ _ w)) (members_whole dialect ms (and_right (is_plain_member m) _ p) (and_right (is_well_formed_member m) _ w))
+      whole_above (member_whole dialect m (search halves) (search halves)) (members_whole dialect ms (search halves) (search halves))

@@ -9,21 +9,19 @@ use Rattle.vast_literal.specs.declared.kind.AssignmentForm.{AssignmentForm as As
 use Rattle.vast_literal.specs.declared.kind.AssignmentForm.TheVariants.{Blocking, Nonblocking, Continuous}
 use Rattle.vast_literal.specs.declared.kind.CaseKind.{CaseKind as CaseWord}
 use Rattle.vast_literal.specs.declared.kind.CaseKind.TheVariants.{Case as CaseExact, CaseZ, CaseX}
-use Rattle.vast_literal.specs.Plain.{is_plain}
-use Rattle.vast_literal.specs.PlainFile.{is_plain_maybe, is_left_side, is_plain_assignment, is_plain_statement, are_plain_statements, are_plain_alternates, are_plain_arms}
+use Rattle.vast_literal.specs.PlainFile.{is_plain_maybe, is_plain_assignment, is_plain_statement, are_plain_statements, are_plain_alternates, are_plain_arms}
 use Rattle.vast_literal.specs.WellFormed.{is_well_formed}
 use Rattle.vast_literal.specs.WellFormedFile.{is_well_formed_maybe, is_well_formed_statement, are_well_formed_statements, are_well_formed_alternates, are_well_formed_arms}
 use Rattle.vast_literal.specs.NormalTree.{case_key}
 use Rattle.vast_literal.proofs.FileTokens.{assignment_tokens, block_tokens, unique_tokens, label_tokens, statement_tokens, statements_tokens, alternates_tokens, arms_tokens}
 use Rattle.vast_literal.proofs.TokenReads.{Free, Divides, Reads}
-use Rattle.vast_literal.proofs.ScanLaws.{and_left, and_right}
+use Rattle.vast_print.proofs.FaultLaws.{halves, first_none}
 use Rattle.vast_literal.proofs.Pieces.{operator_divides, close_paren}
 use Rattle.vast_literal.proofs.Words.{key_reads}
 use Rattle.vast_literal.specs.Shape.{is_bare_arm, is_one_assignment}
 use Rattle.vast_print.specs.Printed.{Printed}
 use Rattle.vast_print.specs.Page.{Page, no_lines, above}
 use Rattle.vast_print.specs.Statements.{assign_text, case_word, unique_word, label_text, statement_page, statements_page, block_page, alternates_page, arms_page}
-use Rattle.vast_print.proofs.FaultLaws.{first_none}
 use Rattle.vast_print.proofs.ExprReads.{expr_reads}
 use Rattle.vast_print.proofs.TextReads.{Prints, printed_assoc, leftward, stands, nothing, after, after_free, ended_by, closed, enclosing}
 use Rattle.vast_print.proofs.PageReads.{Whole, Open, Follows, page_regrouped, whole_above, whole_inner, whole_none, whole, whole_line, open_written, whole_written, open_free, open_follows, follows_none, follows_written, follows_line, whole_blank, whole_comment, equals, semicolon, close_space, label_colon, key_space, key_open, else_divides, else_if_divides, condition_divides, open_empty, open_block}
@@ -40,8 +38,8 @@ assign_reads Continuous f g = simp printed_assoc (after (stands _ (key_space Ass
 pub assignment_open : (form : AssignForm) (l r : ExprTree) → is_plain_assignment l r ≡ true → (is_well_formed l && is_well_formed r) ≡ true → Open (statement_page (AssignTree form l r)) (statement_tokens (AssignTree form l r))
 unfolding statement_page statement_tokens
 assignment_open form l r p w = open_written (assign_reads form
-    (expr_reads l (and_right (is_left_side l) _ (and_left _ _ p)) (and_left _ _ w))
-    (expr_reads r (and_right (is_left_side l && is_plain l) _ p) (and_right (is_well_formed l) _ w)))
+    (expr_reads l (search halves) (search halves))
+    (expr_reads r (search halves) (search halves)))
 
 pub block_open : (b : Statements) → Whole (statements_page b) (statements_tokens b) → Open (block_page b) (block_tokens (statements_tokens b))
 unfolding statement_page statement_tokens
@@ -82,8 +80,8 @@ above_none f = record { lines = λ e. rw (append-nil, append-nil) (f.lines ((fir
 
 single_open : (b : Statements) → is_one_assignment b ≡ true → are_plain_statements b ≡ true → are_well_formed_statements b ≡ true → Open (statements_page b) (statements_tokens b)
 unfolding statement_page statement_tokens
-single_open (MoreStatements (AssignTree Blocking l r) NoStatements) h p w = above_none (assignment_open Blocking l r (and_left _ _ p) (and_left _ _ w))
-single_open (MoreStatements (AssignTree Nonblocking l r) NoStatements) h p w = above_none (assignment_open Nonblocking l r (and_left _ _ p) (and_left _ _ w))
+single_open (MoreStatements (AssignTree Blocking l r) NoStatements) h p w = above_none (assignment_open Blocking l r (search halves) (search halves))
+single_open (MoreStatements (AssignTree Nonblocking l r) NoStatements) h p w = above_none (assignment_open Nonblocking l r (search halves) (search halves))
 single_open _ h p w = absurd (cc h)
 
 is_bare : (word : CaseWord) (b : Statements) → is_bare_arm word b ≡ true → is_one_assignment b ≡ true
@@ -108,30 +106,26 @@ mutual
   statement_whole BlankTree p w = whole_blank
   statement_whole (InlineTree text) p w = absurd (cc p)
   statement_whole (ConditionalTree c b rest) p w =
-      let p1 = and_right (is_plain c) _ p in let w1 = and_right (is_well_formed c) _ w in
-      whole (page_regrouped (open_free (leftward _ _ _ (after_free (stands _ (key_open IfKey)) (ended_by (expr_reads c (and_left _ _ p) (and_left _ _ w)) close_space)))
-      (open_follows (block_open b (statements_whole b (and_left _ _ p1) (and_left _ _ w1))) (alternates_follow rest (and_right (are_plain_statements b) _ p1) (and_right (are_well_formed_statements b) _ w1)))) (simp append_assoc))
+      whole (page_regrouped (open_free (leftward _ _ _ (after_free (stands _ (key_open IfKey)) (ended_by (expr_reads c (search halves) (search halves)) close_space)))
+      (open_follows (block_open b (statements_whole b (search halves) (search halves))) (alternates_follow rest (search halves) (search halves)))) (simp append_assoc))
   statement_whole (CaseTree u word e arms) p w = page_regrouped
-      (whole_above (whole_written (leftward _ _ _ (leftward _ _ _ (after (stands _ (unique_free u)) (after (stands _ (case_free word)) (closed (expr_reads e (and_left _ _ p) (and_left _ _ w)) close_paren))))))
-      (whole_above (whole_inner (arms_whole word arms (and_right (is_plain e) _ p) (and_right (is_well_formed e) _ w))) (whole_line (key_reads EndCaseKey)))) (rw (arms_ended word arms) (simp append_assoc))
+      (whole_above (whole_written (leftward _ _ _ (leftward _ _ _ (after (stands _ (unique_free u)) (after (stands _ (case_free word)) (closed (expr_reads e (search halves) (search halves)) close_paren))))))
+      (whole_above (whole_inner (arms_whole word arms (search halves) (search halves))) (whole_line (key_reads EndCaseKey)))) (rw (arms_ended word arms) (simp append_assoc))
 
   pub statements_whole : (ss : Statements) → are_plain_statements ss ≡ true → are_well_formed_statements ss ≡ true → Whole (statements_page ss) (statements_tokens ss)
   statements_whole NoStatements p w = whole_none
   statements_whole (MoreStatements s ss) p w =
-      whole_above (statement_whole s (and_left _ _ p) (and_left _ _ w)) (statements_whole ss (and_right (is_plain_statement s) _ p) (and_right (is_well_formed_statement s) _ w))
+      whole_above (statement_whole s (search halves) (search halves)) (statements_whole ss (search halves) (search halves))
 
   pub alternates_follow : (rest : Alternates) → are_plain_alternates rest ≡ true → are_well_formed_alternates rest ≡ true → Follows (alternates_page rest) (alternates_tokens rest)
   alternates_follow NoElse p w = follows_none
   alternates_follow (Else b) p w = follows_line else_divides (block_open b (statements_whole b p w))
   alternates_follow (ElseIf c b rest) p w =
-      let p1 = and_right (is_plain c) _ p in let w1 = and_right (is_well_formed c) _ w in
-      page_regrouped (follows_written (condition_divides else_if_divides (expr_reads c (and_left _ _ p) (and_left _ _ w)))
-      (open_follows (block_open b (statements_whole b (and_left _ _ p1) (and_left _ _ w1))) (alternates_follow rest (and_right (are_plain_statements b) _ p1) (and_right (are_well_formed_statements b) _ w1)))) (simp append_assoc)
+      page_regrouped (follows_written (condition_divides else_if_divides (expr_reads c (search halves) (search halves)))
+      (open_follows (block_open b (statements_whole b (search halves) (search halves))) (alternates_follow rest (search halves) (search halves)))) (simp append_assoc)
 
   arms_whole : (word : CaseWord) (arms : CaseArms) → are_plain_arms arms ≡ true → are_well_formed_arms arms ≡ true → Whole (arms_page word arms) (open_arms word arms)
   arms_whole word NoCaseArms p w = whole_none
   arms_whole word (CaseArm l b arms) p w =
-      let p1 = and_right (is_plain_maybe l) _ p in let w1 = and_right (is_well_formed_maybe l) _ w in
-      let pb = and_left (are_plain_statements b) _ p1 in let wb = and_left (are_well_formed_statements b) _ w1 in
-      whole_above (whole (page_regrouped (open_free (ended_by (label_reads l (and_left _ _ p) (and_left _ _ w)) label_colon) (arm_body_open word b pb wb (statements_whole b pb wb))) (simp append_assoc)))
-      (arms_whole word arms (and_right (are_plain_statements b) _ p1) (and_right (are_well_formed_statements b) _ w1))
+      whole_above (whole (page_regrouped (open_free (ended_by (label_reads l (search halves) (search halves)) label_colon) (arm_body_open word b (search halves) (search halves) (statements_whole b (search halves) (search halves)))) (simp append_assoc)))
+      (arms_whole word arms (search halves) (search halves))
