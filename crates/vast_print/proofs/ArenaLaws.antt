@@ -1,7 +1,6 @@
 -- Laws of writing what the arena holds.
-use Rattle.std.proofs.Common.{◌≡◌, ◌<◌, ◌≤◌, ℕ, zero, suc, ◌+◌, List, [], ◌∷◌, length, get_or, map, drop, refl, sym, ◌∙◌, ap, codes, arith, add-one, Option, Some, None}
+use Rattle.std.proofs.Common.{◌≡◌, ◌<◌, ◌≤◌, ℕ, zero, suc, ◌+◌, List, [], ◌∷◌, length, get_or, map, drop, refl, sym, ◌∙◌, ap, codes, arith, add-one, Option, Some, None, Err, subst}
 use Rattle.std.proofs.lemmas.List.{drop_all}
-use Rattle.std.proofs.Common.{Err, subst}
 use Rattle.vast_literal.specs.declared.error.VastFault.{VastFault}
 use Rattle.vast_literal.specs.declared.error.VastFault.TheVariants.{Refused as RefusedBy, Memory as NoMemory}
 use Rattle.vast_literal.specs.Tree.{PortTree, ParameterPortTree, Connection as ConnectionTree}

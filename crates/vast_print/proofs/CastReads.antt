@@ -14,7 +14,6 @@ use Rattle.vast_literal.specs.LiteralToken.{every, is_number, is_bare_literal, i
 use Rattle.vast_literal.specs.Plain.{is_identifier, is_plain_name}
 use Rattle.vast_literal.proofs.ExprTokens as Tokens
 use Rattle.vast_literal.specs.WellFormed.{is_well_formed, is_positive}
-use Rattle.vast_literal.proofs.ScanLaws.{and_left}
 use Rattle.vast_literal.proofs.TokenReads.{Free, Reads}
 use Rattle.vast_literal.proofs.Pieces.{free_free, reads_end, head_wrapped}
 use Rattle.vast_literal.proofs.NumberLaws.{decimal_number}
@@ -28,7 +27,7 @@ use Rattle.vast_print.specs.Internal.Bare as BareInternal
 use Rattle.vast_print.specs.Text.{elided, expr_text}
 use Rattle.vast_print.proofs.BareLaws.{bare-head}
 use Rattle.vast_print.proofs.TestLaws.{bare_same}
-use Rattle.vast_print.proofs.FaultLaws.{elided_fine, elided_text}
+use Rattle.vast_print.proofs.FaultLaws.{halves, elided_fine, elided_text}
 use Rattle.vast_print.proofs.ExprOpens.{is_tight, literal_first}
 
 -- operators
@@ -76,7 +75,7 @@ literal_no_word (c ∷ cs) h = go (eqb c 45) refl h
 
 pub string_no_head : (w : List ℕ) → is_string_text w ≡ true → (is_number w || is_identifier w) ≡ false
 string_no_head [] h = absurd (cc h)
-string_no_head (c ∷ cs) h = rw (eqb-true c 34 (and_left _ _ h)) refl
+string_no_head (c ∷ cs) h = rw (eqb-true c 34 (search halves)) refl
 
 pub or_false : (a b : Bool) → b ≡ false → (a || b) ≡ a
 or_false true b h = refl
@@ -91,8 +90,8 @@ unfolding BareInternal.is_bare_head Tokens.is_bare_head expr_text
 heads (NameTree n type) w f = bare_same n
 heads (LiteralTree t v) w f = bare_same t ∙ or_false (is_number t) (is_identifier t) (literal_no_word t w)
 heads (StringTree t) w f = bare_same t ∙ string_no_head t w
-heads (IndexTree s i) w f = elided_head (is_scalar_name s) (is_zero i) (BareInternal.is_bare_head s) (Tokens.is_bare_head s) ScalarIndex (expr_text s) _ f (λ _ k. heads s (and_left _ _ w) k)
-heads (SliceTree s a b) w f = elided_head (is_scalar_name s) (is_zero a && is_zero b) (BareInternal.is_bare_head s) (Tokens.is_bare_head s) ScalarSlice (expr_text s) _ f (λ _ k. heads s (and_left _ _ w) k)
+heads (IndexTree s i) w f = elided_head (is_scalar_name s) (is_zero i) (BareInternal.is_bare_head s) (Tokens.is_bare_head s) ScalarIndex (expr_text s) _ f (λ _ k. heads s (search halves) k)
+heads (SliceTree s a b) w f = elided_head (is_scalar_name s) (is_zero a && is_zero b) (BareInternal.is_bare_head s) (Tokens.is_bare_head s) ScalarSlice (expr_text s) _ f (λ _ k. heads s (search halves) k)
 heads _ w f = refl
 
 pub head_of_text : (t : List ℕ) → not (is_bare t) ≡ head_wrapped t

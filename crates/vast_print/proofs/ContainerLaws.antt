@@ -5,7 +5,7 @@ use Rattle.vast_literal.specs.declared.kind.VastFileType.{VastFileType as Dialec
 use Rattle.vast_literal.specs.declared.kind.AssignmentForm.TheVariants.{Blocking, Nonblocking, Continuous}
 use Rattle.vast_literal.specs.declared.kind.CaseKind.{CaseKind as CaseWord}
 use Rattle.vast_literal.specs.declared.kind.CaseKind.TheVariants.{Case as CaseExact, CaseZ, CaseX}
-use Rattle.vast_literal.specs.Shape.{is_bare_arm, is_one_assignment}
+use Rattle.vast_literal.specs.Shape.{is_bare_arm, is_one_assignment, is_one_casez}
 use Rattle.vast_core.specs.declared.handle.Expr.{Expr}
 use Rattle.vast_core.specs.declared.handle.VastStatement.{VastStatement}
 use Rattle.vast_core.specs.declared.handle.VastStatementBlock.{VastStatementBlock}
@@ -29,7 +29,6 @@ use Rattle.vast_print.specs.Internal.Words.{separator}
 use Rattle.vast_print.specs.Statements.{assignment_operator, unique_word, case_word, label_text, statement_page, statements_page, block_page, alternates_page, arms_page}
 use Rattle.vast_print.specs.Internal.Statements.{arm_page, arm_body_page}
 use Rattle.vast_print.specs.Members.{input_text, local_page, locals_page, loop_text, member_page, members_page}
-use Rattle.vast_literal.specs.Shape.{is_one_casez}
 use Rattle.vast_print.proofs.Lines.{word-nothing, word-word}
 use Rattle.vast_print.proofs.OutputLaws.{inline-word, indented-blank, indented-written, inline-line, inline-then, inline-above-none}
 use Rattle.vast_print.proofs.StatementLaws.{indented-assign, inline-assign, indented-arm, indented-comment, indented-blank-statement, indented-inline, indented-conditional, indented-case, inline-no-else, inline-else, inline-block-none, inline-block, inline-arm-block}

@@ -5,8 +5,7 @@ use Rattle.vast_literal.specs.declared.operator.UnaryOperator.{UnaryOperator as 
 use Rattle.vast_literal.specs.declared.operator.UnaryOperator.TheVariants.{Negate as NegateOp}
 use Rattle.vast_literal.specs.declared.operator.BinaryOperator.{BinaryOperator as BinaryOp}
 use Rattle.vast_literal.specs.declared.operator.BinaryOperator.TheVariants.{Add as AddOp}
-use Rattle.vast_literal.specs.Tree.{ExprTree, NameTree, LiteralTree, StringTree, UnaryTree, BinaryTree, TernaryTree, IndexTree, SliceTree, PartSelectTree, ConcatTree, PatternTree, WidthCastTree, TypeCastTree, PosEdgeTree, NegEdgeTree, MacroTree, CallTree, MissingExpr}
-use Rattle.vast_literal.specs.Tree.{TypeTree, ScalarTree, VectorTree, IntegerTree, IntTree, ExternalTree, PackageTree, PackedTree, UnpackedTree, MissingType}
+use Rattle.vast_literal.specs.Tree.{ExprTree, NameTree, LiteralTree, StringTree, UnaryTree, BinaryTree, TernaryTree, IndexTree, SliceTree, PartSelectTree, ConcatTree, PatternTree, WidthCastTree, TypeCastTree, PosEdgeTree, NegEdgeTree, MacroTree, CallTree, MissingExpr, TypeTree, ScalarTree, VectorTree, IntegerTree, IntTree, ExternalTree, PackageTree, PackedTree, UnpackedTree, MissingType}
 use Rattle.vast_literal.specs.Scan.{is_letter, is_digit, is_word_byte}
 use Rattle.vast_literal.specs.LiteralToken.{every, is_number, is_based, is_filled, is_based_tail, is_bare_literal, is_literal_text, is_string_text}
 use Rattle.vast_literal.specs.Plain.{is_identifier, is_plain_name, is_called_name, is_plain, is_plain_type}
@@ -21,7 +20,7 @@ use Rattle.vast_print.specs.Printed.{Printed, plain_text, ◌⊕◌, wrapped}
 use Rattle.vast_print.specs.Levels.{unary_operator_text}
 use Rattle.vast_print.specs.Bare.{is_bare}
 use Rattle.vast_print.specs.Text.{elided, cast_to, width_cast, package_text, expr_text, type_cast}
-use Rattle.vast_print.proofs.FaultLaws.{elided_text}
+use Rattle.vast_print.proofs.FaultLaws.{halves, elided_text}
 use Rattle.vast_print.proofs.TestLaws.{bare_same}
 use Rattle.vast_literal.specs.NormalExpr.{unary_operator_token}
 
@@ -35,7 +34,7 @@ wrapped_opens true true p f = refl
 wrapped_opens false true p f = refl
 wrapped_opens tight false p f = f refl
 
-front : (tight : Bool) (p q : Printed) → opens tight p.text ≡ true → opens tight (p ⊕ q).text ≡ true
+pub front : (tight : Bool) (p q : Printed) → opens tight p.text ≡ true → opens tight (p ⊕ q).text ≡ true
 unfolding ◌⊕◌
 front tight p q h = opens-append tight p.text q.text h
 
@@ -44,26 +43,20 @@ identifier_opens tight [] h = absurd (cc h)
 identifier_opens tight (c ∷ w) h = opens_letter tight c w (and_left (is_letter c) (every is_word_byte w) h)
 
 name_opens : (tight : Bool) (w : List ℕ) → is_plain_name w ≡ true → opens tight w ≡ true
-name_opens tight w h = identifier_opens tight w (and_left _ _ h)
+name_opens tight w h = identifier_opens tight w (search halves)
 
-dollar_opens : (tight : Bool) (cs : List ℕ) → opens tight (36 ∷ cs) ≡ true
-dollar_opens true cs = refl
-dollar_opens false cs = refl
-
-tick_opens : (tight : Bool) (cs : List ℕ) → opens tight (39 ∷ cs) ≡ true
-tick_opens true cs = refl
-tick_opens false cs = refl
-
-quote_opens : (tight : Bool) (cs : List ℕ) → opens tight (34 ∷ cs) ≡ true
-quote_opens true cs = refl
-quote_opens false cs = refl
+-- a byte that makes a unary operator no longer makes a colon no longer
+opens_either : (tight : Bool) (w : List ℕ) → opens true w ≡ true → opens tight w ≡ true
+opens_either true w h = h
+opens_either false [] h = absurd (cc h)
+opens_either false (c ∷ cs) h = rw (and_left (not (eqb c 61 || eqb c 58)) _ h) refl
 
 called_opens : (tight : Bool) (w : List ℕ) → is_called_name w ≡ true → opens tight w ≡ true
 called_opens tight [] h = absurd (cc h)
 called_opens tight (c ∷ cs) h = go (eqb c 36) refl h
   where
     go : (b : Bool) → eqb c 36 ≡ b → cond b (is_identifier cs) (is_plain_name (c ∷ cs)) ≡ true → opens tight (c ∷ cs) ≡ true
-    go true e k = rw (eqb-true c 36 e) (dollar_opens tight cs)
+    go true e k = rw (eqb-true c 36 e) (opens_either tight (36 ∷ cs) refl)
     go false e k = name_opens tight (c ∷ cs) k
 
 -- the first byte of a literal
@@ -73,7 +66,7 @@ based_first c cs false e h = let d = and_left (is_digit c) (is_based cs) h in rw
 
 filled_first : (c : ℕ) (cs : List ℕ) → is_filled (c ∷ cs) ≡ true → (is_digit c || eqb c 39) ≡ true
 filled_first c [] h = absurd (cc h)
-filled_first c (d ∷ []) h = rw (eqb-true c 39 (and_left _ _ h)) refl
+filled_first c (d ∷ []) h = rw (eqb-true c 39 (search halves)) refl
 filled_first c (d ∷ x ∷ v) h = absurd (cc h)
 
 bare_first : (c : ℕ) (cs : List ℕ) (n b f : Bool) → is_number (c ∷ cs) ≡ n → is_based (c ∷ cs) ≡ b → is_filled (c ∷ cs) ≡ f → (n || (b || f)) ≡ true → (is_digit c || eqb c 39) ≡ true
@@ -87,7 +80,7 @@ literal_first c cs h = bare_first c cs (is_number (c ∷ cs)) (is_based (c ∷ c
 
 first_opens : (tight : Bool) (c : ℕ) (cs : List ℕ) (d : Bool) → is_digit c ≡ d → (d || eqb c 39) ≡ true → opens tight (c ∷ cs) ≡ true
 first_opens tight c cs true e h = opens_digit tight c cs e
-first_opens tight c cs false e h = rw (eqb-true c 39 h) (tick_opens tight cs)
+first_opens tight c cs false e h = rw (eqb-true c 39 h) (opens_either tight (39 ∷ cs) refl)
 
 pub literal_opens : (tight : Bool) (w : List ℕ) → is_literal_text w ≡ true → (tight ≡ true → starts_with_minus w ≡ false) → opens tight w ≡ true
 literal_opens tight [] h f = absurd (cc h)
@@ -103,7 +96,7 @@ literal_opens tight (c ∷ cs) h f = go (eqb c 45) refl h
 
 string_opens : (tight : Bool) (w : List ℕ) → is_string_text w ≡ true → opens tight w ≡ true
 string_opens tight [] h = absurd (cc h)
-string_opens tight (c ∷ cs) h = rw (eqb-true c 34 (and_left _ _ h)) (quote_opens tight cs)
+string_opens tight (c ∷ cs) h = rw (eqb-true c 34 (search halves)) (opens_either tight (34 ∷ cs) refl)
 
 not_negative : (b : Bool) → not (nat_lt 13 13 || b) ≡ true → b ≡ false
 not_negative true h = absurd (cc h)
@@ -149,10 +142,9 @@ cast_opens : (tight : Bool) (h p : Printed) → opens tight h.text ≡ true → 
 unfolding cast_to
 cast_opens tight h p k = front tight _ _ (front tight _ _ (front tight h _ k))
 
-word_opens : (tight : Bool) (w : List ℕ) → opens true w ≡ true → opens false w ≡ true → opens tight (plain_text w).text ≡ true
+word_opens : (tight : Bool) (w : List ℕ) → opens true w ≡ true → opens tight (plain_text w).text ≡ true
 unfolding plain_text
-word_opens true w a b = a
-word_opens false w a b = b
+word_opens tight w h = opens_either tight w h
 
 plain_opens : (tight : Bool) (w : List ℕ) → opens tight w ≡ true → opens tight (plain_text w).text ≡ true
 unfolding plain_text
@@ -164,16 +156,16 @@ width_opens tight w p = cast_opens tight _ _ (head_opens tight w)
 
 type_opens : (tight : Bool) (t : TypeTree) (p : Printed) → is_plain_type t ≡ true → is_cast_type t ≡ true → opens tight (type_cast t p).text ≡ true
 unfolding type_cast package_text
-type_opens tight (ScalarTree true) p h c = cast_opens tight _ _ (word_opens tight (codes "signed") refl refl)
-type_opens tight (ScalarTree false) p h c = cast_opens tight _ _ (word_opens tight (codes "logic") refl refl)
-type_opens tight (VectorTree w v true) p h c = cast_opens tight _ _ (word_opens tight (codes "signed") refl refl)
-type_opens tight (VectorTree w v false) p h c = cast_opens tight _ _ (word_opens tight (codes "unsigned") refl refl)
-type_opens tight (IntegerTree true) p h c = cast_opens tight _ _ (word_opens tight (codes "integer") refl refl)
-type_opens tight (IntegerTree false) p h c = cast_opens tight _ _ (word_opens tight (codes "unsigned") refl refl)
-type_opens tight (IntTree true) p h c = cast_opens tight _ _ (word_opens tight (codes "int") refl refl)
-type_opens tight (IntTree false) p h c = cast_opens tight _ _ (word_opens tight (codes "unsigned") refl refl)
+type_opens tight (ScalarTree true) p h c = cast_opens tight _ _ (word_opens tight (codes "signed") refl)
+type_opens tight (ScalarTree false) p h c = cast_opens tight _ _ (word_opens tight (codes "logic") refl)
+type_opens tight (VectorTree w v true) p h c = cast_opens tight _ _ (word_opens tight (codes "signed") refl)
+type_opens tight (VectorTree w v false) p h c = cast_opens tight _ _ (word_opens tight (codes "unsigned") refl)
+type_opens tight (IntegerTree true) p h c = cast_opens tight _ _ (word_opens tight (codes "integer") refl)
+type_opens tight (IntegerTree false) p h c = cast_opens tight _ _ (word_opens tight (codes "unsigned") refl)
+type_opens tight (IntTree true) p h c = cast_opens tight _ _ (word_opens tight (codes "int") refl)
+type_opens tight (IntTree false) p h c = cast_opens tight _ _ (word_opens tight (codes "unsigned") refl)
 type_opens tight (ExternalTree n) p h c = cast_opens tight _ _ (plain_opens tight n (name_opens tight n h))
-type_opens tight (PackageTree s n) p h c = cast_opens tight _ _ (front tight _ _ (front tight _ _ (plain_opens tight s (name_opens tight s (and_left _ _ h)))))
+type_opens tight (PackageTree s n) p h c = cast_opens tight _ _ (front tight _ _ (front tight _ _ (plain_opens tight s (name_opens tight s (search halves)))))
 type_opens tight (PackedTree t ds) p h c = absurd (cc c)
 type_opens tight (UnpackedTree t ds) p h c = absurd (cc c)
 type_opens tight MissingType p h c = absurd (cc c)
@@ -187,23 +179,23 @@ opens_text tight (StringTree t) h w l = string_opens tight t w
 opens_text true (UnaryTree o e) h w l = let x = l refl in absurd (cc x)
 opens_text false (UnaryTree o e) h w l = sign_opens o _
 opens_text true (BinaryTree o a b) h w l = let x = l refl in let y = low o in absurd (cc (x, y))
-opens_text false (BinaryTree o a b) h w l = front false _ _ (front false _ _ (wrapped_opens false (left_child_wraps o a) (expr_text a) (λ _. opens_text false a (and_left _ _ h) (and_left _ _ w) (λ t. absurd (cc t)))))
+opens_text false (BinaryTree o a b) h w l = front false _ _ (front false _ _ (wrapped_opens false (left_child_wraps o a) (expr_text a) (λ _. opens_text false a (search halves) (search halves) (λ t. absurd (cc t)))))
 opens_text true (TernaryTree c a b) h w l = let x = l refl in absurd (cc x)
-opens_text false (TernaryTree c a b) h w l = front false _ _ (front false _ _ (front false _ _ (front false _ _ (wrapped_opens false (ternary_wraps c) (expr_text c) (λ _. opens_text false c (and_left _ _ h) (and_left _ _ w) (λ t. absurd (cc t)))))))
+opens_text false (TernaryTree c a b) h w l = front false _ _ (front false _ _ (front false _ _ (front false _ _ (wrapped_opens false (ternary_wraps c) (expr_text c) (λ _. opens_text false c (search halves) (search halves) (λ t. absurd (cc t)))))))
 opens_text tight (IndexTree s i) h w l =
-    pick_opens tight (is_scalar_name s) (is_zero i) ScalarIndex (expr_text s) _ (λ e. opens_text tight s (and_left _ _ h) (and_left _ _ w) (λ _. scalar_tight s e))
-    (λ _. front tight _ _ (front tight _ _ (front tight _ _ (wrapped_opens tight (select_wraps s) (expr_text s) (λ e. opens_text tight s (and_left _ _ h) (and_left _ _ w) (λ _. not_false (select_wraps s) _ refl e))))))
+    pick_opens tight (is_scalar_name s) (is_zero i) ScalarIndex (expr_text s) _ (λ e. opens_text tight s (search halves) (search halves) (λ _. scalar_tight s e))
+    (λ _. front tight _ _ (front tight _ _ (front tight _ _ (wrapped_opens tight (select_wraps s) (expr_text s) (λ e. opens_text tight s (search halves) (search halves) (λ _. not_false (select_wraps s) _ refl e))))))
 opens_text tight (SliceTree s a b) h w l =
-    pick_opens tight (is_scalar_name s) (is_zero a && is_zero b) ScalarSlice (expr_text s) _ (λ e. opens_text tight s (and_left _ _ h) (and_left _ _ w) (λ _. scalar_tight s e))
-    (λ _. front tight _ _ (front tight _ _ (front tight _ _ (front tight _ _ (front tight _ _ (wrapped_opens tight (select_wraps s) (expr_text s) (λ e. opens_text tight s (and_left _ _ h) (and_left _ _ w) (λ _. not_false (select_wraps s) _ refl e))))))))
+    pick_opens tight (is_scalar_name s) (is_zero a && is_zero b) ScalarSlice (expr_text s) _ (λ e. opens_text tight s (search halves) (search halves) (λ _. scalar_tight s e))
+    (λ _. front tight _ _ (front tight _ _ (front tight _ _ (front tight _ _ (front tight _ _ (wrapped_opens tight (select_wraps s) (expr_text s) (λ e. opens_text tight s (search halves) (search halves) (λ _. not_false (select_wraps s) _ refl e))))))))
 opens_text tight (PartSelectTree s i n) h w l =
-    front tight _ _ (front tight _ _ (front tight _ _ (front tight _ _ (front tight _ _ (wrapped_opens tight (select_wraps s) (expr_text s) (λ e. opens_text tight s (and_left _ _ h) (and_left _ _ w) (λ _. not_false (select_wraps s) _ refl e)))))))
-opens_text tight (ConcatTree n es) h w l = front tight _ _ (front tight _ _ (word_opens tight (codes "{") refl refl))
-opens_text tight (PatternTree es) h w l = front tight _ _ (front tight _ _ (word_opens tight (codes "'{") refl refl))
+    front tight _ _ (front tight _ _ (front tight _ _ (front tight _ _ (front tight _ _ (wrapped_opens tight (select_wraps s) (expr_text s) (λ e. opens_text tight s (search halves) (search halves) (λ _. not_false (select_wraps s) _ refl e)))))))
+opens_text tight (ConcatTree n es) h w l = front tight _ _ (front tight _ _ (word_opens tight (codes "{") refl))
+opens_text tight (PatternTree es) h w l = front tight _ _ (front tight _ _ (word_opens tight (codes "'{") refl))
 opens_text tight (WidthCastTree w e) h k l = width_opens tight (expr_text w) (expr_text e)
-opens_text tight (TypeCastTree t e) h w l = type_opens tight t (expr_text e) (and_left _ _ h) (and_left _ _ w)
+opens_text tight (TypeCastTree t e) h w l = type_opens tight t (expr_text e) (search halves) (search halves)
 opens_text tight (PosEdgeTree e) h w l = absurd (cc h)
 opens_text tight (NegEdgeTree e) h w l = absurd (cc h)
-opens_text tight (MacroTree m es) h w l = front tight _ _ (front tight _ _ (word_opens tight (codes "`") refl refl))
-opens_text tight (CallTree f es) h w l = front tight _ _ (front tight _ _ (front tight _ _ (called_opens tight f (and_left _ _ h))))
+opens_text tight (MacroTree m es) h w l = front tight _ _ (front tight _ _ (word_opens tight (codes "`") refl))
+opens_text tight (CallTree f es) h w l = front tight _ _ (front tight _ _ (front tight _ _ (called_opens tight f (search halves))))
 opens_text tight MissingExpr h w l = absurd (cc w)

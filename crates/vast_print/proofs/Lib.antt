@@ -21,7 +21,7 @@ mod OperatorPins
 pub mod TestLaws
 pub mod FaultLaws
 pub mod ExprOpens
-pub mod Shapes
+pub mod TextReads
 pub mod CastReads
 pub mod ExprReads
 pub mod PageLines

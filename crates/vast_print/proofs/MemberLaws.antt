@@ -1,12 +1,11 @@
 -- Laws of writing the members of modules and loops, one for each case.
 use Rattle.std.proofs.Common.{◌≡◌, ◌<◌, ℕ, ◌+◌, Bool, true, false, List, [], ◌∷◌, length, map, refl, ◌∙◌, codes, arith, Option, Some, None}
-use Rattle.vast_literal.specs.Tree.{ExprTree, NoExpr, SomeExpr, Exprs, Declaration, Statements, ParameterName, PlainParameter, IntParameter, Connection, InstanceTree, FunctionTree}
+use Rattle.vast_literal.specs.Tree.{ExprTree, NoExpr, SomeExpr, Exprs, Declaration, Statements, ParameterName, PlainParameter, IntParameter, Connection, InstanceTree, FunctionTree, MemberTree, DeclarationMember, ParameterMember, CommentMember, BlankMember, InlineMember, MacroMember, InstanceMember, AlwaysMember, FunctionMember, LoopMember, Members, NoMembers, MoreMembers}
 use Rattle.vast_literal.specs.declared.kind.VastFileType.{VastFileType as Dialect}
 use Rattle.vast_literal.specs.declared.operator.BinaryOperator.TheVariants.{Lt as LtOp}
 use Rattle.vast_literal.specs.declared.kind.AlwaysKind.{AlwaysKind as AlwaysWord}
 use Rattle.vast_literal.specs.declared.kind.AlwaysKind.TheVariants.{AlwaysFF as AlwaysFFWord, AlwaysAt as AlwaysAtWord, AlwaysComb as AlwaysCombWord}
-use Rattle.vast_literal.specs.Tree.{MemberTree, DeclarationMember, ParameterMember, CommentMember, BlankMember, InlineMember, MacroMember, InstanceMember, AlwaysMember, FunctionMember, LoopMember, Members, NoMembers, MoreMembers}
-use Rattle.vast_literal.specs.Shape.{result_kind, right_child_wraps}
+use Rattle.vast_literal.specs.Shape.{result_kind, right_child_wraps, is_one_casez}
 use Rattle.vast_print.specs.Internal.Words.{endfunction_word, always_ff_opening, always_at_opening, always_comb_opening, function_opening, for_opening, step_word}
 use Rattle.vast_print.specs.Printed.{plain_text, wrapped}
 use Rattle.vast_print.specs.Page.{written, commented}
@@ -15,7 +14,6 @@ use Rattle.vast_print.specs.Text.{expr_text}
 use Rattle.vast_print.specs.Declaration.{declaration_text, port_declaration_text}
 use Rattle.vast_print.specs.Statements.{statements_page, block_page}
 use Rattle.vast_print.specs.Members.{entries_page, parameter_word, parameter_text, semicolon_text, connection_text, connections_page, instance_head_page, instance_page, events_text, always_text, input_text, inputs_text, local_page, locals_page, function_body_page, function_page, loop_label_text, loop_text, member_page, members_page}
-use Rattle.vast_literal.specs.Shape.{is_one_casez}
 use Rattle.vast_print.proofs.Lines.{word-word}
 use Rattle.vast_print.proofs.OutputLaws.{indented-line, indented-none, indented-blank, indented-above, indented-beside, indented-inner, indented-written, inline-then, inline-empty, inline-word}
 use Rattle.vast_print.proofs.StatementLaws.{indented-block}

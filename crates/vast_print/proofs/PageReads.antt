@@ -10,109 +10,99 @@ use Rattle.vast_literal.proofs.FileTokens.{block_tokens}
 use Rattle.vast_literal.proofs.TokenReads.{Free, Divides, Reads}
 use Rattle.vast_literal.proofs.Pieces.{free_reads, free_free, reads_end, divides_free}
 use Rattle.vast_literal.proofs.Words.{key_reads}
-use Rattle.vast_print.specs.Printed.{Printed, plain_text}
+use Rattle.vast_print.specs.Printed.{Printed, plain_text, ◌⊕◌}
 use Rattle.vast_print.specs.Page.{Line, Page, one_line, beside_lines, written_lines, no_lines, line, inner, lead, above, beside, written, commented, commented_lines, note}
 use Rattle.vast_print.specs.Statements.{begin_end}
 use Rattle.vast_print.proofs.FaultLaws.{first_none}
+use Rattle.vast_print.proofs.TextReads.{Prints, nothing_reads}
 use Rattle.vast_print.proofs.PageLines.{flat, body, Lines, Hangs, Behind, above_lines, inner_whole, lead_whole, no_lines_free, lines_are_indented, line_is_indented, written_is_indented, above_is_indented, behind_none, free_is_indented, behind_divides, behind_is_indented, filled-written, body-written, comment_lines}
 
--- faults
+-- Unless it is refused, the page brings the tokens so.
+pub record Lays (Brings : List Line → List Token → Type 0) (p : Page) (ts : List Token) : Type 0 where
+  pub lines : p.fault ≡ None → Brings p.lines ts
 
-pub above_fine : (p q : Page) → (above p q).fault ≡ None → (p.fault ≡ None) × (q.fault ≡ None)
-unfolding above
-above_fine p q e = first_none p.fault q.fault e
-
-pub beside_fine : (p q : Page) → (beside p q).fault ≡ None → (p.fault ≡ None) × (q.fault ≡ None)
-unfolding beside
-beside_fine p q e = first_none p.fault q.fault e
-
-pub inner_fine : (p : Page) → (inner p).fault ≡ None → p.fault ≡ None
-unfolding inner
-inner_fine p e = e
-
-pub lead_fine : (p : Page) → (lead p).fault ≡ None → p.fault ≡ None
-unfolding lead
-lead_fine p e = e
-
-pub written_fine : (p : Printed) → (written p).fault ≡ None → p.fault ≡ None
-unfolding written
-written_fine p e = e
-
--- pages
-
--- a page of whole lines brings the tokens
-pub record Whole (p : Page) (ts : List Token) : Type 0 where
-  pub lines : Lines p.lines ts
+-- a page of whole lines
+abbrev pub Whole : Page → List Token → Type 0
+Whole p ts = Lays Lines p ts
 
 -- a page whose last line may go on
-pub record Open (p : Page) (ts : List Token) : Type 0 where
-  pub lines : Hangs p.lines ts
+abbrev pub Open : Page → List Token → Type 0
+Open p ts = Lays Hangs p ts
 
 -- a page that goes on after another
-pub record Follows (q : Page) (us : List Token) : Type 0 where
-  pub lines : Behind q.lines us
+abbrev pub Follows : Page → List Token → Type 0
+Follows p ts = Lays Behind p ts
+
+-- the same tokens
+pub page_regrouped : {Brings : List Line → List Token → Type 0} {p : Page} {ts us : List Token} → Lays Brings p ts → ts ≡ us → Lays Brings p us
+page_regrouped f e = rw (sym e) f
 
 pub whole_above : {p q : Page} {ts us : List Token} → Whole p ts → Whole q us → Whole (above p q) (ts ++ us)
 unfolding above
-whole_above f g = record { lines = above_lines f.lines g.lines }
+whole_above f g = record { lines = λ e. let (x, y) = first_none _ _ e in above_lines (f.lines x) (g.lines y) }
 
 pub whole_inner : {p : Page} {ts : List Token} → Whole p ts → Whole (inner p) ts
 unfolding inner
-whole_inner f = record { lines = inner_whole f.lines }
+whole_inner f = record { lines = λ e. inner_whole (f.lines e) }
 
 pub whole_lead : {p : Page} {ts : List Token} → Whole p ts → Whole (lead p) ts
 unfolding lead
-whole_lead f = record { lines = lead_whole f.lines }
+whole_lead f = record { lines = λ e. lead_whole (f.lines e) }
 
 pub whole_none : Whole no_lines []
 unfolding no_lines
-whole_none = record { lines = no_lines_free }
+whole_none = record { lines = λ e. no_lines_free }
 
 pub whole : {p : Page} {ts : List Token} → Open p ts → Whole p ts
-whole f = record { lines = lines_are_indented f.lines }
+whole f = record { lines = λ e. lines_are_indented (f.lines e) }
 
-pub open_line : (w : List ℕ) {ts : List Token} → Reads w ts → Open (line w) ts
+pub open_line : {w : List ℕ} {ts : List Token} → Reads w ts → Open (line w) ts
 unfolding line
-open_line w f = record { lines = line_is_indented f }
+open_line f = record { lines = λ e. line_is_indented f }
 
-pub open_written : (p : Printed) {ts : List Token} → Reads p.text ts → Open (written p) ts
+pub whole_line : {w : List ℕ} {ts : List Token} → Reads w ts → Whole (line w) ts
+whole_line f = whole (open_line f)
+
+pub open_written : {p : Printed} {ts : List Token} → Prints Reads p ts → Open (written p) ts
 unfolding written
-open_written p f = record { lines = written_is_indented f }
+open_written f = record { lines = λ e. written_is_indented (f.told e) }
+
+pub whole_written : {p : Printed} {ts : List Token} → Prints Reads p ts → Whole (written p) ts
+whole_written f = whole (open_written f)
 
 pub open_above : {p q : Page} {ts us : List Token} → Whole p ts → Open q us → Open (above p q) (ts ++ us)
 unfolding above
-open_above f g = record { lines = above_is_indented f.lines g.lines }
+open_above f g = record { lines = λ e. let (x, y) = first_none _ _ e in above_is_indented (f.lines x) (g.lines y) }
 
-pub open_free : (p : Printed) {q : Page} {ts us : List Token} → Free p.text ts → Open q us → Open (beside (written p) q) (ts ++ us)
+pub open_free : {p : Printed} {q : Page} {ts us : List Token} → Prints Free p ts → Open q us → Open (beside (written p) q) (ts ++ us)
 unfolding beside written
-open_free p {ts = ts} f g = record { lines = free_is_indented (written_lines p.text) (filled-written p.text) (subst (λ (a : List ℕ). Free a ts) (sym (body-written p.text)) f) g.lines }
+open_free {p = p} {ts = ts} f g = record {
+  lines = λ e. let (x, y) = first_none _ _ e in
+      free_is_indented (written_lines p.text) (filled-written p.text) (subst (λ (a : List ℕ). Free a ts) (sym (body-written p.text)) (f.told x)) (g.lines y);
+}
 
 pub open_follows : {p q : Page} {ts us : List Token} → Open p ts → Follows q us → Open (beside p q) (ts ++ us)
 unfolding beside
-open_follows f g = record { lines = behind_is_indented f.lines g.lines }
+open_follows f g = record { lines = λ e. let (x, y) = first_none _ _ e in behind_is_indented (f.lines x) (g.lines y) }
 
 pub follows_none : Follows no_lines []
 unfolding no_lines
-follows_none = record { lines = behind_none }
+follows_none = record { lines = λ e. behind_none }
 
-pub follows_written : (p : Printed) {q : Page} {ts us : List Token} → Divides p.text ts → Open q us → Follows (beside (written p) q) (ts ++ us)
+pub follows_written : {p : Printed} {q : Page} {ts us : List Token} → Prints Divides p ts → Open q us → Follows (beside (written p) q) (ts ++ us)
 unfolding beside written
-follows_written p {ts = ts} f g = record { lines = behind_divides (written_lines p.text) (subst (λ (a : List ℕ). Divides a ts) (sym (body-written p.text)) f) g.lines }
+follows_written {p = p} {ts = ts} f g = record {
+  lines = λ e. let (x, y) = first_none _ _ e in
+      behind_divides (written_lines p.text) (subst (λ (a : List ℕ). Divides a ts) (sym (body-written p.text)) (f.told x)) (g.lines y);
+}
 
-pub follows_line : (w : List ℕ) {q : Page} {ts us : List Token} → Divides w ts → Open q us → Follows (beside (line w) q) (ts ++ us)
+pub follows_line : {w : List ℕ} {q : Page} {ts us : List Token} → Divides w ts → Open q us → Follows (beside (line w) q) (ts ++ us)
 unfolding beside line body
-follows_line w f g = record { lines = behind_divides (one_line w) f g.lines }
-
-pub same_whole : {p : Page} {ts us : List Token} → ts ≡ us → Whole p ts → Whole p us
-same_whole e f = rw (sym e) f
-
-pub same_open : {p : Page} {ts us : List Token} → ts ≡ us → Open p ts → Open p us
-same_open e f = rw (sym e) f
+follows_line {w = w} f g = record { lines = λ e. behind_divides (one_line w) f (g.lines e) }
 
 -- an empty line
 pub whole_blank : Whole (line []) []
-unfolding line
-whole_blank = record { lines = lines_are_indented (line_is_indented (record { at = λ rest h. refl })) }
+whole_blank = whole_line nothing_reads
 
 -- comments: no line of a text has a line break
 
@@ -147,7 +137,7 @@ comments_free (l ∷ p) (more_lines h u) = above_lines (note_lines l.depth l.byt
 -- A comment brings no tokens.
 pub whole_comment : (text : List ℕ) → Whole (commented (written (plain_text text))) []
 unfolding commented written plain_text
-whole_comment text = record { lines = comments_free (written_lines text) (unbroken text) }
+whole_comment text = record { lines = λ e. comments_free (written_lines text) (unbroken text) }
 
 -- marks and keywords with spaces
 
@@ -190,18 +180,16 @@ unfolding key_text
 else_if_divides = divides_free space_divides (free_free (key_space ElseKey) (key_open IfKey))
 
 -- a condition between its parentheses
-pub condition_free : {o c : List ℕ} {os cs : List Token} → Free o os → Reads c cs → Free ((o ++ c) ++ (41 ∷ 32 ∷ [])) (os ++ (cs ++ (Mark CloseParen ∷ [])))
-condition_free f g = rw append_assoc (free_free f (reads_end g close_space))
-
-pub condition_divides : {o c : List ℕ} {os cs : List Token} → Divides o os → Reads c cs → Divides ((o ++ c) ++ (41 ∷ 32 ∷ [])) (os ++ (cs ++ (Mark CloseParen ∷ [])))
-condition_divides f g = rw append_assoc (divides_free f (reads_end g close_space))
+pub condition_divides : {o : List ℕ} {c : Printed} {os cs : List Token} → Divides o os → Prints Reads c cs → Prints Divides (plain_text o ⊕ c ⊕ plain_text (codes ") ")) (os ++ (cs ++ (Mark CloseParen ∷ [])))
+unfolding ◌⊕◌ plain_text
+condition_divides {c = c} f g = record { told = λ e. rw append_assoc (divides_free f (reads_end (g.told ((first_none c.fault None e).0)) close_space)) }
 
 -- blocks
 
 pub open_empty : Open (line (codes "begin end")) (block_tokens [])
 unfolding key_text
-open_empty = open_line _ (free_reads (key_space BeginKey) (key_reads EndKey))
+open_empty = open_line (free_reads (key_space BeginKey) (key_reads EndKey))
 
 pub open_block : {p : Page} {ts : List Token} → Whole p ts → Open (begin_end p) (block_tokens ts)
 unfolding begin_end key_text
-open_block f = open_above (whole (open_line _ (key_reads BeginKey))) (open_above (whole_inner f) (open_line _ (key_reads EndKey)))
+open_block f = open_above (whole_line (key_reads BeginKey)) (open_above (whole_inner f) (open_line (key_reads EndKey)))
