@@ -86,7 +86,7 @@ class Shown(FileTest):
         total = a
         for _ in range(100):
             total = total + a
-        self.assertEqual(repr(total), f"<Expr {' + '.join('a' * 15)} +..>")
+        self.assertEqual(repr(total), f"<Expr {' + '.join('a' * 15)} + ..>")
         self.assertEqual(len(str(total)), 401)
 
     @over_each()
