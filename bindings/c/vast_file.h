@@ -94,7 +94,7 @@ static inline const char *vast_file_words(const vast_file *file)
 
 /* What was wrong in the last call, as `12: AddInput: the name "clk" is taken in the module` with
  * the number of the call among all calls and questions, or without one where the library did not
- * tell it; empty after VAST_OK. */
+ * tell it, and the words alone of a file that is closed; empty after VAST_OK. */
 static inline vast_string vast_file_message(vast_file *file)
 {
     vast_string told = vast_str(vast_file_words(file));
@@ -105,7 +105,7 @@ static inline vast_string vast_file_message(vast_file *file)
         return status == VAST_OK ? told : vast_str("out of memory");
     }
     size_t call = strlen(file->call);
-    if (!vast_buffer_reserve(&file->text, call + told.length + 3))
+    if (file->session == NULL || !vast_buffer_reserve(&file->text, call + told.length + 3))
         return told;
     memcpy(file->text.bytes, file->call, call);
     memcpy(file->text.bytes + call, ": ", 2);

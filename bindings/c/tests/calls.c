@@ -36,9 +36,9 @@ static int handles(void)
     vast_file_close(&one);
     vast_file_close(&one);
     CHECK(vast_make_not(&one, b, &sum) == VAST_NOT_OPEN && is_none(sum.id));
-    CHECK(is_told(&one, "MakeNot: the file is not open"));
+    CHECK(is_told(&one, "the file is not open"));
     vast_file_close(&other);
-    CHECK(vast_file_open(&other, 2) == VAST_NO_DIALECT && is_told(&other, "vast_file_open: no dialect"));
+    CHECK(vast_file_open(&other, 2) == VAST_NO_DIALECT && is_told(&other, "no dialect"));
     return 0;
 }
 
