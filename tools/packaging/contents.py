@@ -13,9 +13,9 @@ from build_backend import field, glibc_of, read, wheel  # noqa: E402, of that fo
 
 # Files of the repository as they are: their folder, the form of their names there, and their folder in the release.
 COPIED = (
+    ("bindings", r"(c|python)/README\.md", "bindings"),
     ("bindings/c", r"vast\w*\.h", "include"),
     ("bindings/c/examples", r".*", "share/examples"),
-    ("bindings/python", r"README\.md", "python/vast"),
     ("bindings/python/examples", r".*", "share/examples"),
     ("bindings/rust", r"Cargo\.\w+|build\.rs|README\.md|(src|examples)/.*", "rust/xlsynth-vast"),
     ("docs/believe", r".*", "docs/believe"),
