@@ -1,4 +1,3 @@
-pub mod Orders
 pub mod Stacked
 pub mod Sets
 pub mod RowLaws

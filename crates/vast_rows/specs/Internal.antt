@@ -2,7 +2,9 @@ pub mod Stack
 pub mod Sets
 pub mod Sources
 pub mod PhraseKinds
+pub mod Orders
 pub mod Predictive
+pub mod Firsts
 pub mod Derives
 pub mod Reading
 pub mod Actions

@@ -23,5 +23,5 @@ pub use kind::Kind;
 pub use machine::{is_file, read, read_file};
 pub use rule::Rule;
 pub use sink::{Nothing, Sink};
-pub use source::Source;
+pub use source::{Fronts, Reach, Source};
 pub use table::files;
