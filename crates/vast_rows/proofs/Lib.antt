@@ -3,6 +3,7 @@ pub mod Sets
 pub mod RowLaws
 pub mod Once
 pub mod Derivations
+pub mod Ending
 pub mod OneTelling
 pub mod Steps
 pub mod Leads
