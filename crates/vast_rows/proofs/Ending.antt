@@ -22,31 +22,8 @@ use Rattle.vast_rows.specs.Phrases.{Meaning, IsExpression, IsPath, IsPhrase, exp
 use Rattle.vast_rows.specs.Rows.{Row}
 use Rattle.vast_rows.specs.Telling.{Spells, no_items, a_token, a_phrase, a_rule}
 use Rattle.vast_rows.proofs.Derivations.{derived, spelled}
+use Rattle.vast_rows.proofs.PhraseStarts.{one_phrase}
 use Rattle.vast_rows.proofs.Sets.{both, some_one, has_or, only_has, no_kind}
-
--- An operand by itself is an expression.
-pub alone : (ts : List tokens.Token) (x : NormalExpr) → expressions.Spells 14 ts x → expressions.Spells 8 ts x
-alone ts x p =
-    expressions.up (lit< tt) (expressions.up (lit< tt) (expressions.up (lit< tt) (expressions.up (lit< tt) (expressions.up (lit< tt) (expressions.up (lit< tt) p)))))
-
-pub lowest : (ts : List tokens.Token) (x : NormalExpr) → expressions.Spells 7 ts x → expressions.Spells 0 ts x
-lowest ts x p =
-    expressions.up (lit< tt) (expressions.up (lit< tt) (expressions.up (lit< tt) (expressions.up (lit< tt) (expressions.up (lit< tt) (expressions.up (lit< tt) (expressions.up (lit< tt) p))))))
-
-pub whole : (ts : List tokens.Token) (x : NormalExpr) → expressions.Spells 14 ts x → expressions.Spells 0 ts x
-whole ts x p = lowest ts x (expressions.up (lit< tt) (alone ts x p))
-
--- i < 0
-below_bound : expressions.Spells 0 (tokens.Word [] ∷ (tokens.Operator Less ∷ (tokens.Number [] ∷ []))) (Binary Less (Name []) (Literal []))
-unfolding tokens.level
-below_bound = lowest _ _ (expressions.binary Less (lit< tt) (expressions.up (lit< tt) (alone _ _ (expressions.name []))) (alone _ _ (expressions.number [])))
-
--- A phrase of each kind.
-pub one_phrase : (p : code.Phrase) → (ts : List tokens.Token) × SpellsPhrase p ts
-one_phrase Expression = (tokens.Word [] ∷ [], (IsExpression (Name []), expression (whole _ _ (expressions.name []))))
-one_phrase Target = (tokens.Word [] ∷ [], (IsExpression (Name []), target (expressions.up (lit< tt) (expressions.name []))))
-one_phrase LoopHead = (_, (_, loop_head [] (whole _ _ (expressions.number [])) below_bound))
-one_phrase Path = (_, (IsPath [], path []))
 
 -- Items spell some tokens, whatever else is told.
 abbrev pub Ends : List Row → List Item → Type 0

@@ -3,7 +3,10 @@ pub mod Sets
 pub mod RowLaws
 pub mod Once
 pub mod Derivations
+pub mod TokenKinds
+pub mod PhraseStarts
 pub mod Ending
+pub mod Begins
 pub mod OneTelling
 pub mod Steps
 pub mod Leads

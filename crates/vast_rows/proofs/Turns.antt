@@ -23,22 +23,9 @@ use Rattle.vast_rows.specs.Events.{Event, Reads, name_of, made_by, named_by}
 use Rattle.vast_rows.proofs.Sets.{both}
 use Rattle.vast_rows.proofs.Steps.{begun, ate, wrong, finished, left_over, read_phrase, wrong_phrase, opened, refused}
 use Rattle.vast_rows.proofs.Derivations.{spelled, whole_derived}
+use Rattle.vast_rows.proofs.TokenKinds.{positive}
 
 -- The tokens that are left.
-
-macro_positive : (b : Bool) → nat_eq (number (cond b IncludeWord MacroWord)) 0 ≡ false
-macro_positive true = refl
-macro_positive false = refl
-
-positive : (t : tokens.Token) → nat_eq (token_kind t) 0 ≡ false
-positive (tokens.MacroWord w) = macro_positive (bytes_eq w (codes "include"))
-positive (tokens.Mark OpenParen) = refl
-positive (tokens.Mark _) = refl
-positive (tokens.Operator LogicOr) = refl
-positive (tokens.Operator _) = refl
-positive (tokens.Reserved IfKey) = refl
-positive (tokens.Reserved _) = refl
-positive _ = refl
 
 -- The front of tokens that begin with a kind.
 front : (ts : List tokens.Token) (k : ℕ) → 0 < k → head_kind ts ≡ k → (t : tokens.Token) × (ts ≡ t ∷ tail ts) × (token_kind t ≡ k)
