@@ -30,7 +30,7 @@ use Rattle.vast_rows.proofs.TokenKinds.{small_kind}
 token_first : (t : tokens.Token) (k : ℕ) → token_kind t ≡ k → has (kinds_of_token k) (token_kind t) ≡ true
 token_first t k e = rw (← e, small_kind t) (has_only (token_kind t) (token_kind t) refl)
 
-first_token : (j k : ℕ) → has (kinds_of_token j) k ≡ true → j ≡ k
+pub first_token : (j k : ℕ) → has (kinds_of_token j) k ≡ true → j ≡ k
 first_token j k h = go (nat_lt j 128) refl
   where
     go : (b : Bool) → nat_lt j 128 ≡ b → j ≡ k
@@ -58,7 +58,7 @@ module _ (begin : ℕ → ℕ) (facts : ℕ → Fact) where
           past (inl c) = inl (rw e (or_second (begin r) (first_kinds begin facts items) k c))
           past (inr c) = inr (rw (e, c.0) refl, c.1)
 
-  first_in : (items s : List Item) (k : ℕ) → has (first_kinds begin facts items) k ≡ true → has (first_kinds begin facts (items ++ s)) k ≡ true
+  pub first_in : (items s : List Item) (k : ℕ) → has (first_kinds begin facts items) k ≡ true → has (first_kinds begin facts (items ++ s)) k ≡ true
   first_in [] s k h = absurd (no_kind k h)
   first_in (Token j ∷ items) s k h = h
   first_in (Phrase p ∷ items) s k h = h
@@ -71,7 +71,7 @@ module _ (begin : ℕ → ℕ) (facts : ℕ → Fact) where
       go false e (inr a) next = absurd (no_kind k (rw e at a))
       go true e (inr a) next = or_second (begin r) _ k (rw e (next (rw e at a)))
 
-  first_past : (items s : List Item) (k : ℕ) → may_be_empty facts items ≡ true → has (first_kinds begin facts s) k ≡ true → has (first_kinds begin facts (items ++ s)) k ≡ true
+  pub first_past : (items s : List Item) (k : ℕ) → may_be_empty facts items ≡ true → has (first_kinds begin facts s) k ≡ true → has (first_kinds begin facts (items ++ s)) k ≡ true
   first_past [] s k e h = h
   first_past (Token j ∷ items) s k e h = absurd (cc e)
   first_past (Phrase p ∷ items) s k e h = absurd (cc e)
@@ -88,7 +88,7 @@ empty_over facts (Rule r ∷ items) s e =
     let c = empty_over facts items s b.1 in
     (rw (b.0, c.0) refl, c.1)
 
-empty_both : (facts : ℕ → Fact) (items s : List Item) → may_be_empty facts items ≡ true → may_be_empty facts s ≡ true → may_be_empty facts (items ++ s) ≡ true
+pub empty_both : (facts : ℕ → Fact) (items s : List Item) → may_be_empty facts items ≡ true → may_be_empty facts s ≡ true → may_be_empty facts (items ++ s) ≡ true
 empty_both facts [] s e f = f
 empty_both facts (Token k ∷ items) s e f = absurd (cc e)
 empty_both facts (Phrase p ∷ items) s e f = absurd (cc e)

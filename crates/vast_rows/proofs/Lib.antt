@@ -7,6 +7,7 @@ pub mod TokenKinds
 pub mod PhraseStarts
 pub mod Ending
 pub mod Begins
+pub mod Starting
 pub mod OneTelling
 pub mod Steps
 pub mod Leads
