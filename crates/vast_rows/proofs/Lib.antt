@@ -6,8 +6,10 @@ pub mod Derivations
 pub mod TokenKinds
 pub mod PhraseStarts
 pub mod Ending
+pub mod Nexts
 pub mod Begins
 pub mod Starting
+pub mod Standing
 pub mod OneTelling
 pub mod Steps
 pub mod Leads

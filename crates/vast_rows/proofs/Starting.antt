@@ -19,7 +19,9 @@ use Rattle.vast_rows.proofs.Ending.{Exact, Closes, closes_over, closes_below, ro
 use Rattle.vast_rows.proofs.Leads.{leads}
 use Rattle.vast_rows.proofs.PhraseStarts.{starts}
 use Rattle.vast_rows.proofs.Sets.{both, has_or, has_within, no_kind}
+use Rattle.vast_rows.proofs.Nexts.{unknown_begins}
 use Rattle.vast_rows.proofs.Steps.{Took, took, Phrased, phrased}
+use Rattle.vast_rows.proofs.Taken.{unknown}
 
 -- A row of a rule that begins with a kind, and one that may be empty.
 record RowWith (rows : List Row) (rule : ℕ) (P : Row → Type 0) : Type 0 where
@@ -83,24 +85,13 @@ tight_below begin facts rows (suc n) rule h l = go (nat_eq rule n) refl (tight_b
         below : (rule ≡ n → ⊥) → rule < suc n → rule < n
         below d l = let e : rule ≢ n = d in omega (arith, e, l)
 
--- Of a rule of which nothing is known it says the same.
-unknown_begins : (ks : List ℕ) (r : ℕ) → length ks ≤ r → firsts_in ks r ≡ 0
-unknown_begins [] r h = refl
-unknown_begins (k ∷ ks) zero h = absurd (let z : ⊥ = omega arith in z)
-unknown_begins (k ∷ ks) (suc r) h = unknown_begins ks r (omega arith)
-
-unknown_empty : (fs : List Fact) (r : ℕ) → length fs ≤ r → (fact_in fs r).empty ≡ false
-unknown_empty [] r h = refl
-unknown_empty (f ∷ fs) zero h = absurd (let z : ⊥ = omega arith in z)
-unknown_empty (f ∷ fs) (suc r) h = unknown_empty fs r (omega arith)
-
 tight : (begin : List ℕ) (facts : List Fact) (rows : List Row) (rule : ℕ) → Exact begin facts rows → Tight (firsts_in begin) (fact_in facts) rows rule
 tight begin facts rows rule x = go (nat_lt rule (length facts)) refl
   where
     out : length facts ≤ rule → Tight (firsts_in begin) (fact_in facts) rows rule
     out l = let n : length begin ≡ length facts = eqb-true (length begin) (length facts) x.counted in record {
-      begins = λ k h. absurd (no_kind k (rw (unknown_begins begin rule (omega (arith, n, l))) at h));
-      empty = λ e. absurd (let f : (fact_in facts rule).empty ≡ false = unknown_empty facts rule l in cc (e, f));
+      begins = λ k h. absurd (no_kind k (rw (← unknown_begins begin rule (omega (arith, n, l))) at h));
+      empty = λ e. absurd (let f : false ≡ (fact_in facts rule).empty = ap (λ (v : Fact). v.empty) (unknown facts rule l) in cc (e, f));
     }
     go : (b : Bool) → nat_lt rule (length facts) ≡ b → Tight (firsts_in begin) (fact_in facts) rows rule
     go true e = tight_below (firsts_in begin) (fact_in facts) rows (length facts) rule x.tight (ltb-true rule (length facts) e)

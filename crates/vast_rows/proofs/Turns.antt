@@ -28,7 +28,7 @@ use Rattle.vast_rows.proofs.TokenKinds.{positive}
 -- The tokens that are left.
 
 -- The front of tokens that begin with a kind.
-front : (ts : List tokens.Token) (k : ℕ) → 0 < k → head_kind ts ≡ k → (t : tokens.Token) × (ts ≡ t ∷ tail ts) × (token_kind t ≡ k)
+pub front : (ts : List tokens.Token) (k : ℕ) → 0 < k → head_kind ts ≡ k → (t : tokens.Token) × (ts ≡ t ∷ tail ts) × (token_kind t ≡ k)
 front [] k p e = absurd (let z : ⊥ = omega (arith, e, p) in z)
 front (t ∷ ts) k p e = (t, refl, e)
 

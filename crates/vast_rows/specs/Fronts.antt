@@ -7,15 +7,21 @@ use Rattle.vast_rows.specs.declared.grammar.Phrase.{Phrase}
 use Rattle.vast_rows.specs.declared.grammar.Phrase.TheVariants.{LoopHead}
 use Rattle.vast_rows.specs.declared.source.Reach.{Reach}
 use Rattle.vast_rows.specs.declared.source.Reach.TheVariants.{Nowhere, Part, Whole, Untold}
+use Rattle.vast_rows.specs.Events.{Event}
 use Rattle.vast_rows.specs.Kinds.{has, token_kind}
+use Rattle.vast_rows.specs.Laws.{Tells}
 use Rattle.vast_rows.specs.Phrases.{Meaning, IsPhrase}
+use Rattle.vast_rows.specs.Rows.{Row}
 
--- The tokens are a file, and a phrase.
+-- The tokens are a file, a phrase, and what a rule spells.
 abbrev pub SpellsFile : List Token → Type 0
 SpellsFile ts = (t : NormalFile) × IsFile ts t
 
 abbrev pub SpellsPhrase : Phrase → List Token → Type 0
 SpellsPhrase phrase ts = (m : Meaning) × IsPhrase phrase ts m
+
+abbrev pub SpellsRule : List Row → (rule : ℕ) → List Token → Type 0
+SpellsRule rows rule ts = (es : List Event) × Tells rows rule ts es
 
 -- Something of the language begins with the tokens.
 abbrev pub IsBegun : (List Token → Type 0) → List Token → Type 0

@@ -7,6 +7,7 @@
 #![tactic(auto)]
 
 mod action;
+mod front;
 mod grammar;
 mod kind;
 pub mod laws;
@@ -18,6 +19,7 @@ mod stack;
 mod table;
 
 pub use action::{Action, Listed};
+pub use front::{Next, file_front};
 pub use grammar::{Phrase, Table};
 pub use kind::Kind;
 pub use machine::{is_file, read, read_file};

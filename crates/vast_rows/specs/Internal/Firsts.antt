@@ -22,6 +22,17 @@ firsts_in (k ∷ ks) (suc rule) = firsts_in ks rule
 abbrev pub kinds_of_token : ℕ → ℕ
 kinds_of_token k = if nat_lt k 128 then only k else 0
 
+-- The kinds with which an item begins where it is not empty, and whether it may be.
+abbrev pub own_kinds : (ℕ → ℕ) → Item → ℕ
+own_kinds begin (Token k) = kinds_of_token k
+own_kinds begin (Phrase p) = firsts p
+own_kinds begin (Rule r) = begin r
+
+abbrev pub is_empty : (ℕ → Fact) → Item → Bool
+is_empty facts (Token k) = false
+is_empty facts (Phrase p) = false
+is_empty facts (Rule r) = (facts r).empty
+
 -- The kinds with which items begin where they are not empty.
 abbrev pub first_kinds : (ℕ → ℕ) → (ℕ → Fact) → List Item → ℕ
 first_kinds begin facts [] = 0
