@@ -1,28 +1,23 @@
 -- What items derive begins with the kinds that are told of them, and with each of these.
-use Rattle.std.proofs.Common.{◌≡◌, ℕ, suc, zero, ◌<◌, ◌≤◌, List, [], ◌∷◌, ◌++◌, length, Bool, true, false, ◌&&◌, nat_eq, nat_lt, Some, refl, sym, ap, ◌∙◌, ◌⊎◌, inl, inr, arith, append-nil, if◌then◌else◌}
+use Rattle.std.proofs.Common.{◌≡◌, ℕ, suc, zero, List, [], ◌∷◌, ◌++◌, Bool, true, false, ◌&&◌, nat_lt, Some, refl, sym, ◌∙◌, ◌⊎◌, inl, inr, if◌then◌else◌}
 use Rattle.std.specs.List.{slice_get}
 use Rattle.std.specs.Int.Bits.{bit_or}
-use Rattle.std.proofs.lemmas.Bool.{eqb-true}
 use Rattle.vast_literal.specs.Tokens as tokens
 use Rattle.vast_rows.specs.declared.grammar.Item.{Item}
 use Rattle.vast_rows.specs.declared.grammar.Item.TheVariants.{Token, Rule, Phrase}
-use Rattle.vast_rows.specs.declared.grammar.Phrase as code
-use Rattle.vast_rows.specs.Events.{Event, Reads, name_of, made_by, named_by}
-use Rattle.vast_rows.specs.Facts.{Fact, fact_in}
-use Rattle.vast_rows.specs.Fronts.{SpellsPhrase}
+use Rattle.vast_rows.specs.Events.{Event}
+use Rattle.vast_rows.specs.Facts.{Fact}
 use Rattle.vast_rows.specs.Internal.Derives.{Derives, nothing, token, phrase, choice}
-use Rattle.vast_rows.specs.Internal.Firsts.{firsts_in, kinds_of_token, first_kinds, are_closed, firsts_by_rows, empty_by_rows, are_tight}
+use Rattle.vast_rows.specs.Internal.Firsts.{kinds_of_token, first_kinds, are_closed}
 use Rattle.vast_rows.specs.Internal.PhraseKinds.{firsts}
-use Rattle.vast_rows.specs.Internal.Predictive.{may_be_empty, lead, is_predictive}
+use Rattle.vast_rows.specs.Internal.Predictive.{may_be_empty, is_predictive}
 use Rattle.vast_rows.specs.Internal.Sets.{within}
 use Rattle.vast_rows.specs.Internal.Sources.{head_kind}
 use Rattle.vast_rows.specs.Kinds.{has, token_kind}
 use Rattle.vast_rows.specs.Rows.{Row}
-use Rattle.vast_rows.proofs.Ending.{Exact, Closes, closes_over, closes_below, rows_end}
-use Rattle.vast_rows.proofs.Leads.{leads}
 use Rattle.vast_rows.proofs.Once.{Good, good}
 use Rattle.vast_rows.proofs.PhraseLaws.{begins as phrase_begins}
-use Rattle.vast_rows.proofs.PhraseStarts.{starts as phrase_starts, no_end}
+use Rattle.vast_rows.proofs.PhraseStarts.{no_end}
 use Rattle.vast_rows.proofs.Sets.{both, some_one, has_or, or_first, or_second, has_only, only_has, has_within, no_kind}
 use Rattle.vast_rows.proofs.TokenKinds.{small_kind}
 

@@ -1,24 +1,17 @@
 -- Each row spells some tokens.
-use Rattle.std.proofs.Common.{◌≡◌, ℕ, suc, zero, ◌<◌, List, [], ◌∷◌, ◌++◌, length, Bool, true, false, ◌&&◌, nat_eq, Some, refl, sym, ap, ◌∙◌, ◌⊎◌, inl, inr, append_assoc, append-nil, lit<, if◌then◌else◌}
+use Rattle.std.proofs.Common.{◌≡◌, ℕ, suc, zero, List, [], ◌∷◌, ◌++◌, length, Bool, true, false, nat_eq, Some, refl, ◌⊎◌, inl, inr, append_assoc, append-nil, if◌then◌else◌}
 use Rattle.std.specs.List.{slice_get}
 use Rattle.std.specs.Int.Bits.{bit_or}
 use Rattle.std.proofs.lemmas.Bool.{eqb-true}
 use Rattle.vast_literal.specs.Tokens as tokens
-use Rattle.vast_literal.specs.NormalExpr.{NormalExpr, Name, Literal, Binary}
-use Rattle.vast_literal.specs.Grammar as expressions
 use Rattle.vast_rows.specs.declared.grammar.Item.{Item}
 use Rattle.vast_rows.specs.declared.grammar.Item.TheVariants.{Token, Rule, Phrase}
-use Rattle.vast_rows.specs.declared.grammar.Phrase as code
-use Rattle.vast_rows.specs.declared.grammar.Phrase.TheVariants.{Expression, Target, LoopHead, Path}
 use Rattle.vast_rows.specs.Events.{Event, Reads, name_of, made_by, named_by}
 use Rattle.vast_rows.specs.Facts.{Fact, fact_in}
-use Rattle.vast_rows.specs.Fronts.{SpellsPhrase}
 use Rattle.vast_rows.specs.Internal.Derives.{Derives, nothing}
 use Rattle.vast_rows.specs.Internal.Firsts.{firsts_in, are_closed, are_tight, samples, is_kind_of_one, have_tokens, end_by, more_ends, ends_after, all_end, all_have_tokens, is_exact}
 use Rattle.vast_rows.specs.Internal.Sets.{only}
 use Rattle.vast_rows.specs.Kinds.{has, token_kind}
-use Rattle.vast_rows.specs.Numbers.{Less}
-use Rattle.vast_rows.specs.Phrases.{Meaning, IsExpression, IsPath, IsPhrase, expression, target, loop_head, path}
 use Rattle.vast_rows.specs.Rows.{Row}
 use Rattle.vast_rows.specs.Telling.{Spells, no_items, a_token, a_phrase, a_rule}
 use Rattle.vast_rows.proofs.Derivations.{derived, spelled}
@@ -77,11 +70,13 @@ round_ends rows (x ∷ xs) set among h known = go (end_by set x.items) refl (λ 
   where
     b : (have_tokens x.items ≡ true) × (all_have_tokens xs ≡ true)
     b = both (have_tokens x.items) (all_have_tokens xs) h
+
     more : end_by set x.items ≡ true → (r : ℕ) → (has set r ≡ true) ⊎ (has (only x.rule) r ≡ true) → Ends rows (Rule r ∷ [])
     more e r (inl old) = known r old
     more e r (inr new) = let a = among 0 x refl in
         let same : x.rule ≡ r = only_has x.rule r new in
         rw (← same) (row_ends rows a.0 x a.1 (items_end rows set known x.items b.0 e))
+
     go : (c : Bool) → end_by set x.items ≡ c → ((s : ℕ) → Known rows s → Known rows (more_ends xs s)) → Known rows (more_ends xs (if c then bit_or set (only x.rule) else set))
     go true e next = next (bit_or set (only x.rule)) (λ r m. more e r (has_or set (only x.rule) r m))
     go false e next = next set known

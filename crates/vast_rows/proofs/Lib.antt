@@ -10,6 +10,10 @@ pub mod Nexts
 pub mod Begins
 pub mod Starting
 pub mod Standing
+pub mod Overlaps
+pub mod PhraseDue
+pub mod FrontTurns
+pub mod FilesBegun
 pub mod OneTelling
 pub mod Steps
 pub mod Leads

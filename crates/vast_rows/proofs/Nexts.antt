@@ -1,5 +1,5 @@
 -- What a stack begins with, item by item.
-use Rattle.std.proofs.Common.{◌≡◌, ℕ, suc, zero, ◌-◌, ◌<◌, ◌≤◌, List, [], ◌∷◌, ◌++◌, length, reverse, take, get_or, Bool, true, false, Some, refl, sym, ap, ◌∙◌, ◌⊎◌, inl, inr, ◌↔◌, arith, if◌then◌else◌}
+use Rattle.std.proofs.Common.{◌≡◌, ℕ, suc, zero, ◌-◌, ◌<◌, ◌≤◌, List, [], ◌∷◌, length, reverse, take, get_or, true, false, refl, sym, ap, ◌∙◌, ◌⊎◌, inl, inr, ◌↔◌, arith}
 use Rattle.std.specs.Int.Bits.{bit_or, or_zero_l, or_zero_r}
 use Rattle.std.proofs.Math.Seq.{take-suc, take-length}
 use Rattle.vast_rows.specs.declared.grammar.Item.{Item}
@@ -65,12 +65,15 @@ or_moves x y z k = (λ h. there (has_or (bit_or x y) z k h), λ h. back (has_or 
     inner : (has x k ≡ true) ⊎ (has y k ≡ true) → has (bit_or x (bit_or y z)) k ≡ true
     inner (inl a) = or_first x (bit_or y z) k a
     inner (inr a) = or_second x (bit_or y z) k (or_first y z k a)
+
     there : (has (bit_or x y) k ≡ true) ⊎ (has z k ≡ true) → has (bit_or x (bit_or y z)) k ≡ true
     there (inl a) = inner (has_or x y k a)
     there (inr a) = or_second x (bit_or y z) k (or_second y z k a)
+
     outer : (has y k ≡ true) ⊎ (has z k ≡ true) → has (bit_or (bit_or x y) z) k ≡ true
     outer (inl a) = or_first (bit_or x y) z k (or_second x y k a)
     outer (inr a) = or_second (bit_or x y) z k a
+
     back : (has x k ≡ true) ⊎ (has (bit_or y z) k ≡ true) → has (bit_or (bit_or x y) z) k ≡ true
     back (inl a) = or_first (bit_or x y) z k (or_first x y k a)
     back (inr a) = outer (has_or y z k a)

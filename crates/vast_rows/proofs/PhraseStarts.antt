@@ -1,18 +1,17 @@
 -- Phrases of each sort and with each first token, and that none goes on with what may stand after one.
-use Rattle.std.proofs.Common.{◌≡◌, ℕ, suc, ◌+◌, List, [], ◌∷◌, ◌++◌, length, true, codes, Some, refl, sym, ap, ◌∙◌, ◌⊎◌, inl, inr, arith, append_assoc, append-nil, length-append, lit<}
+use Rattle.std.proofs.Common.{◌≡◌, ℕ, suc, ◌+◌, List, [], ◌∷◌, ◌++◌, length, true, codes, refl, sym, ap, ◌⊎◌, inl, inr, arith, append_assoc, length-append, lit<}
 use Rattle.std.specs.Int.Bits.{bit_or}
 use Rattle.vast_literal.specs.Tokens.{Token, Word, SystemWord, MacroWord, Number, Based, Quoted, Operator, Mark, Reserved, is_unary, level}
-use Rattle.vast_literal.specs.NormalExpr.{NormalExpr, Name, Literal, Text, MacroAlone, Unary, Binary, Concat, Pattern, Call, WordCast, NoNormals}
+use Rattle.vast_literal.specs.NormalExpr.{NormalExpr, Name, Literal, Binary}
 use Rattle.vast_literal.specs.Grammar.{Spells, up, binary, unary, name, number, based, quoted, paren, system_call, concat, array_pattern, macro_alone, word_cast, none, is_cast_word}
 use Rattle.vast_rows.specs.declared.grammar.Phrase.{Phrase}
 use Rattle.vast_rows.specs.declared.grammar.Phrase.TheVariants.{Expression, Target, LoopHead, Path}
 use Rattle.vast_rows.specs.Fronts.{SpellsPhrase}
 use Rattle.vast_rows.specs.Internal.PhraseKinds.{firsts, stops}
 use Rattle.vast_rows.specs.Internal.Sets.{only}
-use Rattle.vast_rows.specs.Internal.Sources.{head_kind}
 use Rattle.vast_rows.specs.Kinds.{has, token_kind}
 use Rattle.vast_rows.specs.Numbers.{Less, Minus, BitNot, LogicNot, BitAnd, BitOr, BitXor, OpenParen, OpenBrace, Apostrophe, Key, LogicKey, SignedKey, UnsignedKey, IntegerKey, IntKey}
-use Rattle.vast_rows.specs.Phrases.{Meaning, IsExpression, IsPath, IsPhrase, expression, target, loop_head, path}
+use Rattle.vast_rows.specs.Phrases.{IsExpression, IsPath, expression, target, loop_head, path}
 use Rattle.vast_rows.proofs.PhraseLaws.{apart}
 use Rattle.vast_rows.proofs.Sets.{has_or, only_has, no_kind}
 
@@ -81,20 +80,53 @@ cast k h = (_, _, high (word_cast k h (whole (signed a_name))))
 
 operand_heads : Heads 13 operands
 unfolding is_cast_word
-operand_heads =
-    ((_, _, a_name), ((_, _, high (number [])), ((_, _, high (based [])), ((_, _, high (quoted [])), ((_, _, high (system_call [] none)),
-    ((_, _, high (macro_alone [])), ((_, _, high (macro_alone (codes "include"))), ((_, _, high (paren (whole (signed a_name)))),
-    ((_, _, high (concat none)), ((_, _, high (array_pattern none)),
-    (cast LogicKey refl, (cast SignedKey refl, (cast UnsignedKey refl, (cast IntegerKey refl, (cast IntKey refl, tt)))))))))))))))
+operand_heads = (
+  (_, _, a_name),
+  (
+    (_, _, high (number [])),
+    (
+      (_, _, high (based [])),
+      (
+        (_, _, high (quoted [])),
+        (
+          (_, _, high (system_call [] none)),
+          (
+            (_, _, high (macro_alone [])),
+            (
+              (_, _, high (macro_alone (codes "include"))),
+              (
+                (_, _, high (paren (whole (signed a_name)))),
+                (
+                  (_, _, high (concat none)),
+                  (
+                    (_, _, high (array_pattern none)),
+                    (cast LogicKey refl, (cast SignedKey refl, (cast UnsignedKey refl, (cast IntegerKey refl, (cast IntKey refl, tt))))),
+                  ),
+                ),
+              ),
+            ),
+          ),
+        ),
+      ),
+    ),
+  ),
+)
 
 abbrev signs : List Token
 signs = Operator Minus ∷ Operator BitNot ∷ Operator LogicNot ∷ Operator BitAnd ∷ Operator BitOr ∷ Operator BitXor ∷ []
 
 sign_heads : Heads 12 signs
 unfolding is_unary
-sign_heads =
-    ((_, _, unary Minus refl (signed a_name)), ((_, _, unary BitNot refl (signed a_name)), ((_, _, unary LogicNot refl (signed a_name)),
-    ((_, _, unary BitAnd refl (signed a_name)), ((_, _, unary BitOr refl (signed a_name)), ((_, _, unary BitXor refl (signed a_name)), tt))))))
+sign_heads = (
+  (_, _, unary Minus refl (signed a_name)),
+  (
+    (_, _, unary BitNot refl (signed a_name)),
+    (
+      (_, _, unary LogicNot refl (signed a_name)),
+      ((_, _, unary BitAnd refl (signed a_name)), ((_, _, unary BitOr refl (signed a_name)), ((_, _, unary BitXor refl (signed a_name)), tt))),
+    ),
+  ),
+)
 
 -- A phrase that begins with a token of the kind.
 pub record Starts (p : Phrase) (kind : ℕ) : Type 0 where

@@ -1,31 +1,25 @@
 -- What the machine stands for: the front that it read, the stack, and the kinds by which the phrase goes on that it read last.
-use Rattle.std.proofs.Common.{◌≡◌, ◌↔◌, ℕ, suc, ◌<◌, List, [], ◌∷◌, ◌++◌, length, Bool, true, false, Option, Some, None, refl, sym, ap, ◌∙◌, ◌⊎◌, inl, inr, subst, arith, append_assoc, append-nil, nat_eq}
+use Rattle.std.proofs.Common.{◌≡◌, ◌↔◌, ℕ, suc, List, [], ◌∷◌, ◌++◌, Bool, true, false, refl, sym, ap, ◌∙◌, ◌⊎◌, inl, inr, arith, append-nil, nat_eq}
 use Rattle.std.specs.Int.Bits.{bit_or}
 use Rattle.std.proofs.lemmas.Bool.{eq-eqb}
 use Rattle.vast_literal.specs.Tokens as tokens
 use Rattle.vast_rows.specs.declared.grammar.Item.{Item}
-use Rattle.vast_rows.specs.declared.grammar.Item.TheVariants.{Token, Rule, Phrase}
-use Rattle.vast_rows.specs.declared.grammar.Phrase as code
-use Rattle.vast_rows.specs.declared.machine.Due.{Due}
-use Rattle.vast_rows.specs.declared.machine.Due.TheVariants as due
-use Rattle.vast_rows.specs.Events.{Event, Reads, name_of, named_by}
+use Rattle.vast_rows.specs.Events.{Event}
 use Rattle.vast_rows.specs.Facts.{Fact, fact_in}
-use Rattle.vast_rows.specs.Fronts.{SpellsPhrase, SpellsRule, IsBegun, GoesOn, LongestFront}
+use Rattle.vast_rows.specs.Fronts.{SpellsRule, IsBegun, GoesOn, LongestFront}
 use Rattle.vast_rows.specs.Internal.Derives.{Derives}
 use Rattle.vast_rows.specs.Internal.Firsts.{firsts_in, first_kinds}
 use Rattle.vast_rows.specs.Internal.Predictive.{may_be_empty, lead, is_predictive}
-use Rattle.vast_rows.specs.Internal.Reading.{Reading, Underived, Underway, IsDue, LeadsTo}
-use Rattle.vast_rows.specs.Internal.Sources.{head_kind, tail}
+use Rattle.vast_rows.specs.Internal.Reading.{Reading}
+use Rattle.vast_rows.specs.Internal.Sources.{head_kind}
 use Rattle.vast_rows.specs.Kinds.{has, token_kind}
 use Rattle.vast_rows.specs.Rows.{Row}
 use Rattle.vast_rows.proofs.Begins.{first_of, empty_of}
 use Rattle.vast_rows.proofs.Derivations.{spelled, whole_derived}
-use Rattle.vast_rows.proofs.Ending.{Exact, Closes, closes_below}
-use Rattle.vast_rows.proofs.Sets.{has_or, or_first, or_second, no_kind}
+use Rattle.vast_rows.proofs.Ending.{Exact, Closes}
+use Rattle.vast_rows.proofs.Sets.{has_or, or_first, or_second}
 use Rattle.vast_rows.proofs.Starting.{derives_empty, Begun, begun}
-use Rattle.vast_rows.proofs.Steps.{begun as reading_begun, ate, took, left_over}
 use Rattle.vast_rows.proofs.TokenKinds.{positive}
-use Rattle.vast_rows.proofs.Turns.{led, front}
 
 -- The tokens begin with none of the kinds.
 abbrev pub Leaves : ℕ → List tokens.Token → Type 0
@@ -48,7 +42,7 @@ leaves_none more t us e = absurd (cc e)
 pub leaves_other : (more k : ℕ) (t : tokens.Token) (us : List tokens.Token) → has more k ≡ false → token_kind t ≡ k → Leaves more (t ∷ us)
 leaves_other more k t us h e u vs same = let f : t ≡ u = cc same in rw (← f, e) h
 
-unless_true : {A : Type 0} (b : Bool) → b ≡ true → b ≡ false → A
+pub unless_true : {A : Type 0} (b : Bool) → b ≡ true → b ≡ false → A
 unless_true b e f = absurd (cc (e, f))
 
 pub no_end_kind : (t : tokens.Token) → token_kind t ≡ 0 → ⊥
@@ -105,6 +99,7 @@ module _ (begin : List ℕ) (facts : List Fact) (rows : List Row) (start : ℕ) 
       first : (t : tokens.Token) (us : List tokens.Token) (es : List Event) → Derives rows stack (t ∷ us) es → (b : Bool) → has more (token_kind t) ≡ b → IsBegun (SpellsRule rows start) w.before
       first t us es d true e = let g = w.longer (token_kind t) e in (g.0 ∷ g.1, g.3)
       first t us es d false e = (t ∷ us, onto w (t ∷ us) (leaves_other more (token_kind t) t us e refl) es d)
+
       go : (ts : List tokens.Token) (es : List Event) → Derives rows stack ts es → IsBegun (SpellsRule rows start) w.before
       go [] es d = ([], onto w [] (leaves_none more) es d)
       go (t ∷ us) es d = first t us es d (has more (token_kind t)) refl
@@ -125,6 +120,7 @@ module _ (begin : List ℕ) (facts : List Fact) (rows : List Row) (start : ℕ) 
       own_to : (k : ℕ) → (has more k ≡ true) ⊎ (has own k ≡ true) → (has more k ≡ true) ⊎ (has (first_kinds (firsts_in begin) (fact_in facts) stack) k ≡ true)
       own_to k (inl h) = inl h
       own_to k (inr h) = inr ((kinds k).0 h)
+
       own_from : (k : ℕ) → (has more k ≡ true) ⊎ (has (first_kinds (firsts_in begin) (fact_in facts) stack) k ≡ true) → has (bit_or more own) k ≡ true
       own_from k (inl h) = or_first more own k h
       own_from k (inr h) = or_second more own k ((kinds k).1 h)
@@ -138,6 +134,7 @@ module _ (begin : List ℕ) (facts : List Fact) (rows : List Row) (start : ℕ) 
       found : (t : tokens.Token) → token_kind t ≡ k → (has more (token_kind t) ≡ true) ⊎ (has (first_kinds (firsts_in begin) (fact_in facts) stack) (token_kind t) ≡ true) → has (bit_or more own) k ≡ true
       found t e (inl h) = rw e at (or_first more own (token_kind t) h)
       found t e (inr h) = rw e at (or_second more own (token_kind t) ((kinds (token_kind t)).1 h))
+
       none : (t : tokens.Token) (us rest : List tokens.Token) → left ≡ t ∷ us → SpellsRule rows start (w.before ++ (t ∷ rest)) → ⊥
       none t us rest e s =
           let same : token_kind t ≡ k = sym (kind ∙ ap head_kind e) in

@@ -1,12 +1,12 @@
 -- Items begin with each of the kinds that are told of them, and are empty where it is told.
-use Rattle.std.proofs.Common.{◌≡◌, ℕ, suc, zero, ◌<◌, ◌≤◌, List, [], ◌∷◌, ◌++◌, length, Bool, true, false, ◌&&◌, nat_eq, nat_lt, ◌≢◌, Some, refl, sym, ap, ◌∙◌, ◌⊎◌, inl, inr, arith, if◌then◌else◌}
+use Rattle.std.proofs.Common.{◌≡◌, ℕ, suc, zero, ◌<◌, ◌≤◌, List, [], ◌∷◌, ◌++◌, length, Bool, true, false, ◌&&◌, nat_eq, nat_lt, ◌≢◌, Some, refl, ap, ◌∙◌, ◌⊎◌, inl, inr, arith, if◌then◌else◌}
 use Rattle.std.specs.List.{slice_get}
 use Rattle.std.specs.Int.Bits.{bit_or}
 use Rattle.std.proofs.lemmas.Bool.{eqb-true, eqb-false, ltb-true, ltb-false}
 use Rattle.vast_literal.specs.Tokens as tokens
 use Rattle.vast_rows.specs.declared.grammar.Item.{Item}
 use Rattle.vast_rows.specs.declared.grammar.Item.TheVariants.{Token, Rule, Phrase}
-use Rattle.vast_rows.specs.Events.{Event, Reads, name_of, made_by, named_by}
+use Rattle.vast_rows.specs.Events.{Event, made_by}
 use Rattle.vast_rows.specs.Facts.{Fact, fact_in}
 use Rattle.vast_rows.specs.Internal.Derives.{Derives, nothing, token, phrase, choice}
 use Rattle.vast_rows.specs.Internal.Firsts.{firsts_in, first_kinds, firsts_by_rows, empty_by_rows, are_tight}
@@ -20,7 +20,7 @@ use Rattle.vast_rows.proofs.Leads.{leads}
 use Rattle.vast_rows.proofs.PhraseStarts.{starts}
 use Rattle.vast_rows.proofs.Sets.{both, has_or, has_within, no_kind}
 use Rattle.vast_rows.proofs.Nexts.{unknown_begins}
-use Rattle.vast_rows.proofs.Steps.{Took, took, Phrased, phrased}
+use Rattle.vast_rows.proofs.Steps.{took}
 use Rattle.vast_rows.proofs.Taken.{unknown}
 
 -- A row of a rule that begins with a kind, and one that may be empty.
@@ -48,6 +48,7 @@ row_that_begins begin facts (x ∷ rows) rule k h = go (nat_eq x.rule rule) refl
         (has (first_kinds begin facts x.items) k ≡ true) ⊎ (has (firsts_by_rows begin facts rows rule) k ≡ true) → RowWith (x ∷ rows) rule (BeginsRow begin facts k)
     split e next (inl a) = record { number = 0; row = x; found = refl; ruled = eqb-true x.rule rule e; holds = a }
     split e next (inr a) = later x rows rule (BeginsRow begin facts k) (next a)
+
     go : (b : Bool) → nat_eq x.rule rule ≡ b → has (if b then bit_or (first_kinds begin facts x.items) (firsts_by_rows begin facts rows rule) else firsts_by_rows begin facts rows rule) k ≡ true →
         (has (firsts_by_rows begin facts rows rule) k ≡ true → RowWith rows rule (BeginsRow begin facts k)) → RowWith (x ∷ rows) rule (BeginsRow begin facts k)
     go true e h next = split e next (has_or (first_kinds begin facts x.items) (firsts_by_rows begin facts rows rule) k h)
@@ -73,11 +74,13 @@ tight_below begin facts rows (suc n) rule h l = go (nat_eq rule n) refl (tight_b
   where
     b : (within (begin n) (firsts_by_rows begin facts rows n) ≡ true) × ((if (facts n).empty then empty_by_rows facts rows n else true) ≡ true) × (are_tight begin facts rows n ≡ true)
     b = let c = both (within (begin n) (firsts_by_rows begin facts rows n)) _ h in let d = both (if (facts n).empty then empty_by_rows facts rows n else true) (are_tight begin facts rows n) c.1 in (c.0, d.0, d.1)
+
     here : Tight begin facts rows n
     here = record {
       begins = λ k k_in. row_that_begins begin facts rows n k (has_within (begin n) (firsts_by_rows begin facts rows n) k b.0 k_in);
       empty = λ e. row_that_is_empty facts rows n (let f = b.1 in rw e at f);
     }
+
     go : (c : Bool) → nat_eq rule n ≡ c → (rule < n → Tight begin facts rows rule) → Tight begin facts rows rule
     go true e next = let same : rule ≡ n = eqb-true rule n e in rw same here
     go false e next = next (below (eqb-false rule n e) l)
@@ -93,6 +96,7 @@ tight begin facts rows rule x = go (nat_lt rule (length facts)) refl
       begins = λ k h. absurd (no_kind k (rw (← unknown_begins begin rule (omega (arith, n, l))) at h));
       empty = λ e. absurd (let f : false ≡ (fact_in facts rule).empty = ap (λ (v : Fact). v.empty) (unknown facts rule l) in cc (e, f));
     }
+
     go : (b : Bool) → nat_lt rule (length facts) ≡ b → Tight (firsts_in begin) (fact_in facts) rows rule
     go true e = tight_below (firsts_in begin) (fact_in facts) rows (length facts) rule x.tight (ltb-true rule (length facts) e)
     go false e = out (ltb-false rule (length facts) e)
@@ -137,7 +141,7 @@ begun begin facts rows x p (suc n) (Phrase q ∷ s) k l h c =
 begun begin facts rows x p (suc n) (Rule r ∷ s) k l h c =
     go (fact_in facts r).empty refl (has_or (firsts_in begin r) (if (fact_in facts r).empty then first_kinds (firsts_in begin) (fact_in facts) s else 0) k h)
     (λ row number at ruled starts. let less : lead (fact_in facts) (row.items ++ s) < lead (fact_in facts) (Rule r ∷ s) = leads rows (fact_in facts) r number row s p at ruled in
-        begun begin facts rows x p n (row.items ++ s) k (omega (arith, less, l)) starts (closes_over rows row.items s (rows_end begin facts rows x number row at) (closes_below rows (Rule r) s c)))
+    begun begin facts rows x p n (row.items ++ s) k (omega (arith, less, l)) starts (closes_over rows row.items s (rows_end begin facts rows x number row at) (closes_below rows (Rule r) s c)))
   where
     go : (b : Bool) → (fact_in facts r).empty ≡ b → (has (firsts_in begin r) k ≡ true) ⊎ (has (if (fact_in facts r).empty then first_kinds (firsts_in begin) (fact_in facts) s else 0) k ≡ true) →
         ((row : Row) (number : ℕ) → slice_get rows number ≡ Some row → row.rule ≡ r → has (first_kinds (firsts_in begin) (fact_in facts) (row.items ++ s)) k ≡ true → Begun rows (row.items ++ s) k) → Begun rows (Rule r ∷ s) k

@@ -1,5 +1,5 @@
 -- The numbers of the kinds of tokens: from 1 up to 127.
-use Rattle.std.proofs.Common.{◌≡◌, ℕ, Bool, true, false, cond, nat_eq, nat_lt, refl, codes, bytes_eq}
+use Rattle.std.proofs.Common.{◌≡◌, Bool, true, false, cond, nat_eq, nat_lt, refl, codes, bytes_eq}
 use Rattle.vast_literal.specs.Tokens as tokens
 use Rattle.vast_rows.specs.declared.kind.Kind.TheVariants.{MacroWord, IncludeWord}
 use Rattle.vast_rows.specs.Kinds.{number, token_kind}

@@ -1,5 +1,5 @@
 -- The turns of the machine keep a reading and what was heard of it.
-use Rattle.std.proofs.Common.{◌≡◌, ℕ, suc, ◌<◌, List, [], ◌∷◌, ◌++◌, Bool, true, false, cond, nat_eq, nat_lt, length, Option, Some, None, refl, sym, ap, ◌∙◌, subst, arith, codes, bytes_eq, MatchBool}
+use Rattle.std.proofs.Common.{◌≡◌, ℕ, suc, ◌<◌, List, [], ◌∷◌, ◌++◌, true, nat_eq, nat_lt, length, Option, Some, None, refl, sym, ap, ◌∙◌, subst, arith, MatchBool}
 use Rattle.std.proofs.lemmas.Bool.{ltb-true}
 use Rattle.vast_literal.specs.Tokens as tokens
 use Rattle.vast_rows.specs.declared.action.Action.{Action}
@@ -8,11 +8,9 @@ use Rattle.vast_rows.specs.declared.grammar.Item.TheVariants.{Token, Rule, Phras
 use Rattle.vast_rows.specs.declared.grammar.Phrase as code
 use Rattle.vast_rows.specs.Internal.Reading.{Reading, Underived, Underway, IsTaken, IsDue, LeadsTo}
 use Rattle.vast_rows.specs.declared.machine.Due.{Due}
-use Rattle.vast_rows.specs.declared.kind.Kind.TheVariants.{MacroWord, IncludeWord}
-use Rattle.vast_rows.specs.Kinds.{has, number, token_kind}
+use Rattle.vast_rows.specs.Kinds.{has, token_kind}
 use Rattle.vast_rows.specs.Internal.Sets.{only}
 use Rattle.vast_rows.specs.Internal.Sources.{tail, first_name, head_kind}
-use Rattle.vast_rows.specs.Numbers.{OpenParen, LogicOr, IfKey}
 use Rattle.vast_rows.specs.Laws.{IsRead, IsUnspelled}
 use Rattle.vast_rows.specs.Phrases.{Meaning}
 use Rattle.vast_rows.specs.Internal.Sources.{HasRead, HasNone}

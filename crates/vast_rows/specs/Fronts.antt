@@ -1,5 +1,5 @@
 -- How far tokens are the beginning of something, and how that goes on.
-use Rattle.std.specs.Prelude.{◌≡◌, ◌↔◌, ◌<◌, ℕ, List, [], ◌∷◌, ◌++◌, length, Bool, true, false}
+use Rattle.std.specs.Prelude.{◌≡◌, ◌↔◌, ◌<◌, ℕ, List, ◌∷◌, ◌++◌, length, Bool, true, false}
 use Rattle.vast_literal.specs.FileGrammar.{IsFile}
 use Rattle.vast_literal.specs.NormalFile.{NormalFile}
 use Rattle.vast_literal.specs.Tokens.{Token}
@@ -54,7 +54,7 @@ pub record WholeRead (phrase : Phrase) (before left : List Token) (kinds : ℕ) 
 
 -- How far a phrase was read; of a loop's header it is not told.
 abbrev pub Reaches : Phrase → (before left : List Token) → Reach → Type 0
-Reaches phrase before left Nowhere = (t : Token) (us rest : List Token) → before ≡ t ∷ us → SpellsPhrase phrase (t ∷ rest) → ⊥
+Reaches phrase before left Nowhere = (left ≡ before) × ((t : Token) (us rest : List Token) → before ≡ t ∷ us → SpellsPhrase phrase (t ∷ rest) → ⊥)
 Reaches phrase before left (Part kinds) = PartRead phrase before left kinds
 Reaches phrase before left (Whole kinds) = WholeRead phrase before left kinds
 Reaches phrase before left Untold = phrase ≡ LoopHead

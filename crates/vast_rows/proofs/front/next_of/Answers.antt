@@ -14,7 +14,7 @@ items-preserved c = rw c.kinds_of-kinds.ensures (found_more (firsts_in c.args.ta
 pub returns-then-not-may_be_empty : goal.returns-then-not-may_be_empty
 returns-then-not-may_be_empty c =
     let f = found_there (firsts_in c.args.table.now.firsts.now) (fact_in (facts_view c.args.table.now.facts.now)) c.items-items.result.now c.args.stack.now c.items.at c.items.kinds _
-        c.items.invariant c.items-test.true (sym c.may_be_empty.ensures ∙ c.if-not-may_be_empty.true) in
+    c.items.invariant c.items-test.true (sym c.may_be_empty.ensures ∙ c.if-not-may_be_empty.true) in
     record { kinds = rw c.kinds_of-kinds.ensures f.0; ends = f.1 }
 
 pub returns : goal.returns

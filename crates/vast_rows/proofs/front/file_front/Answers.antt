@@ -1,0 +1,9 @@
+use Rattle.vast_rows.specs.Rows.{rows_view}
+use Rattle.vast_rows.proofs.FilesBegun.{one_spelled, front_of_file}
+use Rattle.vast_rows.proofs.front.file_front.Goals as goal
+
+pub front-requires-clause-spells : goal.front-requires-clause-spells
+front-requires-clause-spells g c = one_spelled (rows_view c.files.result.items.now c.files.result.rows.now) c.files.ensures.page
+
+pub returns : goal.returns
+returns g c = front_of_file (rows_view c.files.result.items.now c.files.result.rows.now) c.files.ensures.page (g.S.Source.left c.args.source.now) _ _ c.front.ensures
