@@ -4,7 +4,8 @@ use Rattle.vast_literal.specs.FileGrammar.{file, no_items}
 use Rattle.vast_literal.specs.Tokens.{Token}
 use Rattle.vast_rows.specs.declared.front.Next.{Next}
 use Rattle.vast_rows.specs.declared.rule.Rule.TheVariants.{File}
-use Rattle.vast_rows.specs.Fronts.{SpellsRule, SpellsFile, LongestFront, AtLoopHead}
+use Rattle.vast_rows.specs.Fronts.{SpellsFile, LongestFront, AtLoopHead}
+use Rattle.vast_rows.specs.Internal.Reaches.{SpellsRule}
 use Rattle.vast_rows.specs.Numbers.{rule_number}
 use Rattle.vast_rows.specs.Page.{page}
 use Rattle.vast_rows.specs.Rows.{Row, bare}

@@ -10,7 +10,7 @@ use Rattle.vast_rows.specs.declared.machine.Due.{Due}
 use Rattle.vast_rows.specs.declared.machine.Due.TheVariants as due
 use Rattle.vast_rows.specs.Events.{Event, named_by, name_of}
 use Rattle.vast_rows.specs.Facts.{Fact, fact_in}
-use Rattle.vast_rows.specs.Fronts.{SpellsRule}
+use Rattle.vast_rows.specs.Internal.Reaches.{SpellsRule}
 use Rattle.vast_rows.specs.Internal.Derives.{Derives}
 use Rattle.vast_rows.specs.Internal.Firsts.{firsts_in, first_kinds}
 use Rattle.vast_rows.specs.Internal.PhraseKinds.{firsts}

@@ -1,3 +1,4 @@
+pub mod Rules
 pub mod Stacked
 pub mod Sets
 pub mod RowLaws

@@ -10,7 +10,8 @@ use Rattle.vast_rows.specs.declared.rule.Rule.{Rule as RuleName}
 use Rattle.vast_rows.specs.declared.rule.Rule.TheVariants.{File}
 use Rattle.vast_rows.specs.declared.kind.Kind.TheVariants.{MacroWord, IncludeWord}
 use Rattle.vast_rows.specs.Kinds.{token_kind, number}
-use Rattle.vast_rows.specs.Internal.Orders.{marks, signs, keys, rules}
+use Rattle.vast_rows.specs.Internal.Orders.{marks, signs, keys}
+use Rattle.vast_rows.proofs.Rules.{rules}
 use Rattle.vast_rows.specs.Numbers.{rule_number, OpenParen, LogicOr, IfKey}
 use Rattle.vast_rows.specs.Page.{page}
 use Rattle.vast_rows.specs.Phrases.{Meaning, IsPhrase}

@@ -7,7 +7,8 @@ use Rattle.vast_rows.specs.declared.grammar.Phrase as code
 use Rattle.vast_rows.specs.declared.grammar.Phrase.TheVariants.{LoopHead}
 use Rattle.vast_rows.specs.Events.{Event, Reads}
 use Rattle.vast_rows.specs.Facts.{Fact}
-use Rattle.vast_rows.specs.Fronts.{SpellsPhrase, SpellsRule, IsBegun, GoesOn, LongestFront, PartRead, WholeRead, AtLoopHead}
+use Rattle.vast_rows.specs.Fronts.{SpellsPhrase, IsBegun, GoesOn, LongestFront, AtLoopHead}
+use Rattle.vast_rows.specs.Internal.Reaches.{SpellsRule, PartRead, WholeRead}
 use Rattle.vast_rows.specs.Internal.Derives.{phrase}
 use Rattle.vast_rows.specs.Internal.PhraseKinds.{firsts, stops}
 use Rattle.vast_rows.specs.Internal.Predictive.{is_predictive}

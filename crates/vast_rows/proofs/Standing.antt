@@ -6,7 +6,8 @@ use Rattle.vast_literal.specs.Tokens as tokens
 use Rattle.vast_rows.specs.declared.grammar.Item.{Item}
 use Rattle.vast_rows.specs.Events.{Event}
 use Rattle.vast_rows.specs.Facts.{Fact, fact_in}
-use Rattle.vast_rows.specs.Fronts.{SpellsRule, IsBegun, GoesOn, LongestFront}
+use Rattle.vast_rows.specs.Fronts.{IsBegun, GoesOn, LongestFront}
+use Rattle.vast_rows.specs.Internal.Reaches.{SpellsRule}
 use Rattle.vast_rows.specs.Internal.Derives.{Derives}
 use Rattle.vast_rows.specs.Internal.Firsts.{firsts_in, first_kinds}
 use Rattle.vast_rows.specs.Internal.Predictive.{may_be_empty, lead, is_predictive}

@@ -1,27 +1,19 @@
 -- How far tokens are the beginning of something, and how that goes on.
-use Rattle.std.specs.Prelude.{◌≡◌, ◌↔◌, ◌<◌, ℕ, List, ◌∷◌, ◌++◌, length, Bool, true, false}
+use Rattle.std.specs.Prelude.{◌≡◌, ◌↔◌, ℕ, List, ◌∷◌, ◌++◌, Bool, true}
 use Rattle.vast_literal.specs.FileGrammar.{IsFile}
 use Rattle.vast_literal.specs.NormalFile.{NormalFile}
 use Rattle.vast_literal.specs.Tokens.{Token}
 use Rattle.vast_rows.specs.declared.grammar.Phrase.{Phrase}
 use Rattle.vast_rows.specs.declared.grammar.Phrase.TheVariants.{LoopHead}
-use Rattle.vast_rows.specs.declared.source.Reach.{Reach}
-use Rattle.vast_rows.specs.declared.source.Reach.TheVariants.{Nowhere, Part, Whole, Untold}
-use Rattle.vast_rows.specs.Events.{Event}
 use Rattle.vast_rows.specs.Kinds.{has, token_kind}
-use Rattle.vast_rows.specs.Laws.{Tells}
 use Rattle.vast_rows.specs.Phrases.{Meaning, IsPhrase}
-use Rattle.vast_rows.specs.Rows.{Row}
 
--- The tokens are a file, a phrase, and what a rule spells.
+-- The tokens are a file, and a phrase.
 abbrev pub SpellsFile : List Token → Type 0
 SpellsFile ts = (t : NormalFile) × IsFile ts t
 
 abbrev pub SpellsPhrase : Phrase → List Token → Type 0
 SpellsPhrase phrase ts = (m : Meaning) × IsPhrase phrase ts m
-
-abbrev pub SpellsRule : List Row → (rule : ℕ) → List Token → Type 0
-SpellsRule rows rule ts = (es : List Event) × Tells rows rule ts es
 
 -- Something of the language begins with the tokens.
 abbrev pub IsBegun : (List Token → Type 0) → List Token → Type 0
@@ -40,24 +32,6 @@ pub record LongestFront (L : List Token → Type 0) (ts left : List Token) (kind
   pub goes_on : (kind : ℕ) → (has kinds kind ≡ true) ↔ GoesOn L front kind
   pub ended : (ends ≡ true) ↔ L front
   pub stops : (t : Token) (us rest : List Token) → left ≡ t ∷ us → L (front ++ (t ∷ rest)) → ⊥
-
--- Some tokens were read, which are a front of phrases and no phrase; or which are one, and no token of the kind that is left
--- goes on with it.
-pub record PartRead (phrase : Phrase) (before left : List Token) (kinds : ℕ) : Type 0 where
-  pub longest : LongestFront (SpellsPhrase phrase) before left kinds false
-  pub fewer : length left < length before
-
-pub record WholeRead (phrase : Phrase) (before left : List Token) (kinds : ℕ) : Type 0 where
-  pub longest : LongestFront (SpellsPhrase phrase) before left kinds true
-  pub fewer : length left < length before
-  pub quiet : (t : Token) (us : List Token) → left ≡ t ∷ us → has kinds (token_kind t) ≡ false
-
--- How far a phrase was read; of a loop's header it is not told.
-abbrev pub Reaches : Phrase → (before left : List Token) → Reach → Type 0
-Reaches phrase before left Nowhere = (left ≡ before) × ((t : Token) (us rest : List Token) → before ≡ t ∷ us → SpellsPhrase phrase (t ∷ rest) → ⊥)
-Reaches phrase before left (Part kinds) = PartRead phrase before left kinds
-Reaches phrase before left (Whole kinds) = WholeRead phrase before left kinds
-Reaches phrase before left Untold = phrase ≡ LoopHead
 
 -- Something of the language goes on with any loop's header where the tokens no longer go on.
 pub record AtLoopHead (L : List Token → Type 0) (ts : List Token) : Type 0 where

@@ -1,8 +1,12 @@
 //! How far tokens begin a file, and what could stand next, read off the machine's stack.
 
+#[cfg(test)]
+mod tests;
+
 ghost use Rattle.std.specs.Prelude.{◌≡◌, ◌↔◌, ℕ, List, true, IfOk, MatchOption};
 ghost use Rattle.vast_literal.specs.Tokens.{Token};
-ghost use Rattle.vast_rows.specs.Fronts.{AtLoopHead, LongestFront, SpellsFile, SpellsRule};
+ghost use Rattle.vast_rows.specs.Fronts.{AtLoopHead, LongestFront, SpellsFile};
+ghost use Rattle.vast_rows.specs.Internal.Reaches.{SpellsRule};
 ghost use Rattle.vast_rows.specs.Internal.Firsts.{firsts_in, first_kinds, is_empty, own_kinds};
 ghost use Rattle.vast_rows.specs.Internal.PhraseKinds.{firsts};
 ghost use Rattle.vast_rows.specs.Internal.Predictive.{may_be_empty};

@@ -1,7 +1,7 @@
 use Rattle.std.proofs.Common.{◌≡◌, ap, sym, ◌∙◌, inl, inr}
 use Rattle.vast_rows.specs.declared.grammar.Phrase.TheVariants.{LoopHead}
 use Rattle.vast_rows.specs.Facts.{facts_view}
-use Rattle.vast_rows.specs.Fronts.{Reaches, PartRead, WholeRead}
+use Rattle.vast_rows.specs.Internal.Reaches.{Reaches, PartRead, WholeRead}
 use Rattle.vast_rows.specs.Kinds.{number}
 use Rattle.vast_rows.specs.Numbers.{rule_number}
 use Rattle.vast_rows.specs.Rows.{rows_view}

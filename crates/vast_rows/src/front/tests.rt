@@ -1,0 +1,58 @@
+//! What a file may begin with.
+
+ghost use Rattle.std.specs.Prelude.{[]};
+ghost use Rattle.vast_rows.specs.Phrases.{IsPath};
+
+use super::{Next, file_front};
+use crate::grammar::Phrase;
+use crate::kind::Kind;
+use crate::source::{Fronts, Reach, Source};
+use std::alloc::AllocError;
+use vast_literal::Key;
+
+/// No tokens.
+#[derive(Drop)]
+struct NoTokens;
+
+impl Source for NoTokens {
+    type Made = ();
+
+    type Name = ();
+
+    ghost left = { λ s. [] };
+
+    ghost sees = { λ m. IsPath [] };
+
+    ghost text = { λ n. [] };
+
+    fn kind(&self) -> Kind {
+        Kind::End
+    }
+
+    fn take(&mut self) -> Option<()> {
+        None
+    }
+
+    fn phrase(&mut self, _phrase: Phrase) -> Result<Option<()>, AllocError> {
+        Ok(None)
+    }
+}
+
+impl Fronts for NoTokens {
+    fn reach(&mut self, _phrase: Phrase) -> Result<Reach, AllocError> {
+        Ok(Reach::Nowhere)
+    }
+}
+
+#[test]
+fn a_file_begins_with_a_module_or_an_include(rt: HostRuntime) {
+    let next = file_front(rt.alloc(), &mut NoTokens).expect(&rt, "memory");
+    let begins = 1 << Kind::IncludeWord.number() | 1 << Kind::Reserved(Key::Module).number();
+    assert_eq!(rt;
+        next,
+        Some(Next {
+            kinds: begins,
+            ends: true,
+        })
+    );
+}
