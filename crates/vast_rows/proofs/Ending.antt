@@ -22,7 +22,7 @@ use Rattle.vast_rows.proofs.Sets.{both, some_one, has_or, only_has, no_kind}
 abbrev pub Ends : List Row → List Item → Type 0
 Ends rows items = (fs : List Event) → (ts : List tokens.Token) × (es : List Event) × Spells rows items ts es fs
 
-joined : {rows : List Row} {a b : List Item} {ts us : List tokens.Token} {es fs gs : List Event} → Spells rows a ts es fs → Spells rows b us fs gs → Spells rows (a ++ b) (ts ++ us) es gs
+pub joined : {rows : List Row} {a b : List Item} {ts us : List tokens.Token} {es fs gs : List Event} → Spells rows a ts es fs → Spells rows b us fs gs → Spells rows (a ++ b) (ts ++ us) es gs
 joined no_items q = q
 joined (a_token t e p) q = a_token t e (joined p q)
 joined {us = us} (a_phrase {ps = ps} {ts = ts} i p) q = rw (append_assoc ps ts us) (a_phrase i (joined p q))

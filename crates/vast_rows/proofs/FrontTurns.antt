@@ -8,9 +8,9 @@ use Rattle.vast_rows.specs.declared.grammar.Item.TheVariants.{Rule}
 use Rattle.vast_rows.specs.declared.grammar.Phrase as code
 use Rattle.vast_rows.specs.declared.machine.Due.{Due}
 use Rattle.vast_rows.specs.declared.machine.Due.TheVariants as due
-use Rattle.vast_rows.specs.Events.{Event, named_by, name_of}
+use Rattle.vast_rows.specs.Events.{Event, Reads, named_by, name_of}
 use Rattle.vast_rows.specs.Facts.{Fact, fact_in}
-use Rattle.vast_rows.specs.Internal.Reaches.{SpellsRule}
+use Rattle.vast_rows.specs.Internal.Reaches.{SpellsRule, are_plain}
 use Rattle.vast_rows.specs.Internal.Derives.{Derives}
 use Rattle.vast_rows.specs.Internal.Firsts.{firsts_in, first_kinds}
 use Rattle.vast_rows.specs.Internal.PhraseKinds.{firsts}
@@ -23,6 +23,7 @@ use Rattle.vast_rows.proofs.Derivations.{whole_derived}
 use Rattle.vast_rows.proofs.Ending.{Exact}
 use Rattle.vast_rows.proofs.PhraseDue.{PhraseDue}
 use Rattle.vast_rows.proofs.PhraseLaws.{begins as phrase_begins}
+use Rattle.vast_rows.proofs.Plain.{no_reads, plain_tells, never_read}
 use Rattle.vast_rows.proofs.Sets.{has_or, no_kind}
 use Rattle.vast_rows.proofs.Standing.{Standing, Leaves, leaves_other, unless_true, no_end_kind, onto, begins_at}
 use Rattle.vast_rows.proofs.Starting.{Begun}
@@ -147,3 +148,13 @@ module _ {K : Type 0} {after : K → List Event → K → Type 0} (silent : (s :
         closes = (sampled, c.0, c.1);
         fits = rw sample.kinds at g;
       }
+
+  -- No phrase is due where rows have none.
+  pub never_phrase : are_plain rows ≡ true → (q : code.Phrase) → d ≡ due.Phrase q → ⊥
+  never_phrase h q e =
+      let u = due_at (due.Phrase q) e sample.first sample.others sample.kinds in
+      let c = (u.reading).complete told.0 derived_whole in
+      let o = phrased c.1 in
+      let same : told.0 ≡ u.done ++ (Reads o.meaning ∷ o.more) = c.2 ∙ ap (λ (v : List Event). u.done ++ v) o.steps in
+      let n : no_reads told.0 ≡ true = plain_tells h refl derived_whole in
+      never_read u.done o.more o.meaning (rw same at n)

@@ -13,8 +13,11 @@ pub mod Starting
 pub mod Standing
 pub mod Overlaps
 pub mod PhraseDue
+pub mod Plain
 pub mod FrontTurns
 pub mod FilesBegun
+pub mod ExpressionMeans
+pub mod ExpressionRows
 pub mod OneTelling
 pub mod Steps
 pub mod Leads

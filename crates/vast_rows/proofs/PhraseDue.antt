@@ -4,11 +4,10 @@ use Rattle.vast_literal.specs.Tokens as tokens
 use Rattle.vast_rows.specs.declared.grammar.Item.{Item}
 use Rattle.vast_rows.specs.declared.grammar.Item.TheVariants.{Phrase}
 use Rattle.vast_rows.specs.declared.grammar.Phrase as code
-use Rattle.vast_rows.specs.declared.grammar.Phrase.TheVariants.{LoopHead}
 use Rattle.vast_rows.specs.Events.{Event, Reads}
 use Rattle.vast_rows.specs.Facts.{Fact}
-use Rattle.vast_rows.specs.Fronts.{SpellsPhrase, IsBegun, GoesOn, LongestFront, AtLoopHead}
-use Rattle.vast_rows.specs.Internal.Reaches.{SpellsRule, PartRead, WholeRead}
+use Rattle.vast_rows.specs.Fronts.{SpellsPhrase, IsBegun, GoesOn, LongestFront}
+use Rattle.vast_rows.specs.Internal.Reaches.{SpellsRule, PartRead, WholeRead, AtUntold}
 use Rattle.vast_rows.specs.Internal.Derives.{phrase}
 use Rattle.vast_rows.specs.Internal.PhraseKinds.{firsts, stops}
 use Rattle.vast_rows.specs.Internal.Predictive.{is_predictive}
@@ -23,7 +22,6 @@ use Rattle.vast_rows.proofs.Once.{stopped}
 use Rattle.vast_rows.proofs.Overlaps.{Overlap, shorter, even, longer, overlap}
 use Rattle.vast_rows.proofs.PhraseLaws.{begins as phrase_begins, apart}
 use Rattle.vast_rows.proofs.PhraseStarts.{no_end, none_longer}
-use Rattle.vast_rows.proofs.Sets.{only_has}
 use Rattle.vast_rows.proofs.Standing.{Standing, Leaves}
 use Rattle.vast_rows.proofs.Steps.{phrased, read_phrase}
 
@@ -85,20 +83,17 @@ module _ {rows : List Row} {facts : ℕ → Fact} {start : ℕ} {all left before
       go [] behind f n = no_end q (phrase_begins q [] [] n.0 n.1)
       go (y ∷ ys) behind f n = let same : y ≡ t = cc f in none t us ys e (rw same at n)
 
-  -- A loop's header is due.
-  pub at_head : q ≡ LoopHead → AtLoopHead (SpellsRule rows start) all
-  at_head e = record { front = before; behind = left; split = w.split; due = λ head m. due head m }
-    where
-      fits : has (firsts LoopHead) k ≡ true
-      fits = let f = w.fits in rw e at f
-
-      due : (head : List tokens.Token) → SpellsPhrase LoopHead head → IsBegun (SpellsRule rows start) (before ++ head)
-      due [] m = absurd (no_end LoopHead (phrase_begins LoopHead [] [] m.0 m.1))
-      due (t ∷ ps) m =
-          let h : has (firsts LoopHead) (token_kind t) ≡ true = phrase_begins LoopHead (t ∷ ps) [] m.0 m.1 in
-          let same : token_kind t ≡ k = sym (only_has 9 (token_kind t) h) ∙ only_has 9 k fits in
-          let c = (closes_below rows (Phrase q) s w.closes).0 in
-          (c, rw (append_assoc before (t ∷ ps) c) (phrase_on t ps same (rw (← e) at m)))
+  -- A phrase is due that is not told of.
+  pub at_untold : (untold : code.Phrase → Type 0) → untold q → AtUntold untold (SpellsRule rows start) all
+  at_untold untold h = record {
+    phrase = q;
+    not_told = h;
+    front = before;
+    behind = left;
+    split = w.split;
+    fits = rw w.kind w.fits;
+    due = λ t ps e m. let c = (closes_below rows (Phrase q) s w.closes).0 in (c, rw (append_assoc before (t ∷ ps) c) (phrase_on t ps (e ∙ w.kind) m));
+  }
 
   module _ (t : tokens.Token) (ps after : List tokens.Token) (split : left ≡ (t ∷ ps) ++ after) where
     kind : token_kind t ≡ k

@@ -140,3 +140,7 @@ module _ (begin : List ℕ) (facts : List Fact) (rows : List Row) (start : ℕ) 
       none t us rest e s =
           let same : token_kind t ≡ k = sym (kind ∙ ap head_kind e) in
           unless_true (has (bit_or more own) k) (found t same (kinds_from w (token_kind t) (t, rest, refl, s))) other
+
+-- A next token that has none of the kinds.
+pub quiet_before : (left : List tokens.Token) (k kinds : ℕ) → k ≡ head_kind left → has kinds k ≡ false → Leaves kinds left
+quiet_before left k kinds kind other t us e = let same : k ≡ token_kind t = kind ∙ ap head_kind e in rw same at other

@@ -5,6 +5,7 @@ pub mod PhraseKinds
 pub mod Orders
 pub mod Predictive
 pub mod Firsts
+pub mod ExpressionPage
 pub mod Reaches
 pub mod Derives
 pub mod Reading

@@ -6,19 +6,18 @@ mod tests;
 ghost use Rattle.std.specs.Prelude.{◌≡◌, ◌↔◌, ℕ, List, true, IfOk, MatchOption};
 ghost use Rattle.vast_literal.specs.Tokens.{Token};
 ghost use Rattle.vast_rows.specs.Fronts.{AtLoopHead, LongestFront, SpellsFile};
-ghost use Rattle.vast_rows.specs.Internal.Reaches.{SpellsRule};
+ghost use Rattle.vast_rows.specs.Internal.Reaches.{AtUntold, IsQuiet, SpellsRule, are_plain};
 ghost use Rattle.vast_rows.specs.Internal.Firsts.{firsts_in, first_kinds, is_empty, own_kinds};
 ghost use Rattle.vast_rows.specs.Internal.PhraseKinds.{firsts};
 ghost use Rattle.vast_rows.specs.Internal.Predictive.{may_be_empty};
 ghost use Rattle.vast_rows.specs.Kinds.{has};
-ghost use Rattle.vast_rows.specs.Numbers.{rule_number};
 ghost use Rattle.vast_rows.specs.Tables.{facts_of, rows_of};
 
 use crate::grammar::{Item, Phrase, Table};
 use crate::machine::{Due, is_in, open};
 use crate::rule::Rule;
 use crate::sink::Nothing;
-use crate::source::{Fronts, Reach};
+use crate::source::{Fronts, OwnPhrases, Phrases, Reach, Source};
 use crate::stack::Stack;
 use crate::table::files;
 use std::alloc::{AllocError, Global};
@@ -94,23 +93,26 @@ fn next_of(table: &Table, stack: &Stack<Item>) -> Next
     Next { kinds, ends: true }
 }
 
-/// How far the tokens of the source begin what the rule spells, and what could stand next; not of a
-/// loop's header.
-fn front<S: Fronts>(
+/// How far the tokens of the source begin what the rule spells, and what could stand next; not where
+/// a phrase is not told of.
+pub(crate) fn front<S: Source, P: Phrases<S>>(
     alloc: Global,
     table: &Table,
-    start: Rule,
+    start: u8,
     source: &mut S,
+    phrases: &mut P,
 ) -> Result<Option<Next>, AllocError>
-    requires stands_last { has (facts_of table.now (rule_number start)).follow 0 ≡ true }
-    requires spells { (ts : List Token) × SpellsRule (rows_of table.now) (rule_number start) ts }
-    ensures { IfOk result (λ o. MatchOption o
-        (AtLoopHead (SpellsRule (rows_of table.now) (rule_number start)) (S.left source.old))
-        (λ next. LongestFront (SpellsRule (rows_of table.now) (rule_number start))
+    requires stands_last { has (facts_of table.now start).follow 0 ≡ true }
+    requires spells { (ts : List Token) × SpellsRule (rows_of table.now) start ts }
+    ensures told { IfOk result (λ o. MatchOption o
+        (AtUntold P.untold (SpellsRule (rows_of table.now) start) (S.left source.old))
+        (λ next. LongestFront (SpellsRule (rows_of table.now) start)
         (S.left source.old) (S.left source.new) next.kinds next.ends)) }
+    ensures plain { IfOk result (λ o. are_plain (rows_of table.now) ≡ true →
+        MatchOption o ⊥ (λ next. IsQuiet (S.left source.new) next.kinds)) }
 {
     let mut stack = Stack::new(alloc);
-    stack.push(Item::Rule(start.number()))?;
+    stack.push(Item::Rule(start))?;
     let mut more = 0;
     'tokens: loop {
         let own = next_of(table, &stack);
@@ -129,7 +131,7 @@ fn front<S: Fronts>(
                 source.take();
                 more = 0;
             }
-            Due::Phrase(phrase) => match source.reach(phrase)? {
+            Due::Phrase(phrase) => match phrases.reach(source, phrase)? {
                 Reach::Nowhere => return Ok(Some(next)),
                 Reach::Part(kinds) => return Ok(Some(Next { kinds, ends: false })),
                 Reach::Whole(kinds) => more = kinds,
@@ -149,5 +151,5 @@ pub fn file_front<S: Fronts>(alloc: Global, source: &mut S) -> Result<Option<Nex
         (λ next. LongestFront SpellsFile (S.left source.old) (S.left source.new)
         next.kinds next.ends)) }
 {
-    front(alloc, &files(), Rule::File, source)
+    front(alloc, &files(), Rule::File.number(), source, &mut OwnPhrases)
 }

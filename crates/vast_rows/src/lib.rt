@@ -7,6 +7,7 @@
 #![tactic(auto)]
 
 mod action;
+mod expression_table;
 mod front;
 mod grammar;
 mod kind;

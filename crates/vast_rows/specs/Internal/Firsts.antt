@@ -61,7 +61,7 @@ are_tight begin facts rows (suc rule) = within (begin rule) (firsts_by_rows begi
 
 -- Tokens of all kinds that rows name.
 abbrev pub samples : List tokens.Token
-samples = tokens.Word [] ∷ tokens.MacroWord [] ∷ tokens.MacroWord (codes "include") ∷ (map tokens.Mark marks ++ (map tokens.Operator signs ++ map tokens.Reserved keys))
+samples = tokens.Word [] ∷ tokens.SystemWord [] ∷ tokens.Number [] ∷ tokens.Based [] ∷ tokens.Quoted [] ∷ tokens.MacroWord [] ∷ tokens.MacroWord (codes "include") ∷ (map tokens.Mark marks ++ (map tokens.Operator signs ++ map tokens.Reserved keys))
 
 abbrev pub is_kind_of_one : List tokens.Token → (kind : ℕ) → Bool
 is_kind_of_one [] kind = false
@@ -97,7 +97,7 @@ abbrev pub all_have_tokens : List Row → Bool
 all_have_tokens [] = true
 all_have_tokens (row ∷ rest) = have_tokens row.items && all_have_tokens rest
 
--- Rules begin with the kinds of the list and with no other, and all rows end; those of the page do by five rounds.
+-- Rules begin with the kinds of the list and with no other, and all rows end; those of the pages do by five rounds.
 abbrev pub is_exact : List ℕ → List Fact → List Row → Bool
 is_exact begin facts rows =
     nat_eq (length begin) (length facts)
