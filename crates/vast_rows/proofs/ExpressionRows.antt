@@ -206,3 +206,13 @@ mutual
   braced none = by_row part.Braces 64 _ refl refl (tok (Mark CloseBrace) nil)
   braced (some (last {ts = ts} e)) = by_row part.Braces 65 _ refl refl ((fits e).whole then by_row part.BraceEnd 66 _ refl refl (by_row part.More 62 _ refl refl nil then tok (Mark CloseBrace) nil))
   braced (some (next {ts = ts} {us = us} e p)) = let z : Fit (rule part.Braces ∷ []) (ts ++ ((Mark Comma ∷ us) ++ (Mark CloseBrace ∷ []))) = by_row part.Braces 65 _ refl refl ((fits e).whole then by_row part.BraceEnd 66 _ refl refl (by_row part.More 63 _ refl refl (tok (Mark Comma) (seq p)) then tok (Mark CloseBrace) nil)) in rw (append_assoc ts (Mark Comma ∷ us) (Mark CloseBrace ∷ [])) z
+
+-- Expressions and targets.
+pub expression_spelled : {ts : List Token} {x : NormalExpr} → Spells 0 ts x → (es : List Event) × Rowed expression_page (rule part.Expression ∷ []) ts es []
+expression_spelled e = (fits e).whole []
+
+pub target_spelled : {ts : List Token} {x : NormalExpr} → Spells 13 ts x → (es : List Event) × Rowed expression_page (rule part.Target ∷ []) ts es []
+target_spelled {ts} e =
+    let d : Fit (rule part.Primary ∷ rule part.Selects ∷ []) (ts ++ []) = (fits e).selects (lit≤ tt) [] (by_row part.Selects 35 _ refl refl nil) in
+    let f : Fit (rule part.Primary ∷ rule part.Selects ∷ []) ts = rw (append-nil ts) at d in
+    let g : Fit (rule part.Target ∷ []) ts = by_row part.Target 1 _ refl refl f in g []

@@ -14,6 +14,7 @@ use Rattle.vast_rows.specs.Numbers.{rule_number}
 use Rattle.vast_rows.specs.Page.{page}
 use Rattle.vast_rows.specs.Rows.{Row, bare}
 use Rattle.vast_rows.specs.Trace.{trace}
+use Rattle.vast_rows.proofs.Alike.{alike}
 use Rattle.vast_rows.proofs.Bare.{by_page}
 use Rattle.vast_rows.proofs.Bridge.{rows_are_so, file_to}
 use Rattle.vast_rows.proofs.PhraseLaws.{begins as phrase_begins}
@@ -29,16 +30,6 @@ module _ (rows : List Row) (same : bare rows ≡ page) where
 
   pub one_spelled : (ts : List Token) × SpellsRule rows (rule_number File) ts
   one_spelled = ([], from_file [] (record { items = [] }, file no_items))
-
-  longest : (ts left : List Token) (kinds : ℕ) (ends : Bool) → LongestFront (SpellsRule rows (rule_number File)) ts left kinds ends → LongestFront SpellsFile ts left kinds ends
-  longest ts left kinds ends l = record {
-    front = l.front;
-    split = l.split;
-    begun = let b = l.begun in (b.0, to_file (l.front ++ b.0) b.1);
-    goes_on = λ k. let b = l.goes_on k in (λ h. let g = b.0 h in (g.0, g.1, g.2, to_file (l.front ++ (g.0 ∷ g.1)) g.3), λ g. b.1 (g.0, g.1, g.2, from_file (l.front ++ (g.0 ∷ g.1)) g.3));
-    ended = let b = l.ended in (λ h. to_file l.front (b.0 h), λ s. b.1 (from_file l.front s));
-    stops = λ t us rest e s. l.stops t us rest e (from_file (l.front ++ (t ∷ rest)) s);
-  }
 
   at_head : (ts : List Token) → AtUntold (λ p. p ≡ LoopHead) (SpellsRule rows (rule_number File)) ts → AtLoopHead SpellsFile ts
   at_head ts a = record { front = a.front; behind = a.behind; split = a.split; due = due }
@@ -56,5 +47,5 @@ module _ (rows : List Row) (same : bare rows ≡ page) where
       IfOk told (λ o. MatchOption o (AtUntold (λ p. p ≡ LoopHead) (SpellsRule rows (rule_number File)) ts) (λ n. LongestFront (SpellsRule rows (rule_number File)) ts left n.kinds n.ends)) →
       IfOk told (λ o. MatchOption o (AtLoopHead SpellsFile ts) (λ n. LongestFront SpellsFile ts left n.kinds n.ends))
   front_of_file ts left (Ok None) a = at_head ts a
-  front_of_file ts left (Ok (Some n)) l = longest ts left n.kinds n.ends l
+  front_of_file ts left (Ok (Some n)) l = alike (SpellsRule rows (rule_number File)) SpellsFile to_file from_file ts left n.kinds n.ends l
   front_of_file ts left (Err e) x = tt

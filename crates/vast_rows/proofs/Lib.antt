@@ -15,9 +15,11 @@ pub mod Overlaps
 pub mod PhraseDue
 pub mod Plain
 pub mod FrontTurns
+pub mod Alike
 pub mod FilesBegun
 pub mod ExpressionMeans
 pub mod ExpressionRows
+pub mod Reached
 pub mod OneTelling
 pub mod Steps
 pub mod Leads

@@ -5,6 +5,7 @@
 ghost use Rattle.std.specs.Prelude.{◌≡◌, true};
 ghost use Rattle.vast_rows.specs.Facts.{fact_in, facts_view};
 ghost use Rattle.vast_rows.specs.Internal.ExpressionPage.{Expression, Target, expression_page, part_number};
+ghost use Rattle.vast_rows.specs.Internal.Reaches.{are_plain};
 ghost use Rattle.vast_rows.specs.Kinds.{has};
 ghost use Rattle.vast_rows.specs.Rows.{bare, rows_view};
 
@@ -138,6 +139,7 @@ pub(crate) fn expressions() -> Table
     ensures page { bare (rows_view result.items.now result.rows.now) ≡ expression_page }
     ensures expression_stands_last { has (fact_in (facts_view result.facts.now) (part_number Expression)).follow 0 ≡ true }
     ensures target_stands_last { has (fact_in (facts_view result.facts.now) (part_number Target)).follow 0 ≡ true }
+    ensures plain { are_plain (rows_view result.items.now result.rows.now) ≡ true }
 {
     Table {
         items: &ITEMS,

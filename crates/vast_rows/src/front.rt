@@ -34,7 +34,7 @@ pub struct Next {
 }
 
 /// The kinds with which a phrase begins.
-fn phrase_kinds(phrase: Phrase) -> u128
+pub(crate) fn phrase_kinds(phrase: Phrase) -> u128
     ensures { result ≡ firsts phrase }
 {
     match phrase {
