@@ -1,11 +1,11 @@
 -- What the rows of expressions spell is an expression.
-use Rattle.std.proofs.Common.{◌≡◌, ◌≢◌, ℕ, suc, zero, ◌+◌, ◌-◌, codes, lit≤, ◌<◌, ◌≤◌, List, [], ◌∷◌, ◌++◌, get_or, nat_eq, Bool, true, false, IsTrue, refl, sym, ap, ◌∙◌, arith, append_assoc, append-nil, lit<}
+use Rattle.std.proofs.Common.{◌≡◌, ◌≢◌, ℕ, suc, zero, ◌+◌, ◌-◌, codes, lit≤, ◌<◌, ◌≤◌, List, [], ◌∷◌, ◌++◌, get_or, nat_eq, Bool, true, false, IsTrue, refl, arith, append_assoc, append-nil, lit<}
 use Rattle.std.proofs.lemmas.Bool.{eqb-true, eqb-false}
 use Rattle.vast_literal.specs.Tokens.{level, is_unary, Token, Word, MacroWord, Number, Operator, Mark, Reserved}
 use Rattle.vast_literal.specs.NormalExpr.{NormalExpr, NormalExprs, Binary}
 use Rattle.vast_literal.specs.Grammar.{is_cast_word, Spells, up, ternary, binary, unary, index, slice, part_select, name, number, based, quoted, paren, call, system_call, concat, replicated, array_pattern, macro_alone, macro_call, number_cast, name_cast, package_cast, paren_cast, word_cast, SpellsList, none, some, SpellsJoined, last, next}
 use Rattle.vast_literal.proofs.Levels.{level_small}
-use Rattle.vast_rows.specs.Numbers.{Op, LogicOr, LogicAnd, BitOr, BitXor, BitAnd, NotEqual, CaseNotEqual, Equal, CaseEqual, GreaterEqual, Greater, LessEqual, Less, ShiftLeft, ShiftRightSigned, ShiftRight, Plus, Minus, Times, Divide, Modulo, Power, BitNot, LogicNot, OpenParen, CloseParen, OpenBracket, CloseBracket, OpenBrace, CloseBrace, Comma, Colon, Question, DoubleColon, PlusColon, Apostrophe, Key, LogicKey, SignedKey, UnsignedKey, IntegerKey, IntKey}
+use Rattle.vast_rows.specs.Numbers.{Op, LogicOr, LogicAnd, BitOr, BitXor, BitAnd, NotEqual, CaseNotEqual, Equal, CaseEqual, GreaterEqual, Greater, LessEqual, Less, ShiftLeft, ShiftRightSigned, ShiftRight, Plus, Minus, Times, Divide, Modulo, Power, BitNot, LogicNot, OpenParen, CloseParen, OpenBracket, OpenBrace, CloseBrace, Comma, Colon, Question, DoubleColon, Apostrophe, Key, LogicKey, SignedKey, UnsignedKey, IntegerKey, IntKey}
 use Rattle.vast_rows.specs.Internal.ExpressionPage.{Part, expression_page}
 use Rattle.vast_rows.specs.Internal.ExpressionPage as part
 use Rattle.vast_rows.proofs.Means.{AllMake, ◌&◌}

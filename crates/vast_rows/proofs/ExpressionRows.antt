@@ -1,5 +1,5 @@
 -- Expressions are spelled by their rows.
-use Rattle.std.proofs.Common.{◌≡◌, Some, ℕ, suc, zero, ◌<◌, ◌≤◌, List, [], ◌∷◌, ◌++◌, Bool, true, false, codes, IsTrue, refl, sym, ap, ◌∙◌, arith, append_assoc, append-nil, lit<, lit≤, bytes_eq}
+use Rattle.std.proofs.Common.{◌≡◌, Some, ℕ, suc, ◌<◌, ◌≤◌, List, [], ◌∷◌, ◌++◌, Bool, true, false, codes, IsTrue, refl, arith, append_assoc, append-nil, lit<, lit≤, bytes_eq}
 use Rattle.std.specs.List.{slice_get}
 use Rattle.vast_literal.specs.Tokens.{level, is_unary, Token, Word, SystemWord, MacroWord, Number, Based, Quoted, Operator, Mark, Reserved}
 use Rattle.vast_literal.specs.NormalExpr.{NormalExpr, NormalExprs}
@@ -8,7 +8,7 @@ use Rattle.vast_literal.proofs.Levels.{level_small}
 use Rattle.vast_rows.specs.declared.grammar.Item.{Item}
 use Rattle.vast_rows.specs.declared.grammar.Item.TheVariants as item
 use Rattle.vast_rows.specs.Events.{Event, name_of, made_by, named_by}
-use Rattle.vast_rows.specs.Kinds.{token_kind, number as kind_number, kind_of}
+use Rattle.vast_rows.specs.Kinds.{token_kind}
 use Rattle.vast_rows.specs.Numbers.{Op, Punct, LogicOr, LogicAnd, BitOr, BitXor, BitAnd, NotEqual, CaseNotEqual, Equal, CaseEqual, GreaterEqual, Greater, LessEqual, Less, ShiftLeft, ShiftRightSigned, ShiftRight, Plus, Minus, Times, Divide, Modulo, Power, BitNot, LogicNot, OpenParen, CloseParen, OpenBracket, CloseBracket, OpenBrace, CloseBrace, Comma, Colon, Question, DoubleColon, PlusColon, Apostrophe, Key, IfKey, LogicKey, SignedKey, UnsignedKey, IntegerKey, IntKey}
 use Rattle.vast_rows.specs.Internal.ExpressionPage.{expression_page, Part, part_number, rule}
 use Rattle.vast_rows.specs.Internal.ExpressionPage as part
@@ -166,8 +166,8 @@ mutual
   fits (ternary {cs = cs} {us = us} {bs = bs} c a b) = by_whole 0 _ (lit< tt) (by_row part.Expression 0 _ refl refl ((fits c).chain (lit≤ tt) (Mark Question ∷ (us ++ (Mark Colon ∷ bs))) (by_row part.Rest 12 _ refl refl (tok (Mark Question) ((fits a).whole then tok (Mark Colon) (fits b).whole)))))
   fits (binary {ls = ls} {rs = rs} o pos l r) = let small : level o ≤ 11 = level_small o in
       by_chain (level o) _ (omega (arith, small)) (λ us q.
-        let right : Fit (rule part.Rest ∷ []) (Operator o ∷ (rs ++ us)) = by_row part.Rest 11 _ refl refl (infixes o pos then (fits r).chain (omega arith) us q) in
-        rw (append_assoc ls (Operator o ∷ rs) us) ((fits l).chain (omega (arith, pos)) (Operator o ∷ (rs ++ us)) right))
+      let right : Fit (rule part.Rest ∷ []) (Operator o ∷ (rs ++ us)) = by_row part.Rest 11 _ refl refl (infixes o pos then (fits r).chain (omega arith) us q) in
+      rw (append_assoc ls (Operator o ∷ rs) us) ((fits l).chain (omega (arith, pos)) (Operator o ∷ (rs ++ us)) right))
   fits (unary o h e) = by_operand 12 _ (lit< tt) (by_row part.Operand 2 _ refl refl (signs o h then (fits e).operand (lit≤ tt)))
   fits (index {ss = ss} {is = is} s i) = by_selects 13 _ (lit< tt) (λ us q. rw append_assoc ((fits s).selects (lit≤ tt) (Mark OpenBracket ∷ ((is ++ (Mark CloseBracket ∷ [])) ++ us))
       (let z : Fit (rule part.Selects ∷ []) (Mark OpenBracket ∷ (is ++ (Mark CloseBracket ∷ us))) = by_row part.Selects 36 _ refl refl (tok (Mark OpenBracket) ((fits i).whole then by_row part.SelectEnd 37 _ refl refl (tok (Mark CloseBracket) nil) then q)) in rw (append_assoc is (Mark CloseBracket ∷ []) us) z)))

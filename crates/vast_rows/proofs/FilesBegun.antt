@@ -1,5 +1,5 @@
 -- What begins by the rows of the page begins a file.
-use Rattle.std.proofs.Common.{◌≡◌, ℕ, List, [], ◌∷◌, ◌++◌, Bool, Result, Ok, Err, IfOk, Option, Some, None, MatchOption, sym, ◌∙◌, true}
+use Rattle.std.proofs.Common.{◌≡◌, List, [], ◌∷◌, ◌++◌, Result, Ok, Err, IfOk, Option, Some, None, MatchOption, sym, ◌∙◌, true}
 use Rattle.vast_literal.specs.FileGrammar.{file, no_items}
 use Rattle.vast_literal.specs.Tokens.{Token}
 use Rattle.vast_rows.specs.declared.front.Next.{Next}
@@ -36,6 +36,7 @@ module _ (rows : List Row) (same : bare rows ≡ page) where
     where
       fits : has (firsts LoopHead) (head_kind a.behind) ≡ true
       fits = let f = a.fits in rw a.not_told at f
+
       due : (head : List Token) → SpellsPhrase LoopHead head → IsBegun SpellsFile (a.front ++ head)
       due [] m = absurd (no_end LoopHead (phrase_begins LoopHead [] [] m.0 m.1))
       due (t ∷ ps) m =

@@ -6,8 +6,8 @@ use Rattle.vast_rows.specs.declared.grammar.Item.TheVariants.{Phrase}
 use Rattle.vast_rows.specs.declared.grammar.Phrase as code
 use Rattle.vast_rows.specs.Events.{Event, Reads}
 use Rattle.vast_rows.specs.Facts.{Fact}
-use Rattle.vast_rows.specs.Fronts.{SpellsPhrase, IsBegun, GoesOn, LongestFront}
-use Rattle.vast_rows.specs.Internal.Reaches.{SpellsRule, PartRead, WholeRead, AtUntold}
+use Rattle.vast_rows.specs.Fronts.{SpellsPhrase, IsBegun, GoesOn, LongestFront, PartRead, WholeRead}
+use Rattle.vast_rows.specs.Internal.Reaches.{SpellsRule, AtUntold}
 use Rattle.vast_rows.specs.Internal.Derives.{phrase}
 use Rattle.vast_rows.specs.Internal.PhraseKinds.{firsts, stops}
 use Rattle.vast_rows.specs.Internal.Predictive.{is_predictive}

@@ -3,11 +3,11 @@ use Rattle.std.proofs.Common.{◌≡◌, ◌↔◌, ℕ, ◌<◌, ◌+◌, suc, 
 use Rattle.vast_literal.specs.Tokens.{Token}
 use Rattle.vast_rows.specs.declared.grammar.Phrase.{Phrase}
 use Rattle.vast_rows.specs.declared.grammar.Phrase.TheVariants.{Expression, Target}
-use Rattle.vast_rows.specs.Fronts.{SpellsPhrase, GoesOn, LongestFront}
+use Rattle.vast_rows.specs.Fronts.{SpellsPhrase, GoesOn, LongestFront, IsQuiet, PartRead, WholeRead}
 use Rattle.vast_rows.specs.Internal.ExpressionPage.{expression_page, part_number}
 use Rattle.vast_rows.specs.Internal.ExpressionPage as part
 use Rattle.vast_rows.specs.Internal.PhraseKinds.{firsts}
-use Rattle.vast_rows.specs.Internal.Reaches.{SpellsRule, IsQuiet, PartRead, WholeRead}
+use Rattle.vast_rows.specs.Internal.Reaches.{SpellsRule}
 use Rattle.vast_rows.specs.Internal.Sources.{head_kind}
 use Rattle.vast_rows.specs.Kinds.{has, token_kind}
 use Rattle.vast_rows.specs.Phrases.{IsPhrase, IsExpression, expression, target}
@@ -27,8 +27,10 @@ expression_rows rows same ts = (to, back)
   where
     to : SpellsRule rows (part_number part.Expression) ts → SpellsPhrase Expression ts
     to s = let x : IsAt 0 ts = folds MeantBy (MeantBy 0) makes ((by_page rows expression_page 0 ts s.0 same).0 s.1) (λ ps m. m) in (IsExpression x.0, expression x.1)
+
     of : {m : _} → IsPhrase Expression ts m → SpellsRule rows (part_number part.Expression) ts
     of (expression e) = let p = expression_spelled e in (p.0, (by_page rows expression_page 0 ts p.0 same).1 p.1)
+
     back : SpellsPhrase Expression ts → SpellsRule rows (part_number part.Expression) ts
     back s = of s.1
 
@@ -37,8 +39,10 @@ target_rows rows same ts = (to, back)
   where
     to : SpellsRule rows (part_number part.Target) ts → SpellsPhrase Target ts
     to s = let x : IsAt 13 ts = folds MeantBy (MeantBy 1) makes ((by_page rows expression_page 1 ts s.0 same).0 s.1) (λ ps m. m) in (IsExpression x.0, target x.1)
+
     of : {m : _} → IsPhrase Target ts m → SpellsRule rows (part_number part.Target) ts
     of (target e) = let p = target_spelled e in (p.0, (by_page rows expression_page 1 ts p.0 same).1 p.1)
+
     back : SpellsPhrase Target ts → SpellsRule rows (part_number part.Target) ts
     back s = of s.1
 
@@ -67,6 +71,7 @@ module _ (rows : List Row) (start : ℕ) (q : Phrase) (same : (ts : List Token) 
           let s = starts q k fits in
           let h : has kinds k ≡ true = (goes k).1 (s.first, s.others, s.kinds, s.spelled) in
           unless_true (has kinds k) h (let g : has kinds (token_kind t) ≡ false = quiet t us (f ∙ e) in rw same g)
+
       go : (ts : List Token) → before ≡ ts → (front : List Token) → before ≡ front ++ left → ((j : ℕ) → (has kinds j ≡ true) ↔ GoesOn (SpellsPhrase q) front j) → length left < length before
       go [] e front f goes = absurd (no_end q (let z : k ≡ 0 = kind ∙ ap head_kind e in rw z at fits))
       go (t ∷ us) e [] f goes = absurd (none t us e (sym f) goes)

@@ -5,8 +5,8 @@ mod tests;
 
 ghost use Rattle.std.specs.Prelude.{◌≡◌, ◌↔◌, ℕ, List, true, IfOk, MatchOption};
 ghost use Rattle.vast_literal.specs.Tokens.{Token};
-ghost use Rattle.vast_rows.specs.Fronts.{AtLoopHead, LongestFront, SpellsFile};
-ghost use Rattle.vast_rows.specs.Internal.Reaches.{AtUntold, IsQuiet, SpellsRule, are_plain};
+ghost use Rattle.vast_rows.specs.Fronts.{AtLoopHead, LongestFront, SpellsFile, IsQuiet};
+ghost use Rattle.vast_rows.specs.Internal.Reaches.{AtUntold, SpellsRule, are_plain};
 ghost use Rattle.vast_rows.specs.Internal.Firsts.{firsts_in, first_kinds, is_empty, own_kinds};
 ghost use Rattle.vast_rows.specs.Internal.PhraseKinds.{firsts};
 ghost use Rattle.vast_rows.specs.Internal.Predictive.{may_be_empty};
@@ -151,5 +151,11 @@ pub fn file_front<S: Fronts>(alloc: Global, source: &mut S) -> Result<Option<Nex
         (λ next. LongestFront SpellsFile (S.left source.old) (S.left source.new)
         next.kinds next.ends)) }
 {
-    front(alloc, &files(), Rule::File.number(), source, &mut OwnPhrases)
+    front(
+        alloc,
+        &files(),
+        Rule::File.number(),
+        source,
+        &mut OwnPhrases,
+    )
 }

@@ -2,8 +2,8 @@
 
 ghost use Rattle.std.specs.Prelude.{◌≡◌, ◌↔◌, List, true, IfOk};
 ghost use Rattle.vast_literal.specs.Tokens.{Token};
-ghost use Rattle.vast_rows.specs.Fronts.{SpellsPhrase};
-ghost use Rattle.vast_rows.specs.Internal.Reaches.{Reaches, SpellsRule, are_plain};
+ghost use Rattle.vast_rows.specs.Fronts.{SpellsPhrase, Reaches};
+ghost use Rattle.vast_rows.specs.Internal.Reaches.{SpellsRule, are_plain};
 ghost use Rattle.vast_rows.specs.Kinds.{has};
 ghost use Rattle.vast_rows.specs.Tables.{facts_of, rows_of};
 ghost use Rattle.vast_rows.specs.declared.grammar.Phrase.TheVariants.{Expression, Target};
@@ -17,6 +17,7 @@ use std::alloc::{AllocError, Global};
 
 /// The rules of expressions, and of what values are assigned to, in the table of expressions.
 const EXPRESSION: u8 = 0;
+
 const TARGET: u8 = 1;
 
 /// Reads a phrase that a rule of a table spells as far as some phrase goes on with what stands
@@ -55,7 +56,13 @@ pub fn reach_expression<S: Source>(alloc: Global, source: &mut S) -> Result<Reac
     ensures { IfOk result
         (Reaches (λ p. ⊥) Expression (S.left source.old) (S.left source.new)) }
 {
-    reach_by(alloc, &expressions(), EXPRESSION, Phrase::Expression, source)
+    reach_by(
+        alloc,
+        &expressions(),
+        EXPRESSION,
+        Phrase::Expression,
+        source,
+    )
 }
 
 /// The same of what a value is assigned to.

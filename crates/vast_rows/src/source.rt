@@ -2,9 +2,9 @@
 
 ghost use Rattle.std.specs.Prelude.{◌≡◌, ℕ, List, IfOk, MatchOption, Some, None, ⊤};
 ghost use Rattle.vast_literal.specs.Tokens.{Token};
+ghost use Rattle.vast_rows.specs.Fronts.{Reaches};
 ghost use Rattle.vast_rows.specs.declared.grammar.Phrase.{Phrase as SpecPhrase};
 ghost use Rattle.vast_rows.specs.declared.grammar.Phrase.TheVariants.{LoopHead};
-ghost use Rattle.vast_rows.specs.Internal.Reaches.{Reaches};
 ghost use Rattle.vast_rows.specs.Phrases.{Meaning};
 ghost use Rattle.vast_rows.specs.Internal.Sources.{tail, HasRead, HasNone, first_name, kind_of_first};
 

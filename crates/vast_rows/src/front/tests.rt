@@ -1,4 +1,4 @@
-//! What a file may begin with.
+//! What a file may begin with, and expressions where nothing stands.
 
 ghost use Rattle.std.specs.Prelude.{[]};
 ghost use Rattle.vast_rows.specs.Phrases.{IsPath};
@@ -6,6 +6,7 @@ ghost use Rattle.vast_rows.specs.Phrases.{IsPath};
 use super::{Next, file_front};
 use crate::grammar::Phrase;
 use crate::kind::Kind;
+use crate::reach::{reach_expression, reach_target};
 use crate::source::{Fronts, Reach, Source};
 use std::alloc::AllocError;
 use vast_literal::Key;
@@ -54,5 +55,18 @@ fn a_file_begins_with_a_module_or_an_include(rt: HostRuntime) {
             kinds: begins,
             ends: true,
         })
+    );
+}
+
+#[test]
+fn no_expression_stands_before_nothing(rt: HostRuntime) {
+    let alloc = rt.alloc();
+    assert_eq!(rt;
+        reach_expression(alloc, &mut NoTokens).expect(&rt, "memory"),
+        Reach::Nowhere
+    );
+    assert_eq!(rt;
+        reach_target(alloc, &mut NoTokens).expect(&rt, "memory"),
+        Reach::Nowhere
     );
 }

@@ -1,6 +1,6 @@
 use Rattle.std.proofs.Common.{refl, ap, sym, ◌∙◌}
-use Rattle.vast_rows.specs.Fronts.{LongestFront}
-use Rattle.vast_rows.specs.Internal.Reaches.{SpellsRule, IsQuiet}
+use Rattle.vast_rows.specs.Fronts.{LongestFront, IsQuiet}
+use Rattle.vast_rows.specs.Internal.Reaches.{SpellsRule}
 use Rattle.vast_rows.specs.Kinds.{number}
 use Rattle.vast_rows.specs.Rows.{rows_view}
 use Rattle.vast_rows.proofs.Reached.{one_spelled, not_begun, whole, part_of}
