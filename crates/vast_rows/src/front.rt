@@ -10,10 +10,11 @@ ghost use Rattle.vast_rows.specs.Internal.Reaches.{AtUntold, SpellsRule, are_pla
 ghost use Rattle.vast_rows.specs.Internal.Firsts.{firsts_in, first_kinds, is_empty, own_kinds};
 ghost use Rattle.vast_rows.specs.Internal.PhraseKinds.{firsts};
 ghost use Rattle.vast_rows.specs.Internal.Predictive.{may_be_empty};
-ghost use Rattle.vast_rows.specs.Kinds.{has};
+ghost use Rattle.vast_rows.specs.Kinds.{has, number};
 ghost use Rattle.vast_rows.specs.Tables.{facts_of, rows_of};
 
 use crate::grammar::{Item, Phrase, Table};
+use crate::kind::Kind;
 use crate::machine::{Due, is_in, open};
 use crate::rule::Rule;
 use crate::sink::Nothing;
@@ -31,6 +32,15 @@ pub struct Next {
     pub kinds: u128,
     /// Whether nothing more may stand there.
     pub ends: bool,
+}
+
+impl Next {
+    /// Whether a token of the kind could stand next.
+    pub fn has(self, kind: Kind) -> bool
+        ensures { result ≡ has self.kinds (number kind) }
+    {
+        is_in(self.kinds, kind.number())
+    }
 }
 
 /// The kinds with which a phrase begins.
