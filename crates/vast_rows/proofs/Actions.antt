@@ -7,7 +7,7 @@ use Rattle.vast_rows.specs.declared.action.Action.{Action}
 use Rattle.vast_rows.specs.declared.action.Action.TheVariants.{Nothing, Yes, No, ModuleItem, IncludeItem, HeaderParameter, DeclarationMember, AssignMember, MacroMember, InstanceMember, ConditionalMember, FunctionMember, LoopMember, NameBefore, Packaged, Declares, GroupOf, Connects, ChangeOf, Assigns, AssignsByWord, Chooses, UniqueCase, Conditional, NoArms, Arm, DefaultArm, NoMore, OneMore, PortOf, ParameterMember, AlwaysMember, KindOf, SignOf, EdgeOf, CaseOf}
 use Rattle.vast_rows.specs.declared.action.Listed.{Listed}
 use Rattle.vast_rows.specs.declared.action.Listed.TheVariants as listed
-use Rattle.vast_rows.proofs.Orders.{keys}
+use Rattle.vast_rows.specs.Internal.Orders.{keys}
 
 abbrev plain : List Action
 plain = Nothing ∷ Yes ∷ No ∷ ModuleItem ∷ IncludeItem ∷ HeaderParameter ∷ DeclarationMember ∷ AssignMember ∷ MacroMember ∷ InstanceMember ∷ ConditionalMember ∷ FunctionMember ∷ LoopMember ∷ NameBefore ∷ Packaged ∷ Declares ∷ GroupOf ∷ Connects ∷ ChangeOf ∷ Assigns ∷ AssignsByWord ∷ Chooses ∷ UniqueCase ∷ Conditional ∷ NoArms ∷ Arm ∷ DefaultArm ∷ []

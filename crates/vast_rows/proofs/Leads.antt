@@ -23,7 +23,7 @@ lead_over facts (Rule r ∷ items) s = cases (facts r).empty refl (lead_over fac
     cases true h e = rw (h, e) (omega arith)
     cases false h e = rw h (omega arith)
 
-leads : (rows : List Row) (facts : ℕ → Fact) (r n : ℕ) (row : Row) (s : List Item) → is_predictive facts rows ≡ true → slice_get rows n ≡ Some row → row.rule ≡ r →
+pub leads : (rows : List Row) (facts : ℕ → Fact) (r n : ℕ) (row : Row) (s : List Item) → is_predictive facts rows ≡ true → slice_get rows n ≡ Some row → row.rule ≡ r →
     lead facts (row.items ++ s) < lead facts (Rule r ∷ s)
 leads rows facts r n row s p at ruled =
     let g = good rows facts n row p at in

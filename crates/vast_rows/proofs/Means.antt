@@ -10,7 +10,8 @@ use Rattle.vast_rows.specs.declared.rule.Rule.{Rule as RuleName}
 use Rattle.vast_rows.specs.declared.rule.Rule.TheVariants.{File}
 use Rattle.vast_rows.specs.declared.kind.Kind.TheVariants.{MacroWord, IncludeWord}
 use Rattle.vast_rows.specs.Kinds.{token_kind, number}
-use Rattle.vast_rows.proofs.Orders.{marks, signs, keys, rules}
+use Rattle.vast_rows.specs.Internal.Orders.{marks, signs, keys}
+use Rattle.vast_rows.proofs.Rules.{rules}
 use Rattle.vast_rows.specs.Numbers.{rule_number, OpenParen, LogicOr, IfKey}
 use Rattle.vast_rows.specs.Page.{page}
 use Rattle.vast_rows.specs.Phrases.{Meaning, IsPhrase}
@@ -27,11 +28,15 @@ fixed k =
     else if nat_lt k 50 then Some (tokens.Operator (get_or signs (k - 26) LogicOr))
     else Some (tokens.Reserved (get_or keys (k - 50) IfKey))
 
--- What stands for each token of a kind: a name and a macro by their texts.
+-- What stands for each token of a kind: a name, a macro and a literal by their texts.
 abbrev texted : ℕ → (tokens.Token → Type 0) → Type 0
 texted (suc zero) F = (w : List ℕ) → F (tokens.Word w)
+texted (suc (suc (suc zero))) F = (f : List ℕ) → F (tokens.SystemWord f)
 texted (suc (suc (suc (suc zero)))) F = (m : List ℕ) → F (tokens.MacroWord m)
 texted (suc (suc (suc (suc (suc zero))))) F = F (tokens.MacroWord (codes "include"))
+texted (suc (suc (suc (suc (suc (suc zero)))))) F = (n : List ℕ) → F (tokens.Number n)
+texted (suc (suc (suc (suc (suc (suc (suc zero))))))) F = (n : List ℕ) → F (tokens.Based n)
+texted (suc (suc (suc (suc (suc (suc (suc (suc zero)))))))) F = (w : List ℕ) → F (tokens.Quoted w)
 texted k F = (t : tokens.Token) → token_kind t ≡ k → F t
 
 abbrev made : Option tokens.Token → ℕ → (tokens.Token → Type 0) → Type 0
@@ -57,10 +62,10 @@ for_token (tokens.Operator _) F m = m
 for_token (tokens.Reserved IfKey) F m = m
 for_token (tokens.Reserved _) F m = m
 for_token (tokens.Keyword w) F m = m (tokens.Keyword w) refl
-for_token (tokens.SystemWord w) F m = m (tokens.SystemWord w) refl
-for_token (tokens.Number w) F m = m (tokens.Number w) refl
-for_token (tokens.Based w) F m = m (tokens.Based w) refl
-for_token (tokens.Quoted w) F m = m (tokens.Quoted w) refl
+for_token (tokens.SystemWord w) F m = m w
+for_token (tokens.Number w) F m = m w
+for_token (tokens.Based w) F m = m w
+for_token (tokens.Quoted w) F m = m w
 
 -- From the meanings of the items, one after the other, to that of their tokens.
 abbrev pub MakesOf : (ℕ → List tokens.Token → Type 0) → List Item → (List tokens.Token → Type 0) → Type 0

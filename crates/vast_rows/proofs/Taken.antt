@@ -5,22 +5,28 @@ use Rattle.std.proofs.lemmas.Bool.{eq-eqb}
 use Rattle.vast_rows.specs.declared.grammar.Fact as facts
 use Rattle.vast_rows.specs.declared.grammar.Row as code
 use Rattle.vast_rows.specs.declared.grammar.Item.{Item}
-use Rattle.vast_rows.specs.Facts.{fact_in, facts_view}
+use Rattle.vast_rows.specs.Facts.{fact_in, fact_view, facts_view}
 use Rattle.vast_rows.specs.Internal.Reading.{IsTaken}
 use Rattle.vast_rows.specs.Kinds.{has}
 use Rattle.vast_rows.specs.Facts.{Fact}
 use Rattle.vast_rows.specs.Internal.Predictive.{row_from, row_at}
 use Rattle.vast_rows.specs.Rows.{Row, row_view, rows_view, span_of}
 
-pub known : (fs : List facts.Fact) (r : ℕ) (f : facts.Fact) → r < length fs → f ≡ get_or fs r f → f.first_row ≡ (fact_in (facts_view fs) r).first_row
+-- What a list of facts says of a rule.
+pub known : (fs : List facts.Fact) (r : ℕ) (f : facts.Fact) → r < length fs → f ≡ get_or fs r f → fact_view f ≡ fact_in (facts_view fs) r
 known [] r f h e = absurd (let z : ⊥ = omega arith in z)
-known (x ∷ fs) zero f h e = ap (λ (v : facts.Fact). v.first_row) e
+known (x ∷ fs) zero f h e = ap fact_view e
 known (x ∷ fs) (suc r) f h e = known fs r f (omega arith) e
 
-pub unknown : (fs : List facts.Fact) (r : ℕ) → length fs ≤ r → 0 ≡ (fact_in (facts_view fs) r).first_row
+pub unknown : (fs : List Fact) (r : ℕ) → length fs ≤ r → fact_in [] r ≡ fact_in fs r
 unknown [] r h = refl
 unknown (x ∷ fs) zero h = absurd (let z : ⊥ = omega arith in z)
 unknown (x ∷ fs) (suc r) h = unknown fs r (omega arith)
+
+pub unknown_viewed : (fs : List facts.Fact) (r : ℕ) → length fs ≤ r → fact_in [] r ≡ fact_in (facts_view fs) r
+unknown_viewed [] r h = refl
+unknown_viewed (x ∷ fs) zero h = absurd (let z : ⊥ = omega arith in z)
+unknown_viewed (x ∷ fs) (suc r) h = unknown_viewed fs r (omega arith)
 
 -- At the row of a place.
 row_here : (items : List Item) (rows : List code.Row) (n rule kind : ℕ) (d : code.Row) → n < length rows →

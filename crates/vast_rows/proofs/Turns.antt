@@ -1,5 +1,5 @@
 -- The turns of the machine keep a reading and what was heard of it.
-use Rattle.std.proofs.Common.{◌≡◌, ℕ, suc, ◌<◌, List, [], ◌∷◌, ◌++◌, Bool, true, false, cond, nat_eq, nat_lt, length, Option, Some, None, refl, sym, ap, ◌∙◌, subst, arith, codes, bytes_eq, MatchBool}
+use Rattle.std.proofs.Common.{◌≡◌, ℕ, suc, ◌<◌, List, [], ◌∷◌, ◌++◌, true, nat_eq, nat_lt, length, Option, Some, None, refl, sym, ap, ◌∙◌, subst, arith, MatchBool}
 use Rattle.std.proofs.lemmas.Bool.{ltb-true}
 use Rattle.vast_literal.specs.Tokens as tokens
 use Rattle.vast_rows.specs.declared.action.Action.{Action}
@@ -8,11 +8,9 @@ use Rattle.vast_rows.specs.declared.grammar.Item.TheVariants.{Token, Rule, Phras
 use Rattle.vast_rows.specs.declared.grammar.Phrase as code
 use Rattle.vast_rows.specs.Internal.Reading.{Reading, Underived, Underway, IsTaken, IsDue, LeadsTo}
 use Rattle.vast_rows.specs.declared.machine.Due.{Due}
-use Rattle.vast_rows.specs.declared.kind.Kind.TheVariants.{MacroWord, IncludeWord}
-use Rattle.vast_rows.specs.Kinds.{has, number, token_kind}
+use Rattle.vast_rows.specs.Kinds.{has, token_kind}
 use Rattle.vast_rows.specs.Internal.Sets.{only}
 use Rattle.vast_rows.specs.Internal.Sources.{tail, first_name, head_kind}
-use Rattle.vast_rows.specs.Numbers.{OpenParen, LogicOr, IfKey}
 use Rattle.vast_rows.specs.Laws.{IsRead, IsUnspelled}
 use Rattle.vast_rows.specs.Phrases.{Meaning}
 use Rattle.vast_rows.specs.Internal.Sources.{HasRead, HasNone}
@@ -23,25 +21,12 @@ use Rattle.vast_rows.specs.Events.{Event, Reads, name_of, made_by, named_by}
 use Rattle.vast_rows.proofs.Sets.{both}
 use Rattle.vast_rows.proofs.Steps.{begun, ate, wrong, finished, left_over, read_phrase, wrong_phrase, opened, refused}
 use Rattle.vast_rows.proofs.Derivations.{spelled, whole_derived}
+use Rattle.vast_rows.proofs.TokenKinds.{positive}
 
 -- The tokens that are left.
 
-macro_positive : (b : Bool) → nat_eq (number (cond b IncludeWord MacroWord)) 0 ≡ false
-macro_positive true = refl
-macro_positive false = refl
-
-positive : (t : tokens.Token) → nat_eq (token_kind t) 0 ≡ false
-positive (tokens.MacroWord w) = macro_positive (bytes_eq w (codes "include"))
-positive (tokens.Mark OpenParen) = refl
-positive (tokens.Mark _) = refl
-positive (tokens.Operator LogicOr) = refl
-positive (tokens.Operator _) = refl
-positive (tokens.Reserved IfKey) = refl
-positive (tokens.Reserved _) = refl
-positive _ = refl
-
 -- The front of tokens that begin with a kind.
-front : (ts : List tokens.Token) (k : ℕ) → 0 < k → head_kind ts ≡ k → (t : tokens.Token) × (ts ≡ t ∷ tail ts) × (token_kind t ≡ k)
+pub front : (ts : List tokens.Token) (k : ℕ) → 0 < k → head_kind ts ≡ k → (t : tokens.Token) × (ts ≡ t ∷ tail ts) × (token_kind t ≡ k)
 front [] k p e = absurd (let z : ⊥ = omega (arith, e, p) in z)
 front (t ∷ ts) k p e = (t, refl, e)
 

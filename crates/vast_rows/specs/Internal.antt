@@ -2,7 +2,11 @@ pub mod Stack
 pub mod Sets
 pub mod Sources
 pub mod PhraseKinds
+pub mod Orders
 pub mod Predictive
+pub mod Firsts
+pub mod ExpressionPage
+pub mod Reaches
 pub mod Derives
 pub mod Reading
 pub mod Actions

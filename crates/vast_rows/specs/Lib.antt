@@ -5,6 +5,7 @@ pub mod Symbols
 pub mod Page
 pub mod Phrases
 pub mod Events
+pub mod Fronts
 pub mod Facts
 pub mod Tables
 pub mod Telling

@@ -2,6 +2,7 @@
 
 ghost use Rattle.std.specs.Prelude.{IsTrue};
 ghost use Rattle.vast_rows.specs.Facts.{fact_in, facts_view};
+ghost use Rattle.vast_rows.specs.Internal.Firsts.{is_exact};
 ghost use Rattle.vast_rows.specs.Internal.Predictive.{is_predictive};
 ghost use Rattle.vast_rows.specs.Rows.{rows_view};
 
@@ -57,6 +58,10 @@ pub struct Table {
     pub(crate) items: &'static [Item],
     pub(crate) rows: &'static [Row],
     pub(crate) facts: &'static [Fact],
+    /// The kinds with which each rule begins where it is not empty.
+    pub(crate) firsts: &'static [u128],
     ghost checked: { IsTrue (is_predictive (fact_in (facts_view facts.now))
+        (rows_view items.now rows.now)) },
+    ghost exact: { IsTrue (is_exact firsts.now (facts_view facts.now)
         (rows_view items.now rows.now)) },
 }

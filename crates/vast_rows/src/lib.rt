@@ -7,10 +7,13 @@
 #![tactic(auto)]
 
 mod action;
+mod expression_table;
+mod front;
 mod grammar;
 mod kind;
 pub mod laws;
 mod machine;
+mod reach;
 mod rule;
 mod sink;
 mod source;
@@ -18,10 +21,12 @@ mod stack;
 mod table;
 
 pub use action::{Action, Listed};
+pub use front::{Next, file_front};
 pub use grammar::{Phrase, Table};
 pub use kind::Kind;
 pub use machine::{is_file, read, read_file};
+pub use reach::{reach_expression, reach_target};
 pub use rule::Rule;
 pub use sink::{Nothing, Sink};
-pub use source::Source;
+pub use source::{Fronts, Reach, Source};
 pub use table::files;

@@ -1,9 +1,10 @@
 //! The machine: a stack of items that are still to be read. It neither recurs nor makes a tree.
 
-ghost use Rattle.std.specs.Prelude.{◌≡◌, ◌<◌, ◌++◌, [], true, None};
+ghost use Rattle.std.specs.Prelude.{◌≡◌, ◌<◌, ◌++◌, List, [], true, None};
 ghost use Rattle.std.specs.Prelude.{IfOk, MatchBool, MatchOption, OnOk};
 ghost use Rattle.vast_literal.specs.FileGrammar.{IsFile};
 ghost use Rattle.vast_literal.specs.NormalFile.{NormalFile};
+ghost use Rattle.vast_literal.specs.Tokens.{Token};
 ghost use Rattle.vast_rows.specs.Events.{made_by, named_by};
 ghost use Rattle.vast_rows.specs.Internal.Sources.{head_kind, tail, first_name};
 ghost use Rattle.vast_rows.specs.Internal.Reading.{IsTaken, LeadsTo};
@@ -144,16 +145,15 @@ fn take<S: Source, K: Sink<S>>(source: &mut S, sink: &mut K) -> Result<(), Alloc
 /// Opens rules until a token or a phrase is due, where a token of this kind stands next.
 pub(crate) fn open<S: Source, K: Sink<S>>(
     table: &Table,
-    source: &S,
     kind: u8,
     stack: &mut Stack<Item>,
     sink: &mut K,
 ) -> Result<Due, AllocError>
-    requires { (kind ≡ head_kind (S.left source.now)) × (kind < 128) }
-    ensures { IfOk result (LeadsTo K.after (rows_of table.now) (facts_of table.now)
-        (S.left source.now) stack.old sink.old stack.new sink.new) }
+    requires { kind < 128 }
+    ensures { IfOk result (λ due. (rest : List Token) → kind ≡ head_kind rest →
+        LeadsTo K.after (rows_of table.now) (facts_of table.now)
+        rest stack.old sink.old stack.new sink.new due) }
 {
-    let _source = source;
     'rules: loop {
         match stack.pop() {
             None => return Ok(Due::Nothing),
@@ -191,7 +191,7 @@ pub fn read<S: Source, K: Sink<S>>(
     stack.push(Item::Rule(start.number()))?;
     'tokens: loop {
         let kind = source.kind().number();
-        match open(table, source, kind, &mut stack, sink)? {
+        match open::<S, K>(table, kind, &mut stack, sink)? {
             Due::Wrong => return Ok(false),
             Due::Nothing => return Ok(kind == 0),
             Due::Token(due) => {

@@ -1,6 +1,6 @@
 //! A stack.
 
-ghost use Rattle.std.specs.Prelude.{◌≡◌, [], ◌∷◌, OnOk, OnErr, MatchOption};
+ghost use Rattle.std.specs.Prelude.{◌≡◌, [], ◌∷◌, reverse, OnOk, OnErr, MatchOption};
 ghost use Rattle.vast_rows.specs.Internal.Stack.{below};
 
 use std::alloc::{AllocError, Global};
@@ -46,6 +46,13 @@ impl<T> Stack<T> {
             (self.now ≡ []) (λ x. self.now ≡ (x.now ∷ below self.now)) }
     {
         self.items.last()
+    }
+
+    /// The items, the top one last.
+    pub(crate) fn items(&self) -> &[T]
+        ensures { reverse result.now ≡ self.now }
+    {
+        &self.items
     }
 }
 

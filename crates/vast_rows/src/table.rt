@@ -1,6 +1,7 @@
 //! The grammar of files above expressions, as it is laid out for the machine. Written by `tools/rows`.
 //!
-//! That these are the rows of the page (`specs/Page.antt`), and that the next token tells the row, is proved.
+//! That these are the rows of the page (`specs/Page.antt`), that the next token tells the row, and that a rule that is not
+//! empty begins with the kinds that it is said to (`FIRSTS`), is proved.
 
 ghost use Rattle.std.specs.Prelude.{◌≡◌, true};
 ghost use Rattle.vast_rows.specs.Facts.{fact_in, facts_view};
@@ -260,6 +261,20 @@ static FACTS: [Fact; 64] = [
     Fact { begins: 0x1b84000000020023fa, follow: 0x1b81830800720023fa, empty: false, rank: 1, first_row: 135 },
 ];
 
+#[rattlefmt::skip]
+static FIRSTS: [u128; 64] = [
+    0x200000000000000020, 0x200000000000000020, 0x80000, 0x8000, 0x800000000000000000, 0x200, 0x8000,
+    0x1c00000000000000000000, 0x1c00000000000000000000, 0x208fc0f004000000000032, 0x208f80f804000000000032,
+    0x1fe000000000000802, 0x7e000000000000000, 0x180000000000000802, 0x180000000000000000, 0x180000000000400802, 0x2,
+    0x180000000000000802, 0x802, 0x2, 0x800, 0x800, 0x800, 0x11000, 0x208f80f004000000000032, 0xe000000000000000, 0x0,
+    0x30, 0x200, 0x1b80030800720023fa, 0x8000, 0x20000, 0x80000, 0x40000, 0x8000, 0x40000, 0x40000,
+    0x1b80030800720023fa, 0x8000, 0x30000000000000000002, 0x30000000000000000002, 0x40000000000000000000,
+    0x400000000000000000000, 0x400000000000000000000, 0x8000, 0xc000000000000000, 0xc000000000000000,
+    0xc000000000000000, 0x620000000000000, 0x20000000000000, 0x0, 0x10000, 0x1b9a740000020023fa, 0x1b92740000020023fa,
+    0x1b80000000020023fa, 0x2001000000, 0x4000000000000, 0x8000000000000, 0x404000000000000, 0x200000000000000,
+    0x70000000000000, 0x1b81830800720023fa, 0x1b81830800720023fa, 0x1b84000000020023fa,
+];
+
 /// The grammar of files.
 pub fn files() -> Table
     ensures page { bare (rows_view result.items.now result.rows.now) ≡ page }
@@ -269,5 +284,6 @@ pub fn files() -> Table
         items: &ITEMS,
         rows: &ROWS,
         facts: &FACTS,
+        firsts: &FIRSTS,
     }
 }

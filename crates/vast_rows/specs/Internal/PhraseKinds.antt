@@ -10,16 +10,16 @@ use Rattle.vast_rows.specs.declared.grammar.Phrase.{Phrase}
 use Rattle.vast_rows.specs.declared.grammar.Phrase.TheVariants.{Expression, Target, LoopHead, Path}
 use Rattle.vast_rows.specs.declared.kind.Kind.TheVariants.{SystemWord, Number, Based, Quoted}
 
-abbrev system_word : Item
+abbrev pub system_word : Item
 system_word = item.Token (number SystemWord)
 
-abbrev number_word : Item
+abbrev pub number_word : Item
 number_word = item.Token (number Number)
 
-abbrev based : Item
+abbrev pub based : Item
 based = item.Token (number Based)
 
-abbrev quoted : Item
+abbrev pub quoted : Item
 quoted = item.Token (number Quoted)
 
 -- The kinds with which each begins.

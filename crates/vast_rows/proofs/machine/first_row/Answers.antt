@@ -1,8 +1,10 @@
-use Rattle.vast_rows.proofs.Taken.{known, unknown}
+use Rattle.std.proofs.Common.{ap}
+use Rattle.vast_rows.specs.Facts.{Fact}
+use Rattle.vast_rows.proofs.Taken.{known, unknown_viewed}
 use Rattle.vast_rows.proofs.machine.first_row.Goals as goal
 
 pub returns-in-Some : goal.returns-in-Some
-returns-in-Some c = let l = c.in-Some.ensures.lookup in known c.args.table.now.facts.now c.args.rule c.in-Some.fact.now l.3.0 l.1
+returns-in-Some c = let l = c.in-Some.ensures.lookup in ap (λ (v : Fact). v.first_row) (known c.args.table.now.facts.now c.args.rule c.in-Some.fact.now l.3.0 l.1)
 
 pub returns-in-None : goal.returns-in-None
-returns-in-None c = let l = c.in-None.ensures.lookup in unknown c.args.table.now.facts.now c.args.rule l.3
+returns-in-None c = let l = c.in-None.ensures.lookup in ap (λ (v : Fact). v.first_row) (unknown_viewed c.args.table.now.facts.now c.args.rule l.3)

@@ -1,4 +1,4 @@
--- The marks, signs, keywords and rules in the order of their numbers. Written by `tools/rows`.
+-- The marks, signs and keywords in the order of their numbers. Written by `tools/rows`.
 use Rattle.std.specs.Prelude.{List, [], ◌∷◌}
 use Rattle.vast_literal.specs.declared.token.Mark.{Mark as Punct}
 use Rattle.vast_literal.specs.declared.token.Mark.TheVariants.{OpenParen, CloseParen, OpenBracket, CloseBracket, OpenBrace, CloseBrace, Comma, Colon, Semicolon, Dot, Hash, At, Question, DoubleColon, PlusColon, Assign, Apostrophe}
@@ -6,8 +6,6 @@ use Rattle.vast_literal.specs.declared.token.Sign.{Sign as Op}
 use Rattle.vast_literal.specs.declared.token.Sign.TheVariants.{LogicOr, LogicAnd, BitOr, BitXor, BitAnd, NotEqual, CaseNotEqual, Equal, CaseEqual, GreaterEqual, Greater, LessEqual, Less, ShiftLeft, ShiftRightSigned, ShiftRight, Plus, Minus, Times, Divide, Modulo, Power, BitNot, LogicNot}
 use Rattle.vast_literal.specs.declared.token.Key.{Key}
 use Rattle.vast_literal.specs.declared.token.Key.TheVariants.{If as IfKey, Else as ElseKey, Case as CaseKey, Casez as CasezKey, Casex as CasexKey, EndCase as EndCaseKey, Default as DefaultKey, Unique as UniqueKey, Begin as BeginKey, End as EndKey, Assign as AssignKey, Wire as WireKey, Reg as RegKey, Logic as LogicKey, Integer as IntegerKey, Int as IntKey, Genvar as GenvarKey, Signed as SignedKey, Unsigned as UnsignedKey, Module as ModuleKey, EndModule as EndModuleKey, Parameter as ParameterKey, Localparam as LocalparamKey, AlwaysComb as AlwaysCombKey, AlwaysFF as AlwaysFFKey, Always as AlwaysKey, Posedge as PosedgeKey, Negedge as NegedgeKey, Or as OrKey, Function as FunctionKey, Automatic as AutomaticKey, EndFunction as EndFunctionKey, Input as InputKey, Output as OutputKey, InOut as InOutKey, For as ForKey}
-use Rattle.vast_rows.specs.declared.rule.Rule.{Rule}
-use Rattle.vast_rows.specs.declared.rule.Rule.TheVariants.{File, FileItem, Parameters, MoreParameters, Parameter, Ports, MorePorts, Port, Direction, ModuleMembers, LoopMembers, Declaration, KindWord, Declarator, SignWord, AfterWord, OwnType, SignedName, GroupedName, AfterGroups, FirstGroups, Groups, BracketGroup, GroupEnd, Member, NetKind, NoWait, AnyMacro, MacroArguments, Expressions, MoreExpressions, LastSemicolon, GivenList, Given, MoreGiven, Connections, Connection, Connected, MoreConnections, Events, OneEvent, MoreEvents, Inputs, Input, MoreInputs, Locals, Local, LocalKind, FunctionBody, LoneCase, NoEnd, LoopLabel, Statements, Statement, Assignment, Arrow, Choice, Else, Branch, Unique, CaseKind, CaseArms, BareArms, ArmBody}
 
 abbrev pub marks : List Punct
 marks = OpenParen ∷ CloseParen ∷ OpenBracket ∷ CloseBracket ∷ OpenBrace ∷ CloseBrace ∷ Comma ∷ Colon ∷ Semicolon ∷ Dot ∷ Hash ∷ At ∷ Question ∷ DoubleColon ∷ PlusColon ∷ Assign ∷ Apostrophe ∷ []
@@ -17,6 +15,3 @@ signs = LogicOr ∷ LogicAnd ∷ BitOr ∷ BitXor ∷ BitAnd ∷ NotEqual ∷ Ca
 
 abbrev pub keys : List Key
 keys = IfKey ∷ ElseKey ∷ CaseKey ∷ CasezKey ∷ CasexKey ∷ EndCaseKey ∷ DefaultKey ∷ UniqueKey ∷ BeginKey ∷ EndKey ∷ AssignKey ∷ WireKey ∷ RegKey ∷ LogicKey ∷ IntegerKey ∷ IntKey ∷ GenvarKey ∷ SignedKey ∷ UnsignedKey ∷ ModuleKey ∷ EndModuleKey ∷ ParameterKey ∷ LocalparamKey ∷ AlwaysCombKey ∷ AlwaysFFKey ∷ AlwaysKey ∷ PosedgeKey ∷ NegedgeKey ∷ OrKey ∷ FunctionKey ∷ AutomaticKey ∷ EndFunctionKey ∷ InputKey ∷ OutputKey ∷ InOutKey ∷ ForKey ∷ []
-
-abbrev pub rules : List Rule
-rules = File ∷ FileItem ∷ Parameters ∷ MoreParameters ∷ Parameter ∷ Ports ∷ MorePorts ∷ Port ∷ Direction ∷ ModuleMembers ∷ LoopMembers ∷ Declaration ∷ KindWord ∷ Declarator ∷ SignWord ∷ AfterWord ∷ OwnType ∷ SignedName ∷ GroupedName ∷ AfterGroups ∷ FirstGroups ∷ Groups ∷ BracketGroup ∷ GroupEnd ∷ Member ∷ NetKind ∷ NoWait ∷ AnyMacro ∷ MacroArguments ∷ Expressions ∷ MoreExpressions ∷ LastSemicolon ∷ GivenList ∷ Given ∷ MoreGiven ∷ Connections ∷ Connection ∷ Connected ∷ MoreConnections ∷ Events ∷ OneEvent ∷ MoreEvents ∷ Inputs ∷ Input ∷ MoreInputs ∷ Locals ∷ Local ∷ LocalKind ∷ FunctionBody ∷ LoneCase ∷ NoEnd ∷ LoopLabel ∷ Statements ∷ Statement ∷ Assignment ∷ Arrow ∷ Choice ∷ Else ∷ Branch ∷ Unique ∷ CaseKind ∷ CaseArms ∷ BareArms ∷ ArmBody ∷ []
