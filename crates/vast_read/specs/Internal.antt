@@ -17,6 +17,7 @@ pub mod Release
 pub mod StatementRelease
 pub mod MemberRelease
 pub mod Comparison
-pub mod Levels
-pub mod Pairs
-pub mod Writings
+pub mod Transcripts
+pub mod Transcribed
+pub mod Compared
+pub mod TranscriptLaws

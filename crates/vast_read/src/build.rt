@@ -1,9 +1,10 @@
-//! What is made of an expression: its tree, or nothing.
+//! What is made of an expression: its tree, its transcript, or nothing.
 
 ghost use Rattle.std.specs.Prelude.{IfOk};
 ghost use Rattle.vast_literal.specs.NormalExpr.{NormalExpr};
 ghost use Rattle.vast_read.specs.Internal.Readings.{ReadsBound, ReadsTree};
 
+mod events;
 mod make;
 mod trees;
 mod unbuilt;
@@ -11,6 +12,7 @@ mod value;
 
 use crate::reader::Reader;
 use std::alloc::AllocError;
+pub(crate) use events::{Events, Spoken};
 pub(crate) use trees::Trees;
 pub(crate) use unbuilt::Unbuilt;
 

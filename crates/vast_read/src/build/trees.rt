@@ -21,7 +21,7 @@ pub(crate) struct Trees;
 #[derive(Drop)]
 pub(crate) struct Growing<'t> {
     alloc: Global,
-    values: Values<'t>,
+    pub(crate) values: Values<'t>,
 }
 
 impl<'t> Sink<'t> for Growing<'t> {
@@ -37,7 +37,7 @@ impl<'t> Sink<'t> for Growing<'t> {
 
 impl<'t> Growing<'t> {
     /// Nothing.
-    fn new(alloc: Global) -> Growing<'t>
+    pub(crate) fn new(alloc: Global) -> Growing<'t>
         ensures { result.values ≡ [] }
     {
         Growing {
@@ -47,7 +47,7 @@ impl<'t> Growing<'t> {
     }
 
     /// The tree that was made last.
-    fn tree(self) -> Option<Box<NormalExpr>>
+    pub(crate) fn tree(self) -> Option<Box<NormalExpr>>
         ensures { MatchOption result
             (take_tree (seen self.entry.values) ≡ None)
             (λ x. first_tree (seen self.entry.values) ≡ view x.value) }

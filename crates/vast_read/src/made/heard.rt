@@ -8,12 +8,13 @@ ghost use Rattle.vast_read.specs.Internal.Made.{Grown, events_heard, seen, told_
 ghost use Rattle.vast_rows.specs.Built.{SeenFile, happens};
 ghost use Rattle.vast_rows.specs.Trace.{trace};
 
+use crate::build::Trees;
 use crate::children::Children;
 use crate::fault::Fault;
 use crate::made::make::{make, put};
 use crate::made::part::first;
 use crate::made::value::{Path, Range, Value, Values};
-use crate::phrase::{Made, TreeSource};
+use crate::phrase::{Made, Phrases};
 use crate::stack::Stack;
 use crate::tree::{NormalExpr, NormalFile, NormalItem};
 use std::alloc::{AllocError, Global};
@@ -41,7 +42,7 @@ pub(crate) struct Heard<'t> {
     pub(crate) events: Stack<Told<'t>>,
 }
 
-impl<'t> Sink<TreeSource<'t>> for Heard<'t> {
+impl<'t> Sink<Phrases<'t, Trees>> for Heard<'t> {
     ghost after = { λ before events now.
         events_heard now.events ≡ events_heard before.events ++ events };
 
