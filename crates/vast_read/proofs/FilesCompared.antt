@@ -1,15 +1,13 @@
 -- What is found of two texts, by what is told of them.
-use Rattle.std.proofs.Common.{◌≡◌, ◌≢◌, ℕ, List, [], Bool, true, false, Option, Some, None, sym, ap, subst, ◌∙◌}
-use Rattle.vast_literal.specs.FileGrammar.{IsFile, DerivesFile}
+use Rattle.std.proofs.Common.{◌≡◌, ℕ, List, [], Bool, true, false, Option, Some, None, sym, ap, subst, ◌∙◌}
+use Rattle.vast_literal.specs.FileGrammar.{DerivesFile}
 use Rattle.vast_literal.specs.NormalFile.{NormalFile}
-use Rattle.vast_literal.specs.Scan.{Gap}
 use Rattle.vast_rows.proofs.Builds.{trace_is_one}
 use Rattle.vast_rows.proofs.OneEach.{file_once}
 use Rattle.vast_rows.specs.Trace.{trace}
 use Rattle.vast_read.specs.Compared.{Compares}
-use Rattle.vast_read.specs.Lexed.{lex}
-use Rattle.vast_read.specs.Internal.Compared.{IsFileless, IsToldOf, IsFollowed}
-use Rattle.vast_read.specs.Internal.Transcripts.{written, written_in, entries}
+use Rattle.vast_read.specs.Internal.Compared.{IsToldOf, IsFollowed}
+use Rattle.vast_read.specs.Internal.Transcripts.{written, entries}
 use Rattle.vast_read.specs.declared.same.Comparison.TheVariants.{Same, Different}
 use Rattle.vast_read.specs.declared.transcript.Transcript.{Transcript}
 use Rattle.vast_read.proofs.TextDecides.{text_derives, text_without_file}

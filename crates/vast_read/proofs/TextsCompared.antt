@@ -1,5 +1,5 @@
 -- Texts that are compared one by one.
-use Rattle.std.proofs.Common.{◌≡◌, ◌≢◌, ℕ, ◌<◌, Bool, true, false, ◌&&◌, bytes_eq, List, [], ◌∷◌, ◌++◌, length, map, take, refl, sym, ap, ◌∙◌, arith, Bor}
+use Rattle.std.proofs.Common.{◌≡◌, ◌≢◌, ℕ, ◌<◌, Bool, true, false, ◌&&◌, bytes_eq, List, [], ◌∷◌, ◌++◌, length, take, refl, sym, ap, ◌∙◌, arith, Bor}
 use Rattle.std.specs.Bool.{Decides}
 use Rattle.std.specs.Cmp.Lexicographic.{pointwise}
 use Rattle.std.proofs.lemmas.List.{take_at, length-append, length-map, map-append}
@@ -36,4 +36,3 @@ other_front all start rest front ws e n d h =
 
 pub same_front : (all start rest front : List (Bor (List ℕ))) → all ≡ start ++ rest → spelled start ≡ spelled front → spelled all ≡ spelled front ++ spelled rest
 same_front all start rest front e h = ap spelled e ∙ (map-append (λ (w : Bor (List ℕ)). w.now) start rest ∙ ap (λ v. v ++ spelled rest) h)
-

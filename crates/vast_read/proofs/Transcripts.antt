@@ -1,7 +1,6 @@
 -- Transcripts: how they grow, and that what is told is read off them.
 use Rattle.std.proofs.Common.{◌≡◌, ◌≢◌, ◌∙◌, ℕ, Bool, true, false, List, [], ◌∷◌, ◌++◌, Option, Some, None, option_map, MatchBool, Result, IfOk, map, refl, sym, ap, subst, append_assoc, append-nil}
-use Rattle.std.proofs.lemmas.List.{append_cancel_left, map-append}
-use Rattle.std.proofs.lemmas.Grind.{flat_map-append}
+use Rattle.std.proofs.lemmas.List.{map-append}
 use Rattle.std.specs.List.{flat_map}
 use Rattle.vast_literal.specs.NormalExpr.{NormalExpr, NormalExprs, Name, Literal, Text, MacroAlone, Unary, Binary, Ternary, Index, Slice, PartSelect, Concat, Pattern, Replicated, Call, MacroCall, Cast, PackageCast, WordCast, NoNormals, MoreNormals}
 use Rattle.vast_literal.specs.Tokens.{Token}
@@ -12,13 +11,13 @@ use Rattle.vast_expressions.specs.declared.event.Told.TheVariants.{Unary as Unar
 use Rattle.vast_expressions.specs.Hearing.{HearsAll}
 use Rattle.vast_expressions.specs.Phrases.{IsRead}
 use Rattle.vast_expressions.specs.Reading.{Reads as IsHeard}
-use Rattle.vast_expressions.specs.Internal.Values.{Value, Tree, Trees, Bytes, Grown, grown}
+use Rattle.vast_expressions.specs.Internal.Values.{Value, Tree, Grown, grown}
 use Rattle.vast_expressions.proofs.Heard.{Hears, heard_one}
 use Rattle.vast_rows.specs.Events.{Event, Makes, Reads, Names}
 use Rattle.vast_rows.specs.Phrases.{IsExpression, IsLoop, IsPath}
 use Rattle.vast_read.specs.Internal.Comparison.{Tells as IsTold}
 use Rattle.vast_read.specs.Internal.Readings.{less_than}
-use Rattle.vast_read.specs.Internal.Transcripts.{Entry, Does, Tells, Says, Written, nothing_written, joined, written, note_of, texts_of, entry_of, entries_of, entries_in, entries, Follows, IsOf, between, piece_view}
+use Rattle.vast_read.specs.Internal.Transcripts.{Entry, Does, Tells, Says, Written, nothing_written, joined, written, note_of, texts_of, entry_of, entries_of, entries, Follows, IsOf, between, piece_view}
 use Rattle.vast_read.specs.Internal.TranscriptLaws.{joined_assoc, joined_nothing, joined_cancel, written_both}
 use Rattle.vast_read.specs.Internal.Transcribed.{entries_by, before, made_by, told_by, told_in, tree_of, first_expression, IsWhole}
 use Rattle.vast_read.specs.Internal.Values.{made_or}
@@ -225,9 +224,12 @@ module _ {A : Type 0} (told : A → Written) (made : A → List Value) where
 
   pub condition_heard : (ts us : List Token) (a c : A) (b : Bool) → IsHeard WritesAndMakes 0 ts a b us c → b ≡ true → told a ≡ nothing_written → made a ≡ [] →
       (x : NormalExpr) × IsRead 0 ts x us × (made c ≡ (Tree x ∷ [])) × IsOf x (told c)
-  condition_heard ts us a c b r e n m = let read = subst (λ v. IsHeard WritesAndMakes 0 ts a v us c) e r in
-      (read.0, read.1, heard_one made read.0 a c (all_made (trace read.0 []) a c read.2) ∙ ap (λ vs. Tree read.0 ∷ vs) m,
-      heard_written told (trace read.0 []) a c (all_written (trace read.0 []) a c read.2) ∙ ap (λ v. joined v (written (entries_of read.0))) n)
+  condition_heard ts us a c b r e n m = let read = subst (λ v. IsHeard WritesAndMakes 0 ts a v us c) e r in (
+    read.0,
+    read.1,
+    heard_one made read.0 a c (all_made (trace read.0 []) a c read.2) ∙ ap (λ vs. Tree read.0 ∷ vs) m,
+    heard_written told (trace read.0 []) a c (all_written (trace read.0 []) a c read.2) ∙ ap (λ v. joined v (written (entries_of read.0))) n,
+  )
 
 -- The end of a loop, between the ends of its condition.
 

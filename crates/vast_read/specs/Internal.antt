@@ -7,7 +7,6 @@ pub mod Readings
 pub mod Values
 pub mod LoopHeads
 pub mod FileReadings
-pub mod Stack
 pub mod PhraseReadings
 pub mod Made
 pub mod Position

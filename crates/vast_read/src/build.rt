@@ -11,8 +11,8 @@ mod unbuilt;
 mod value;
 
 use crate::reader::Reader;
-use std::alloc::AllocError;
 pub(crate) use events::{Events, Spoken};
+use std::alloc::AllocError;
 pub(crate) use trees::Trees;
 pub(crate) use unbuilt::Unbuilt;
 

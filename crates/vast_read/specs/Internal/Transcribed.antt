@@ -1,5 +1,5 @@
 -- What a transcript tells.
-use Rattle.std.specs.Prelude.{◌≡◌, ℕ, List, [], ◌∷◌, ◌++◌}
+use Rattle.std.specs.Prelude.{ℕ, List, [], ◌∷◌}
 use Rattle.vast_literal.specs.NormalExpr.{NormalExpr, Name}
 use Rattle.vast_expressions.specs.Events.{NameE, LiteralE, TextE, MacroE, WordE, PartSelectE, Made}
 use Rattle.vast_expressions.specs.Events as expression

@@ -28,10 +28,7 @@ impl<'t> Sink<'t> for Growing<'t> {
     ghost hears = { λ a e b. Grown (grown e (seen a.values)) (seen b.values) };
 
     fn tell(&mut self, event: Event<'t>) -> Result<(), AllocError> {
-        match hear(self.alloc, event, &mut self.values) {
-            Ok(()) => Ok(()),
-            Err(_) => Err(AllocError),
-        }
+        hear(self.alloc, event, &mut self.values)
     }
 }
 
