@@ -14,7 +14,7 @@ bound_gives : (i : List ℕ) (e : NormalExpr) → bound_of i (less_than i e) ≡
 unfolding bound_of
 bound_gives i e = subst (λ b. cond b (Some e) None ≡ Some e) (sym ((bytes_eq-Decides i i).1 refl)) refl
 
-bound_is : (i : List ℕ) (x e : NormalExpr) → bound_of i x ≡ Some e → x ≡ less_than i e
+pub bound_is : (i : List ℕ) (x e : NormalExpr) → bound_of i x ≡ Some e → x ≡ less_than i e
 unfolding bound_of
 bound_is i (Binary Less (Name j) e) d h = go (bytes_eq i j) refl h
   where

@@ -7,7 +7,6 @@ pub mod Readings
 pub mod Values
 pub mod LoopHeads
 pub mod FileReadings
-pub mod Stack
 pub mod PhraseReadings
 pub mod Made
 pub mod Position
@@ -17,6 +16,7 @@ pub mod Release
 pub mod StatementRelease
 pub mod MemberRelease
 pub mod Comparison
-pub mod Levels
-pub mod Pairs
-pub mod Writings
+pub mod Transcripts
+pub mod Transcribed
+pub mod Compared
+pub mod TranscriptLaws

@@ -1,15 +1,17 @@
-//! What is made of an expression: its tree, or nothing.
+//! What is made of an expression: its tree, its transcript, or nothing.
 
 ghost use Rattle.std.specs.Prelude.{IfOk};
 ghost use Rattle.vast_literal.specs.NormalExpr.{NormalExpr};
 ghost use Rattle.vast_read.specs.Internal.Readings.{ReadsBound, ReadsTree};
 
+mod events;
 mod make;
 mod trees;
 mod unbuilt;
 mod value;
 
 use crate::reader::Reader;
+pub(crate) use events::{Events, Spoken};
 use std::alloc::AllocError;
 pub(crate) use trees::Trees;
 pub(crate) use unbuilt::Unbuilt;

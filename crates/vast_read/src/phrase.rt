@@ -1,17 +1,18 @@
 //! Phrases: what the machine of rows asks of the reader.
 
 ghost use Rattle.std.specs.Prelude.{◌≡◌, IfOk, MatchOption, Some, None};
+ghost use Rattle.vast_literal.specs.Scan.{Gap};
+ghost use Rattle.vast_read.specs.Lexed.{lex};
 ghost use Rattle.vast_read.specs.Internal.PhraseReadings.{ReadsPhrase, meaning_of};
 ghost use Rattle.vast_read.specs.Internal.Values.{first_tree, told};
-ghost use Rattle.vast_read.specs.View.{view};
 ghost use Rattle.vast_rows.specs.Internal.Sources.{first_name, kind_of_first, tail};
 ghost use Rattle.vast_rows.specs.declared.grammar.Phrase.TheVariants.{Expression, Path, Target};
 
-use crate::build::{Build, Trees, Unbuilt};
+use crate::build::{Build, Unbuilt};
 use crate::reader::{Reader, path_of};
 use crate::token::Token;
-use crate::tree::NormalExpr;
-use std::alloc::AllocError;
+use std::alloc::{AllocError, Global};
+use std::marker::PhantomData;
 use vast_rows::{Kind, Phrase, Source};
 
 /// What is made of a phrase.
@@ -135,20 +136,33 @@ impl<'t> Source for Reader<'t> {
     }
 }
 
-/// The same, where the trees of phrases are made.
+/// The reader as a source whose phrases are made by `B`.
 #[derive(Drop)]
-pub(crate) struct TreeSource<'t> {
+pub(crate) struct Phrases<'t, B> {
     pub(crate) reader: Reader<'t>,
+    made: PhantomData<B>,
 }
 
-impl<'t> Source for TreeSource<'t> {
-    type Made = Made<'t, Box<NormalExpr>>;
+impl<'t, B> Phrases<'t, B> {
+    /// The phrases of this text.
+    pub(crate) fn new(alloc: Global, text: &'t str) -> Phrases<'t, B>
+        ensures { result.reader ≡ lex Gap text.now }
+    {
+        Phrases {
+            reader: Reader::new(alloc, text),
+            made: PhantomData,
+        }
+    }
+}
+
+impl<'t, B: Build<'t>> Source for Phrases<'t, B> {
+    type Made = Made<'t, B::Expr>;
 
     type Name = &'t str;
 
     ghost left = { λ s. s.reader };
 
-    ghost sees = { meaning_of (λ x. view x.value) };
+    ghost sees = { meaning_of B.sees };
 
     ghost text = { λ w. w.now };
 
@@ -160,7 +174,7 @@ impl<'t> Source for TreeSource<'t> {
         self.reader.take_name()
     }
 
-    fn phrase(&mut self, phrase: Phrase) -> Result<Option<Made<'t, Box<NormalExpr>>>, AllocError> {
-        self.reader.made::<Trees>(phrase)
+    fn phrase(&mut self, phrase: Phrase) -> Result<Option<Made<'t, B::Expr>>, AllocError> {
+        self.reader.made::<B>(phrase)
     }
 }

@@ -2,15 +2,13 @@
 
 ghost use Rattle.std.specs.Prelude.{IfOk};
 ghost use Rattle.vast_read.specs.Compared.{Compares};
+ghost use Rattle.vast_read.specs.Internal.Compared.{IsFollowed, IsToldOf};
 
-mod event;
-mod expression;
-mod level;
-mod written;
-
-use crate::read::heard_of;
-use crate::same::event::same_events;
+use crate::build::Events;
+use crate::phrase::Phrases;
+use crate::transcript::{Followed, Telling, Transcript};
 use std::alloc::{AllocError, Global};
+use vast_rows::read_file;
 
 /// What is found of two texts.
 #[derive(Clone, Copy, Debug, PartialEq, Eq)]
@@ -27,20 +25,49 @@ pub enum Comparison {
 
 /// Whether two texts derive the same file, whatever their spaces, comments and redundant parentheses.
 ///
-/// The grammar is `DerivesFile`, and the tree of a text is what [`read_normal`] returns. It takes time in proportion to
-/// the texts, the memory of the expressions of both at once, and no stack that grows with them.
+/// The grammar is `DerivesFile`, and the tree of a text is what [`read_normal`](crate::read_normal) returns. It takes
+/// time in proportion to the texts, memory for what the old one tells, and no stack that grows with them.
 pub fn are_same(alloc: Global, old: &str, new: &str) -> Result<Comparison, AllocError>
     ensures { IfOk result (λ c. Compares c old.now new.now) }
 {
-    let Some(old_events) = heard_of(alloc, old)? else {
+    let Some(told) = told_of(alloc, old)? else {
         return Ok(Comparison::OldUnderived);
     };
-    let Some(new_events) = heard_of(alloc, new)? else {
-        return Ok(Comparison::NewUnderived);
+    match tells(alloc, new, &told)? {
+        None => Ok(Comparison::NewUnderived),
+        Some(true) => Ok(Comparison::Same),
+        Some(false) => Ok(Comparison::Different),
+    }
+}
+
+/// What is told of the file that the tokens of this text spell; nothing, where they spell none.
+fn told_of<'t>(alloc: Global, text: &'t str) -> Result<Option<Transcript<'t>>, AllocError>
+    ensures { IfOk result (IsToldOf text.now) }
+{
+    let mut source: Phrases<'t, Events> = Phrases::new(alloc, text);
+    let mut telling = Telling {
+        hearer: Transcript::new(alloc),
     };
-    if same_events(alloc, old_events, new_events)? {
-        Ok(Comparison::Same)
+    if read_file(alloc, &mut source, &mut telling)? {
+        Ok(Some(telling.hearer))
     } else {
-        Ok(Comparison::Different)
+        Ok(None)
+    }
+}
+
+/// Whether this is told of the file that the tokens of a text spell; nothing, where they spell none.
+fn tells(alloc: Global, text: &str, told: &Transcript<'_>) -> Result<Option<bool>, AllocError>
+    ensures { IfOk result (IsFollowed text.now told.now) }
+{
+    let mut source: Phrases<'_, Events> = Phrases::new(alloc, text);
+    let mut telling = Telling {
+        hearer: Followed {
+            left: Some(told.whole()),
+        },
+    };
+    if read_file(alloc, &mut source, &mut telling)? {
+        Ok(Some(telling.hearer.is_over()))
+    } else {
+        Ok(None)
     }
 }

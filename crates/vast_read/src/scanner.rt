@@ -24,7 +24,6 @@ mod run;
 mod sign;
 mod word;
 
-pub(crate) use keyword::word_token;
 pub(crate) use place::{first_and_behind, place_before};
 pub(crate) use position::Position;
 

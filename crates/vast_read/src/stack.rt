@@ -1,7 +1,6 @@
 //! A stack.
 
 ghost use Rattle.std.specs.Prelude.{◌≡◌, [], ◌∷◌, OnOk, OnErr, MatchOption};
-ghost use Rattle.vast_read.specs.Internal.Stack.{below};
 
 use std::alloc::{AllocError, Global};
 use std::marker::Model;
@@ -37,15 +36,6 @@ impl<T> Stack<T> {
             ((self.old ≡ []) × (self.new ≡ [])) (λ x. self.old ≡ (x ∷ self.new)) }
     {
         self.items.pop()
-    }
-
-    /// The item on top.
-    #[tactic(auto, using(crate::proofs::Stacked::tops))]
-    pub(crate) fn top(&self) -> Option<&T>
-        ensures { MatchOption result
-            (self.now ≡ []) (λ x. self.now ≡ (x.now ∷ below self.now)) }
-    {
-        self.items.last()
     }
 }
 

@@ -1,7 +1,5 @@
 -- The token of the grammar that one of the reader stands for.
-use Rattle.std.specs.Prelude.{Option, Some, None}
 use Rattle.vast_literal.specs.Tokens as to
-use Rattle.vast_literal.specs.declared.token.Key.{Key}
 use Rattle.vast_read.specs.declared.token.Token.{Token}
 use Rattle.vast_read.specs.declared.token.Token.TheVariants as token
 
@@ -17,8 +15,3 @@ token_view (token.Based w) = to.Based w.now
 token_view (token.Quoted w) = to.Quoted w.now
 token_view (token.Operator s) = to.Operator s
 token_view (token.Mark m) = to.Mark m
-
--- The keyword that a token is, of those that the grammar uses.
-unfoldable pub key_in : to.Token → Option Key
-key_in (to.Reserved k) = Some k
-key_in _ = None

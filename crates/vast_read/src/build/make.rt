@@ -9,15 +9,14 @@ ghost use Rattle.vast_read.specs.View.{view};
 
 use crate::build::value::{Value, Values, pop_bytes, pop_tree, pop_trees};
 use crate::children::Children;
-use crate::fault::Fault;
 use crate::tree::NormalExpr;
-use std::alloc::Global;
+use std::alloc::{AllocError, Global};
 use vast_expressions::{Event, Told};
 use vast_literal::{Key, Sign};
 use vast_names::Word;
 
 /// One more value on top.
-fn put<'t>(value: Value<'t>, values: &mut Values<'t>) -> Result<(), Fault>
+fn put<'t>(value: Value<'t>, values: &mut Values<'t>) -> Result<(), AllocError>
     ensures { IfOk result (λ _. values.new ≡ (value.entry ∷ values.old)) }
 {
     values.push(value)?;
@@ -26,7 +25,7 @@ fn put<'t>(value: Value<'t>, values: &mut Values<'t>) -> Result<(), Fault>
 
 /// A sign before a tree.
 #[tactic(auto, unfolding(vast_expressions::specs::Internal::Values::grown_one))]
-fn make_unary(alloc: Global, sign: Sign, values: &mut Values<'_>) -> Result<(), Fault>
+fn make_unary(alloc: Global, sign: Sign, values: &mut Values<'_>) -> Result<(), AllocError>
     ensures { IfOk result (λ _. Grown (grown_one (Unary sign) (seen values.old)) (seen values.new)) }
 {
     let Some(operand) = pop_tree(values) else {
@@ -38,7 +37,7 @@ fn make_unary(alloc: Global, sign: Sign, values: &mut Values<'_>) -> Result<(), 
 
 /// A cast by a keyword.
 #[tactic(auto, unfolding(vast_expressions::specs::Internal::Values::grown_one))]
-fn make_word_cast(alloc: Global, key: Key, values: &mut Values<'_>) -> Result<(), Fault>
+fn make_word_cast(alloc: Global, key: Key, values: &mut Values<'_>) -> Result<(), AllocError>
     ensures { IfOk result (λ _. Grown (grown_one (WordCast key) (seen values.old)) (seen values.new)) }
 {
     let Some(operand) = pop_tree(values) else {
@@ -50,7 +49,7 @@ fn make_word_cast(alloc: Global, key: Key, values: &mut Values<'_>) -> Result<()
 
 /// A sign between two trees.
 #[tactic(auto, unfolding(vast_expressions::specs::Internal::Values::grown_two))]
-fn make_binary(alloc: Global, sign: Sign, values: &mut Values<'_>) -> Result<(), Fault>
+fn make_binary(alloc: Global, sign: Sign, values: &mut Values<'_>) -> Result<(), AllocError>
     ensures { IfOk result (λ _. Grown (grown_two (Binary sign) (seen values.old)) (seen values.new)) }
 {
     let Some(right) = pop_tree(values) else {
@@ -65,7 +64,7 @@ fn make_binary(alloc: Global, sign: Sign, values: &mut Values<'_>) -> Result<(),
 
 /// An index.
 #[tactic(auto, unfolding(vast_expressions::specs::Internal::Values::grown_two))]
-fn make_index(alloc: Global, values: &mut Values<'_>) -> Result<(), Fault>
+fn make_index(alloc: Global, values: &mut Values<'_>) -> Result<(), AllocError>
     ensures { IfOk result (λ _. Grown (grown_two Index (seen values.old)) (seen values.new)) }
 {
     let Some(index) = pop_tree(values) else {
@@ -80,7 +79,7 @@ fn make_index(alloc: Global, values: &mut Values<'_>) -> Result<(), Fault>
 
 /// A cast by a tree.
 #[tactic(auto, unfolding(vast_expressions::specs::Internal::Values::grown_two))]
-fn make_cast(alloc: Global, values: &mut Values<'_>) -> Result<(), Fault>
+fn make_cast(alloc: Global, values: &mut Values<'_>) -> Result<(), AllocError>
     ensures { IfOk result (λ _. Grown (grown_two Cast (seen values.old)) (seen values.new)) }
 {
     let Some(operand) = pop_tree(values) else {
@@ -95,7 +94,7 @@ fn make_cast(alloc: Global, values: &mut Values<'_>) -> Result<(), Fault>
 
 /// A part select of this width.
 #[tactic(auto, unfolding(vast_expressions::specs::Internal::Values::grown_part))]
-fn make_part_select(alloc: Global, width: &str, values: &mut Values<'_>) -> Result<(), Fault>
+fn make_part_select(alloc: Global, width: &str, values: &mut Values<'_>) -> Result<(), AllocError>
     ensures { IfOk result (λ _. Grown (grown_part width.now (seen values.old)) (seen values.new)) }
 {
     let Some(start) = pop_tree(values) else {
@@ -110,7 +109,7 @@ fn make_part_select(alloc: Global, width: &str, values: &mut Values<'_>) -> Resu
 
 /// A choice.
 #[tactic(auto, unfolding(vast_expressions::specs::Internal::Values::grown_three))]
-fn make_ternary(alloc: Global, values: &mut Values<'_>) -> Result<(), Fault>
+fn make_ternary(alloc: Global, values: &mut Values<'_>) -> Result<(), AllocError>
     ensures { IfOk result (λ _. Grown (grown_three Ternary (seen values.old)) (seen values.new)) }
 {
     let Some(second) = pop_tree(values) else {
@@ -128,7 +127,7 @@ fn make_ternary(alloc: Global, values: &mut Values<'_>) -> Result<(), Fault>
 
 /// A slice.
 #[tactic(auto, unfolding(vast_expressions::specs::Internal::Values::grown_three))]
-fn make_slice(alloc: Global, values: &mut Values<'_>) -> Result<(), Fault>
+fn make_slice(alloc: Global, values: &mut Values<'_>) -> Result<(), AllocError>
     ensures { IfOk result (λ _. Grown (grown_three Slice (seen values.old)) (seen values.new)) }
 {
     let Some(low) = pop_tree(values) else {
@@ -146,7 +145,7 @@ fn make_slice(alloc: Global, values: &mut Values<'_>) -> Result<(), Fault>
 
 /// A concatenation.
 #[tactic(auto, unfolding(vast_expressions::specs::Internal::Values::grown_list))]
-fn make_concat(alloc: Global, values: &mut Values<'_>) -> Result<(), Fault>
+fn make_concat(alloc: Global, values: &mut Values<'_>) -> Result<(), AllocError>
     ensures { IfOk result (λ _. Grown (grown_list Concat (seen values.old)) (seen values.new)) }
 {
     let Some(xs) = pop_trees(values) else {
@@ -158,7 +157,7 @@ fn make_concat(alloc: Global, values: &mut Values<'_>) -> Result<(), Fault>
 
 /// An array pattern.
 #[tactic(auto, unfolding(vast_expressions::specs::Internal::Values::grown_list))]
-fn make_pattern(alloc: Global, values: &mut Values<'_>) -> Result<(), Fault>
+fn make_pattern(alloc: Global, values: &mut Values<'_>) -> Result<(), AllocError>
     ensures { IfOk result (λ _. Grown (grown_list Pattern (seen values.old)) (seen values.new)) }
 {
     let Some(xs) = pop_trees(values) else {
@@ -170,7 +169,7 @@ fn make_pattern(alloc: Global, values: &mut Values<'_>) -> Result<(), Fault>
 
 /// A replication.
 #[tactic(auto, unfolding(vast_expressions::specs::Internal::Values::grown_replicated))]
-fn make_replicated(alloc: Global, values: &mut Values<'_>) -> Result<(), Fault>
+fn make_replicated(alloc: Global, values: &mut Values<'_>) -> Result<(), AllocError>
     ensures { IfOk result (λ _. Grown (grown_replicated (seen values.old)) (seen values.new)) }
 {
     let Some(xs) = pop_trees(values) else {
@@ -185,7 +184,7 @@ fn make_replicated(alloc: Global, values: &mut Values<'_>) -> Result<(), Fault>
 
 /// A call.
 #[tactic(auto, unfolding(vast_expressions::specs::Internal::Values::grown_named))]
-fn make_call(alloc: Global, values: &mut Values<'_>) -> Result<(), Fault>
+fn make_call(alloc: Global, values: &mut Values<'_>) -> Result<(), AllocError>
     ensures { IfOk result (λ _. Grown (grown_named Call (seen values.old)) (seen values.new)) }
 {
     let Some(xs) = pop_trees(values) else {
@@ -201,7 +200,7 @@ fn make_call(alloc: Global, values: &mut Values<'_>) -> Result<(), Fault>
 
 /// The use of a macro with arguments.
 #[tactic(auto, unfolding(vast_expressions::specs::Internal::Values::grown_named))]
-fn make_macro_call(alloc: Global, values: &mut Values<'_>) -> Result<(), Fault>
+fn make_macro_call(alloc: Global, values: &mut Values<'_>) -> Result<(), AllocError>
     ensures { IfOk result (λ _. Grown (grown_named MacroCall (seen values.old)) (seen values.new)) }
 {
     let Some(xs) = pop_trees(values) else {
@@ -217,7 +216,7 @@ fn make_macro_call(alloc: Global, values: &mut Values<'_>) -> Result<(), Fault>
 
 /// A cast by a package's type.
 #[tactic(auto, unfolding(vast_expressions::specs::Internal::Values::grown_package))]
-fn make_package_cast(alloc: Global, values: &mut Values<'_>) -> Result<(), Fault>
+fn make_package_cast(alloc: Global, values: &mut Values<'_>) -> Result<(), AllocError>
     ensures { IfOk result (λ _. Grown (grown_package (seen values.old)) (seen values.new)) }
 {
     let Some(operand) = pop_tree(values) else {
@@ -237,7 +236,7 @@ fn make_package_cast(alloc: Global, values: &mut Values<'_>) -> Result<(), Fault
 
 /// A list of one tree.
 #[tactic(auto, unfolding(vast_expressions::specs::Internal::Values::grown_first))]
-fn make_first(alloc: Global, values: &mut Values<'_>) -> Result<(), Fault>
+fn make_first(alloc: Global, values: &mut Values<'_>) -> Result<(), AllocError>
     ensures { IfOk result (λ _. Grown (grown_first (seen values.old)) (seen values.new)) }
 {
     let Some(x) = pop_tree(values) else {
@@ -250,7 +249,7 @@ fn make_first(alloc: Global, values: &mut Values<'_>) -> Result<(), Fault>
 
 /// One more tree at the end of a list.
 #[tactic(auto, using(crate::proofs::Trees::listed_more), unfolding(vast_expressions::specs::Internal::Values::grown_push))]
-fn make_push(values: &mut Values<'_>) -> Result<(), Fault>
+fn make_push(values: &mut Values<'_>) -> Result<(), AllocError>
     ensures { IfOk result (λ _. Grown (grown_push (seen values.old)) (seen values.new)) }
 {
     let Some(x) = pop_tree(values) else {
@@ -265,7 +264,7 @@ fn make_push(values: &mut Values<'_>) -> Result<(), Fault>
 }
 
 /// What is made of what was made before.
-fn make(alloc: Global, told: Told, values: &mut Values<'_>) -> Result<(), Fault>
+fn make(alloc: Global, told: Told, values: &mut Values<'_>) -> Result<(), AllocError>
     ensures { IfOk result (λ _. Grown (grown_made told (seen values.old)) (seen values.new)) }
 {
     match told {
@@ -289,7 +288,7 @@ fn make(alloc: Global, told: Told, values: &mut Values<'_>) -> Result<(), Fault>
 }
 
 /// A tree of no parts.
-fn put_leaf(alloc: Global, leaf: NormalExpr, values: &mut Values<'_>) -> Result<(), Fault>
+fn put_leaf(alloc: Global, leaf: NormalExpr, values: &mut Values<'_>) -> Result<(), AllocError>
     ensures { IfOk result (λ _. seen values.new ≡ (Tree (view leaf) ∷ seen values.old)) }
 {
     let made = Box::new(alloc, leaf)?;
@@ -301,7 +300,7 @@ pub(crate) fn hear<'t>(
     alloc: Global,
     event: Event<'t>,
     values: &mut Values<'t>,
-) -> Result<(), Fault>
+) -> Result<(), AllocError>
     ensures { IfOk result (λ _. Grown (grown (event_view event.entry) (seen values.old))
         (seen values.new)) }
 {

@@ -21,23 +21,20 @@ pub(crate) struct Trees;
 #[derive(Drop)]
 pub(crate) struct Growing<'t> {
     alloc: Global,
-    values: Values<'t>,
+    pub(crate) values: Values<'t>,
 }
 
 impl<'t> Sink<'t> for Growing<'t> {
     ghost hears = { λ a e b. Grown (grown e (seen a.values)) (seen b.values) };
 
     fn tell(&mut self, event: Event<'t>) -> Result<(), AllocError> {
-        match hear(self.alloc, event, &mut self.values) {
-            Ok(()) => Ok(()),
-            Err(_) => Err(AllocError),
-        }
+        hear(self.alloc, event, &mut self.values)
     }
 }
 
 impl<'t> Growing<'t> {
     /// Nothing.
-    fn new(alloc: Global) -> Growing<'t>
+    pub(crate) fn new(alloc: Global) -> Growing<'t>
         ensures { result.values ≡ [] }
     {
         Growing {
@@ -47,7 +44,7 @@ impl<'t> Growing<'t> {
     }
 
     /// The tree that was made last.
-    fn tree(self) -> Option<Box<NormalExpr>>
+    pub(crate) fn tree(self) -> Option<Box<NormalExpr>>
         ensures { MatchOption result
             (take_tree (seen self.entry.values) ≡ None)
             (λ x. first_tree (seen self.entry.values) ≡ view x.value) }

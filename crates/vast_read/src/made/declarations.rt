@@ -8,19 +8,18 @@ ghost use Rattle.vast_read.specs.Internal.Made.{Grown, names_type, seen, value_v
 ghost use Rattle.vast_read.specs.Texts.{key_of};
 
 use crate::children::Children;
-use crate::fault::Fault;
 use crate::made::make::put;
 use crate::made::part::{first, maybe_expression};
 use crate::made::value::{Value, Values};
 use crate::tree::words::key_word;
 use crate::tree::{DeclaredType, Group, NormalDeclaration, NormalExpr};
-use std::alloc::Global;
+use std::alloc::{AllocError, Global};
 use vast_literal::Key;
 use vast_names::Word;
 
 /// A group of one expression or of two.
 #[tactic(auto, unfolding(vast_rows::specs::Built::make, vast_rows::specs::Built::of_one, vast_rows::specs::Built::of_two, vast_rows::specs::Built::of_three, vast_rows::specs::Built::of_four))]
-pub(crate) fn group_of(values: &mut Values<'_>) -> Result<(), Fault>
+pub(crate) fn group_of(values: &mut Values<'_>) -> Result<(), AllocError>
     ensures { IfOk result (λ _. Grown (make action.GroupOf (seen values.old)) values.new) }
 {
     let Some(first) = first::<Box<NormalExpr>>(values) else {
@@ -36,7 +35,7 @@ pub(crate) fn group_of(values: &mut Values<'_>) -> Result<(), Fault>
 /// A declaration of its groups, its name and the groups after that; groups alone where no name
 /// follows.
 #[tactic(auto, unfolding(vast_rows::specs::Built::name_behind, vast_rows::specs::Built::make, vast_rows::specs::Built::of_one, vast_rows::specs::Built::of_two, vast_rows::specs::Built::of_three, vast_rows::specs::Built::of_four))]
-pub(crate) fn declares(alloc: Global, values: &mut Values<'_>) -> Result<(), Fault>
+pub(crate) fn declares(alloc: Global, values: &mut Values<'_>) -> Result<(), AllocError>
     ensures { IfOk result (λ _. Grown (make action.Declares (seen values.old)) values.new) }
 {
     let Some(groups) = first::<Children<Group>>(values) else {
@@ -56,7 +55,7 @@ fn name_behind<'t>(
     groups: Children<Group>,
     value: Value<'t>,
     values: &mut Values<'t>,
-) -> Result<(), Fault>
+) -> Result<(), AllocError>
     ensures { IfOk result (λ _. Grown (name_behind (groups_view (reverse groups))
         (value_view value.entry ∷ seen values.old)) values.new) }
 {
@@ -92,7 +91,7 @@ fn typed_parts(typed: Option<Box<DeclaredType>>) -> DeclaredType
 /// A name before what follows: a declaration's own before groups alone, else its type's, or its
 /// package's where it has one.
 #[tactic(auto, unfolding(vast_rows::specs::Built::name_before, vast_rows::specs::Built::make, vast_rows::specs::Built::of_one, vast_rows::specs::Built::of_two, vast_rows::specs::Built::of_three, vast_rows::specs::Built::of_four))]
-pub(crate) fn name_before(alloc: Global, values: &mut Values<'_>) -> Result<(), Fault>
+pub(crate) fn name_before(alloc: Global, values: &mut Values<'_>) -> Result<(), AllocError>
     ensures { IfOk result (λ _. Grown (make action.NameBefore (seen values.old)) values.new) }
 {
     let Some(name) = first::<&str>(values) else {
@@ -111,7 +110,7 @@ fn named<'t>(
     name: &'t str,
     value: Value<'t>,
     values: &mut Values<'t>,
-) -> Result<(), Fault>
+) -> Result<(), AllocError>
     ensures { IfOk result (λ _. Grown (name_before name.now
         (value_view value.entry ∷ seen values.old)) values.new) }
 {
@@ -135,7 +134,7 @@ fn name_type(
     alloc: Global,
     name: &str,
     typed: Option<Box<DeclaredType>>,
-) -> Result<Option<Box<DeclaredType>>, Fault>
+) -> Result<Option<Box<DeclaredType>>, AllocError>
     ensures names { IfOk result (λ t. (package_of t, type_name_of t)
         ≡ names_type (package_of typed) (type_name_of typed) name.now) }
     ensures sign { IfOk result (λ t. sign_of t ≡ sign_of typed) }
@@ -151,7 +150,7 @@ fn name_type(
 
 /// The declaration that follows, of a package whose name is still to come.
 #[tactic(auto, unfolding(vast_rows::specs::Built::make, vast_rows::specs::Built::of_one, vast_rows::specs::Built::of_two, vast_rows::specs::Built::of_three, vast_rows::specs::Built::of_four))]
-pub(crate) fn packaged(alloc: Global, values: &mut Values<'_>) -> Result<(), Fault>
+pub(crate) fn packaged(alloc: Global, values: &mut Values<'_>) -> Result<(), AllocError>
     ensures { IfOk result (λ _. Grown (make action.Packaged (seen values.old)) values.new) }
 {
     let Some(mut declared) = first::<NormalDeclaration>(values) else {
@@ -166,7 +165,7 @@ pub(crate) fn packaged(alloc: Global, values: &mut Values<'_>) -> Result<(), Fau
 
 /// The declaration that follows, of that sign.
 #[tactic(auto, unfolding(vast_rows::specs::Built::make, vast_rows::specs::Built::of_one, vast_rows::specs::Built::of_two, vast_rows::specs::Built::of_three, vast_rows::specs::Built::of_four))]
-pub(crate) fn sign_of(alloc: Global, key: Key, values: &mut Values<'_>) -> Result<(), Fault>
+pub(crate) fn sign_of(alloc: Global, key: Key, values: &mut Values<'_>) -> Result<(), AllocError>
     ensures { IfOk result (λ _. Grown (make (action.SignOf key) (seen values.old)) values.new) }
 {
     let Some(mut declared) = first::<NormalDeclaration>(values) else {
@@ -181,7 +180,7 @@ pub(crate) fn sign_of(alloc: Global, key: Key, values: &mut Values<'_>) -> Resul
 
 /// The declaration that follows, of that kind.
 #[tactic(auto, unfolding(vast_rows::specs::Built::make, vast_rows::specs::Built::of_one, vast_rows::specs::Built::of_two, vast_rows::specs::Built::of_three, vast_rows::specs::Built::of_four))]
-pub(crate) fn kind_of(alloc: Global, key: Key, values: &mut Values<'_>) -> Result<(), Fault>
+pub(crate) fn kind_of(alloc: Global, key: Key, values: &mut Values<'_>) -> Result<(), AllocError>
     ensures { IfOk result (λ _. Grown (make (action.KindOf key) (seen values.old)) values.new) }
 {
     let Some(mut declared) = first::<NormalDeclaration>(values) else {

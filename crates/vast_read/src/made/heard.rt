@@ -8,12 +8,12 @@ ghost use Rattle.vast_read.specs.Internal.Made.{Grown, events_heard, seen, told_
 ghost use Rattle.vast_rows.specs.Built.{SeenFile, happens};
 ghost use Rattle.vast_rows.specs.Trace.{trace};
 
+use crate::build::Trees;
 use crate::children::Children;
-use crate::fault::Fault;
 use crate::made::make::{make, put};
 use crate::made::part::first;
 use crate::made::value::{Path, Range, Value, Values};
-use crate::phrase::{Made, TreeSource};
+use crate::phrase::{Made, Phrases};
 use crate::stack::Stack;
 use crate::tree::{NormalExpr, NormalFile, NormalItem};
 use std::alloc::{AllocError, Global};
@@ -41,7 +41,7 @@ pub(crate) struct Heard<'t> {
     pub(crate) events: Stack<Told<'t>>,
 }
 
-impl<'t> Sink<TreeSource<'t>> for Heard<'t> {
+impl<'t> Sink<Phrases<'t, Trees>> for Heard<'t> {
     ghost after = { λ before events now.
         events_heard now.events ≡ events_heard before.events ++ events };
 
@@ -89,7 +89,7 @@ impl<'t> Heard<'t> {
     }
 
     /// The file of which this was heard.
-    pub(crate) fn file(self) -> Result<Option<NormalFile>, Fault>
+    pub(crate) fn file(self) -> Result<Option<NormalFile>, AllocError>
         ensures { IfOk result (λ o. (t : normal.NormalFile) →
             events_heard self.entry.events ≡ trace t [] → option_map file_view o ≡ Some t) }
     {
@@ -104,7 +104,7 @@ impl<'t> Heard<'t> {
 }
 
 /// What the events make, from the last to the first.
-fn built<'t>(alloc: Global, events: Stack<Told<'t>>) -> Result<Values<'t>, Fault>
+fn built<'t>(alloc: Global, events: Stack<Told<'t>>) -> Result<Values<'t>, AllocError>
     ensures { IfOk result (λ values. (t : normal.NormalFile) →
         events_heard events.entry ≡ trace t [] → seen values ≡ (SeenFile t ∷ [])) }
 {
@@ -117,7 +117,7 @@ fn built<'t>(alloc: Global, events: Stack<Told<'t>>) -> Result<Values<'t>, Fault
 }
 
 /// Puts what the event makes in the place of what it makes it of.
-fn happens<'t>(alloc: Global, event: Told<'t>, values: &mut Values<'t>) -> Result<(), Fault>
+fn happens<'t>(alloc: Global, event: Told<'t>, values: &mut Values<'t>) -> Result<(), AllocError>
     ensures { IfOk result (λ _. Grown (happens (told_event event.entry) (seen values.old)) values.new) }
 {
     match event {

@@ -6,14 +6,13 @@ ghost use Rattle.vast_rows.specs.Built.{make_more, make_none};
 ghost use Rattle.vast_rows.specs.declared.action.Listed.TheVariants as listed;
 
 use crate::children::Children;
-use crate::fault::Fault;
 use crate::made::part::first;
 use crate::made::value::{Value, Values};
 use crate::tree::{
     Connection, Event, Group, NormalDeclaration, NormalExpr, NormalItem, NormalMember,
     NormalStatement, Parameter, Port,
 };
-use std::alloc::Global;
+use std::alloc::{AllocError, Global};
 use vast_rows::Listed;
 
 /// An empty list.
@@ -37,7 +36,7 @@ pub(crate) fn none_of<'t>(alloc: Global, what: Listed) -> Value<'t>
 
 /// One more part in front of a list.
 #[tactic(auto, unfolding(vast_rows::specs::Built::make_more))]
-pub(crate) fn one_more(what: Listed, values: &mut Values<'_>) -> Result<(), Fault>
+pub(crate) fn one_more(what: Listed, values: &mut Values<'_>) -> Result<(), AllocError>
     ensures { IfOk result (λ _. Grown (make_more what (seen values.old)) values.new) }
 {
     match what {
@@ -55,7 +54,7 @@ pub(crate) fn one_more(what: Listed, values: &mut Values<'_>) -> Result<(), Faul
 }
 
 #[tactic(auto, using(crate::proofs::Making::lists), unfolding(vast_rows::specs::Built::make_more, vast_rows::specs::Built::of_one, vast_rows::specs::Built::of_two))]
-fn one_more_item(values: &mut Values<'_>) -> Result<(), Fault>
+fn one_more_item(values: &mut Values<'_>) -> Result<(), AllocError>
     ensures { IfOk result (λ _. Grown (make_more listed.Item (seen values.old)) values.new) }
 {
     let Some(item) = first::<NormalItem>(values) else {
@@ -70,7 +69,7 @@ fn one_more_item(values: &mut Values<'_>) -> Result<(), Fault>
 }
 
 #[tactic(auto, using(crate::proofs::Making::lists), unfolding(vast_rows::specs::Built::make_more, vast_rows::specs::Built::of_one, vast_rows::specs::Built::of_two))]
-fn one_more_parameter(values: &mut Values<'_>) -> Result<(), Fault>
+fn one_more_parameter(values: &mut Values<'_>) -> Result<(), AllocError>
     ensures { IfOk result (λ _. Grown (make_more listed.Parameter (seen values.old)) values.new) }
 {
     let Some(parameter) = first::<Parameter>(values) else {
@@ -85,7 +84,7 @@ fn one_more_parameter(values: &mut Values<'_>) -> Result<(), Fault>
 }
 
 #[tactic(auto, using(crate::proofs::Making::lists), unfolding(vast_rows::specs::Built::make_more, vast_rows::specs::Built::of_one, vast_rows::specs::Built::of_two))]
-fn one_more_port(values: &mut Values<'_>) -> Result<(), Fault>
+fn one_more_port(values: &mut Values<'_>) -> Result<(), AllocError>
     ensures { IfOk result (λ _. Grown (make_more listed.Port (seen values.old)) values.new) }
 {
     let Some(port) = first::<Port>(values) else {
@@ -100,7 +99,7 @@ fn one_more_port(values: &mut Values<'_>) -> Result<(), Fault>
 }
 
 #[tactic(auto, using(crate::proofs::Making::lists), unfolding(vast_rows::specs::Built::make_more, vast_rows::specs::Built::of_one, vast_rows::specs::Built::of_two))]
-fn one_more_member(values: &mut Values<'_>) -> Result<(), Fault>
+fn one_more_member(values: &mut Values<'_>) -> Result<(), AllocError>
     ensures { IfOk result (λ _. Grown (make_more listed.Member (seen values.old)) values.new) }
 {
     let Some(member) = first::<NormalMember>(values) else {
@@ -115,7 +114,7 @@ fn one_more_member(values: &mut Values<'_>) -> Result<(), Fault>
 }
 
 #[tactic(auto, using(crate::proofs::Making::lists), unfolding(vast_rows::specs::Built::make_more, vast_rows::specs::Built::of_one, vast_rows::specs::Built::of_two))]
-fn one_more_group(values: &mut Values<'_>) -> Result<(), Fault>
+fn one_more_group(values: &mut Values<'_>) -> Result<(), AllocError>
     ensures { IfOk result (λ _. Grown (make_more listed.Group (seen values.old)) values.new) }
 {
     let Some(group) = first::<Group>(values) else {
@@ -130,7 +129,7 @@ fn one_more_group(values: &mut Values<'_>) -> Result<(), Fault>
 }
 
 #[tactic(auto, using(crate::proofs::Making::lists), unfolding(vast_rows::specs::Built::make_more, vast_rows::specs::Built::of_one, vast_rows::specs::Built::of_two))]
-fn one_more_declaration(values: &mut Values<'_>) -> Result<(), Fault>
+fn one_more_declaration(values: &mut Values<'_>) -> Result<(), AllocError>
     ensures { IfOk result (λ _. Grown (make_more listed.Declaration (seen values.old)) values.new) }
 {
     let Some(declared) = first::<NormalDeclaration>(values) else {
@@ -145,7 +144,7 @@ fn one_more_declaration(values: &mut Values<'_>) -> Result<(), Fault>
 }
 
 #[tactic(auto, using(crate::proofs::Making::lists), unfolding(vast_rows::specs::Built::make_more, vast_rows::specs::Built::of_one, vast_rows::specs::Built::of_two))]
-fn one_more_connection(values: &mut Values<'_>) -> Result<(), Fault>
+fn one_more_connection(values: &mut Values<'_>) -> Result<(), AllocError>
     ensures { IfOk result (λ _. Grown (make_more listed.Connection (seen values.old)) values.new) }
 {
     let Some(connection) = first::<Connection>(values) else {
@@ -160,7 +159,7 @@ fn one_more_connection(values: &mut Values<'_>) -> Result<(), Fault>
 }
 
 #[tactic(auto, using(crate::proofs::Making::lists), unfolding(vast_rows::specs::Built::make_more, vast_rows::specs::Built::of_one, vast_rows::specs::Built::of_two))]
-fn one_more_event(values: &mut Values<'_>) -> Result<(), Fault>
+fn one_more_event(values: &mut Values<'_>) -> Result<(), AllocError>
     ensures { IfOk result (λ _. Grown (make_more listed.Event (seen values.old)) values.new) }
 {
     let Some(event) = first::<Event>(values) else {
@@ -175,7 +174,7 @@ fn one_more_event(values: &mut Values<'_>) -> Result<(), Fault>
 }
 
 #[tactic(auto, using(crate::proofs::Making::lists), unfolding(vast_rows::specs::Built::make_more, vast_rows::specs::Built::of_one, vast_rows::specs::Built::of_two))]
-fn one_more_statement(values: &mut Values<'_>) -> Result<(), Fault>
+fn one_more_statement(values: &mut Values<'_>) -> Result<(), AllocError>
     ensures { IfOk result (λ _. Grown (make_more listed.Statement (seen values.old)) values.new) }
 {
     let Some(statement) = first::<NormalStatement>(values) else {
@@ -190,7 +189,7 @@ fn one_more_statement(values: &mut Values<'_>) -> Result<(), Fault>
 }
 
 #[tactic(auto, using(crate::proofs::Making::lists), unfolding(vast_rows::specs::Built::make_more, vast_rows::specs::Built::of_one, vast_rows::specs::Built::of_two))]
-fn one_more_expression(values: &mut Values<'_>) -> Result<(), Fault>
+fn one_more_expression(values: &mut Values<'_>) -> Result<(), AllocError>
     ensures { IfOk result (λ _. Grown (make_more listed.Expression (seen values.old)) values.new) }
 {
     let Some(part) = first::<Box<NormalExpr>>(values) else {

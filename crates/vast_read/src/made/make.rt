@@ -5,7 +5,6 @@ ghost use Rattle.vast_rows.specs.Built.{make};
 ghost use Rattle.vast_read.specs.Internal.Made.{Grown, seen};
 
 use crate::children::Children;
-use crate::fault::Fault;
 use crate::made::declarations::{declares, group_of, kind_of, name_before, packaged, sign_of};
 use crate::made::lists::{none_of, one_more};
 use crate::made::members::{
@@ -17,14 +16,14 @@ use crate::made::statements::{
     arm, assigns, assigns_by_word, case_of, chooses, conditional, default_arm, unique_case,
 };
 use crate::made::value::{Value, Values};
-use std::alloc::Global;
+use std::alloc::{AllocError, Global};
 use vast_rows::Action;
 
 /// Puts what the action makes of the first of these values in their place.
 ///
 /// Where they are no such parts, some of them leave, and nothing is made.
 #[tactic(auto, unfolding(vast_rows::specs::Built::make))]
-pub(crate) fn make(alloc: Global, action: Action, values: &mut Values<'_>) -> Result<(), Fault>
+pub(crate) fn make(alloc: Global, action: Action, values: &mut Values<'_>) -> Result<(), AllocError>
     ensures { IfOk result (λ _. Grown (make action (seen values.old)) values.new) }
 {
     match action {
@@ -68,7 +67,7 @@ pub(crate) fn make(alloc: Global, action: Action, values: &mut Values<'_>) -> Re
 }
 
 /// One more value in front.
-pub(crate) fn put<'t>(value: Value<'t>, values: &mut Values<'t>) -> Result<(), Fault>
+pub(crate) fn put<'t>(value: Value<'t>, values: &mut Values<'t>) -> Result<(), AllocError>
     ensures { IfOk result (λ _. values.new ≡ (value.entry ∷ values.old)) }
 {
     values.push(value)?;

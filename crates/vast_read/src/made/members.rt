@@ -6,19 +6,18 @@ ghost use Rattle.vast_rows.specs.declared.action.Action.TheVariants as action;
 ghost use Rattle.vast_read.specs.Internal.Made.{Grown, seen};
 
 use crate::children::Children;
-use crate::fault::Fault;
 use crate::made::part::{first, maybe_expression, maybe_expressions, maybe_name};
 use crate::made::value::{Alternatives, Path, Range, Value, Values};
 use crate::tree::{
     Connection, Event, NormalDeclaration, NormalExpr, NormalItem, NormalMember, NormalStatement,
     Parameter, Port,
 };
-use std::alloc::Global;
+use std::alloc::{AllocError, Global};
 use vast_literal::Key;
 
 /// A member of its declaration.
 #[tactic(auto, unfolding(vast_rows::specs::Built::make, vast_rows::specs::Built::of_one, vast_rows::specs::Built::of_two, vast_rows::specs::Built::of_three, vast_rows::specs::Built::of_four))]
-pub(crate) fn declaration_member(alloc: Global, values: &mut Values<'_>) -> Result<(), Fault>
+pub(crate) fn declaration_member(alloc: Global, values: &mut Values<'_>) -> Result<(), AllocError>
     ensures { IfOk result (λ _. Grown (make action.DeclarationMember (seen values.old)) values.new) }
 {
     let Some(declared) = first::<NormalDeclaration>(values) else {
@@ -30,7 +29,7 @@ pub(crate) fn declaration_member(alloc: Global, values: &mut Values<'_>) -> Resu
 
 /// An assignment of its sides.
 #[tactic(auto, unfolding(vast_rows::specs::Built::make, vast_rows::specs::Built::of_one, vast_rows::specs::Built::of_two, vast_rows::specs::Built::of_three, vast_rows::specs::Built::of_four))]
-pub(crate) fn assign_member(values: &mut Values<'_>) -> Result<(), Fault>
+pub(crate) fn assign_member(values: &mut Values<'_>) -> Result<(), AllocError>
     ensures { IfOk result (λ _. Grown (make action.AssignMember (seen values.old)) values.new) }
 {
     let Some(left) = first::<Box<NormalExpr>>(values) else {
@@ -49,7 +48,7 @@ pub(crate) fn parameter_member(
     alloc: Global,
     key: Key,
     values: &mut Values<'_>,
-) -> Result<(), Fault>
+) -> Result<(), AllocError>
     ensures { IfOk result (λ _. Grown (make (action.ParameterMember key) (seen values.old)) values.new) }
 {
     let Some(declared) = first::<NormalDeclaration>(values) else {
@@ -64,7 +63,7 @@ pub(crate) fn parameter_member(
 
 /// A macro of its name, its arguments where it has any, and whether there is a semicolon.
 #[tactic(auto, unfolding(vast_rows::specs::Built::make, vast_rows::specs::Built::of_one, vast_rows::specs::Built::of_two, vast_rows::specs::Built::of_three, vast_rows::specs::Built::of_four))]
-pub(crate) fn macro_member(alloc: Global, values: &mut Values<'_>) -> Result<(), Fault>
+pub(crate) fn macro_member(alloc: Global, values: &mut Values<'_>) -> Result<(), AllocError>
     ensures { IfOk result (λ _. Grown (make action.MacroMember (seen values.old)) values.new) }
 {
     let Some(name) = first::<&str>(values) else {
@@ -83,7 +82,7 @@ pub(crate) fn macro_member(alloc: Global, values: &mut Values<'_>) -> Result<(),
 
 /// An instance of its module's name, what is given to parameters, its name, and its ports.
 #[tactic(auto, unfolding(vast_rows::specs::Built::make, vast_rows::specs::Built::of_one, vast_rows::specs::Built::of_two, vast_rows::specs::Built::of_three, vast_rows::specs::Built::of_four))]
-pub(crate) fn instance_member(alloc: Global, values: &mut Values<'_>) -> Result<(), Fault>
+pub(crate) fn instance_member(alloc: Global, values: &mut Values<'_>) -> Result<(), AllocError>
     ensures { IfOk result (λ _. Grown (make action.InstanceMember (seen values.old)) values.new) }
 {
     let Some(definition) = first::<&str>(values) else {
@@ -111,7 +110,11 @@ pub(crate) fn instance_member(alloc: Global, values: &mut Values<'_>) -> Result<
 
 /// A block by that word, of what it waits for and its statements.
 #[tactic(auto, unfolding(vast_rows::specs::Built::make, vast_rows::specs::Built::of_one, vast_rows::specs::Built::of_two, vast_rows::specs::Built::of_three, vast_rows::specs::Built::of_four))]
-pub(crate) fn always_member(alloc: Global, key: Key, values: &mut Values<'_>) -> Result<(), Fault>
+pub(crate) fn always_member(
+    alloc: Global,
+    key: Key,
+    values: &mut Values<'_>,
+) -> Result<(), AllocError>
     ensures { IfOk result (λ _. Grown (make (action.AlwaysMember key) (seen values.old)) values.new) }
 {
     let Some(events) = first::<Children<Event>>(values) else {
@@ -127,7 +130,7 @@ pub(crate) fn always_member(alloc: Global, key: Key, values: &mut Values<'_>) ->
 
 /// A conditional of its arms.
 #[tactic(auto, unfolding(vast_rows::specs::Built::make, vast_rows::specs::Built::of_one, vast_rows::specs::Built::of_two, vast_rows::specs::Built::of_three, vast_rows::specs::Built::of_four))]
-pub(crate) fn conditional_member(alloc: Global, values: &mut Values<'_>) -> Result<(), Fault>
+pub(crate) fn conditional_member(alloc: Global, values: &mut Values<'_>) -> Result<(), AllocError>
     ensures { IfOk result (λ _. Grown (make action.ConditionalMember (seen values.old)) values.new) }
 {
     let Some(alternatives) = first::<Alternatives>(values) else {
@@ -141,7 +144,7 @@ pub(crate) fn conditional_member(alloc: Global, values: &mut Values<'_>) -> Resu
 
 /// A function of its declaration, inputs, locals and statements.
 #[tactic(auto, unfolding(vast_rows::specs::Built::make, vast_rows::specs::Built::of_one, vast_rows::specs::Built::of_two, vast_rows::specs::Built::of_three, vast_rows::specs::Built::of_four))]
-pub(crate) fn function_member(alloc: Global, values: &mut Values<'_>) -> Result<(), Fault>
+pub(crate) fn function_member(alloc: Global, values: &mut Values<'_>) -> Result<(), AllocError>
     ensures { IfOk result (λ _. Grown (make action.FunctionMember (seen values.old)) values.new) }
 {
     let Some(declared) = first::<NormalDeclaration>(values) else {
@@ -169,7 +172,7 @@ pub(crate) fn function_member(alloc: Global, values: &mut Values<'_>) -> Result<
 
 /// A loop of its head, its label where it has one, and its members.
 #[tactic(auto, unfolding(vast_rows::specs::Built::make, vast_rows::specs::Built::of_one, vast_rows::specs::Built::of_two, vast_rows::specs::Built::of_three, vast_rows::specs::Built::of_four))]
-pub(crate) fn loop_member(alloc: Global, values: &mut Values<'_>) -> Result<(), Fault>
+pub(crate) fn loop_member(alloc: Global, values: &mut Values<'_>) -> Result<(), AllocError>
     ensures { IfOk result (λ _. Grown (make action.LoopMember (seen values.old)) values.new) }
 {
     let Some(range) = first::<Range<'_>>(values) else {
@@ -194,7 +197,7 @@ pub(crate) fn loop_member(alloc: Global, values: &mut Values<'_>) -> Result<(), 
 
 /// A connection of its name, and of its value where it has one.
 #[tactic(auto, unfolding(vast_rows::specs::Built::make, vast_rows::specs::Built::of_one, vast_rows::specs::Built::of_two, vast_rows::specs::Built::of_three, vast_rows::specs::Built::of_four))]
-pub(crate) fn connects(alloc: Global, values: &mut Values<'_>) -> Result<(), Fault>
+pub(crate) fn connects(alloc: Global, values: &mut Values<'_>) -> Result<(), AllocError>
     ensures { IfOk result (λ _. Grown (make action.Connects (seen values.old)) values.new) }
 {
     let Some(name) = first::<&str>(values) else {
@@ -213,7 +216,7 @@ pub(crate) fn connects(alloc: Global, values: &mut Values<'_>) -> Result<(), Fau
 
 /// That edge of an expression.
 #[tactic(auto, unfolding(vast_rows::specs::Built::make, vast_rows::specs::Built::of_one, vast_rows::specs::Built::of_two, vast_rows::specs::Built::of_three, vast_rows::specs::Built::of_four))]
-pub(crate) fn edge_of(alloc: Global, key: Key, values: &mut Values<'_>) -> Result<(), Fault>
+pub(crate) fn edge_of(alloc: Global, key: Key, values: &mut Values<'_>) -> Result<(), AllocError>
     ensures { IfOk result (λ _. Grown (make (action.EdgeOf key) (seen values.old)) values.new) }
 {
     let Some(value) = first::<Box<NormalExpr>>(values) else {
@@ -225,7 +228,7 @@ pub(crate) fn edge_of(alloc: Global, key: Key, values: &mut Values<'_>) -> Resul
 
 /// Any change of a name.
 #[tactic(auto, unfolding(vast_rows::specs::Built::make, vast_rows::specs::Built::of_one, vast_rows::specs::Built::of_two, vast_rows::specs::Built::of_three, vast_rows::specs::Built::of_four))]
-pub(crate) fn change_of(alloc: Global, values: &mut Values<'_>) -> Result<(), Fault>
+pub(crate) fn change_of(alloc: Global, values: &mut Values<'_>) -> Result<(), AllocError>
     ensures { IfOk result (λ _. Grown (make action.ChangeOf (seen values.old)) values.new) }
 {
     let Some(name) = first::<&str>(values) else {
@@ -237,7 +240,7 @@ pub(crate) fn change_of(alloc: Global, values: &mut Values<'_>) -> Result<(), Fa
 
 /// A parameter of a header, of its declaration and value.
 #[tactic(auto, unfolding(vast_rows::specs::Built::make, vast_rows::specs::Built::of_one, vast_rows::specs::Built::of_two, vast_rows::specs::Built::of_three, vast_rows::specs::Built::of_four))]
-pub(crate) fn header_parameter(alloc: Global, values: &mut Values<'_>) -> Result<(), Fault>
+pub(crate) fn header_parameter(alloc: Global, values: &mut Values<'_>) -> Result<(), AllocError>
     ensures { IfOk result (λ _. Grown (make action.HeaderParameter (seen values.old)) values.new) }
 {
     let Some(declared) = first::<NormalDeclaration>(values) else {
@@ -252,7 +255,7 @@ pub(crate) fn header_parameter(alloc: Global, values: &mut Values<'_>) -> Result
 
 /// A port of that direction, of its declaration.
 #[tactic(auto, unfolding(vast_rows::specs::Built::make, vast_rows::specs::Built::of_one, vast_rows::specs::Built::of_two, vast_rows::specs::Built::of_three, vast_rows::specs::Built::of_four))]
-pub(crate) fn port_of(alloc: Global, key: Key, values: &mut Values<'_>) -> Result<(), Fault>
+pub(crate) fn port_of(alloc: Global, key: Key, values: &mut Values<'_>) -> Result<(), AllocError>
     ensures { IfOk result (λ _. Grown (make (action.PortOf key) (seen values.old)) values.new) }
 {
     let Some(declared) = first::<NormalDeclaration>(values) else {
@@ -264,7 +267,7 @@ pub(crate) fn port_of(alloc: Global, key: Key, values: &mut Values<'_>) -> Resul
 
 /// A module of its name, parameters, ports and members.
 #[tactic(auto, unfolding(vast_rows::specs::Built::make, vast_rows::specs::Built::of_one, vast_rows::specs::Built::of_two, vast_rows::specs::Built::of_three, vast_rows::specs::Built::of_four))]
-pub(crate) fn module_item(alloc: Global, values: &mut Values<'_>) -> Result<(), Fault>
+pub(crate) fn module_item(alloc: Global, values: &mut Values<'_>) -> Result<(), AllocError>
     ensures { IfOk result (λ _. Grown (make action.ModuleItem (seen values.old)) values.new) }
 {
     let Some(name) = first::<&str>(values) else {
@@ -292,7 +295,7 @@ pub(crate) fn module_item(alloc: Global, values: &mut Values<'_>) -> Result<(), 
 
 /// An include of its path, after the macro's name.
 #[tactic(auto, unfolding(vast_rows::specs::Built::make, vast_rows::specs::Built::of_one, vast_rows::specs::Built::of_two, vast_rows::specs::Built::of_three, vast_rows::specs::Built::of_four))]
-pub(crate) fn include_item(alloc: Global, values: &mut Values<'_>) -> Result<(), Fault>
+pub(crate) fn include_item(alloc: Global, values: &mut Values<'_>) -> Result<(), AllocError>
     ensures { IfOk result (λ _. Grown (make action.IncludeItem (seen values.old)) values.new) }
 {
     let Some(_macro) = first::<&str>(values) else {

@@ -9,18 +9,17 @@ ghost use Rattle.vast_read.specs.StatementParts.{arms_of};
 ghost use Rattle.vast_read.specs.StatementView.{block_view};
 
 use crate::children::Children;
-use crate::fault::Fault;
 use crate::made::make::put;
 use crate::made::part::first;
 use crate::made::value::{Alternatives, Value, Values};
 use crate::tree::words::key_word;
 use crate::tree::{Arm, CaseArm, NormalExpr, NormalStatement};
-use std::alloc::Global;
+use std::alloc::{AllocError, Global};
 use vast_literal::Key;
 
 /// An assignment of its sides, with whether it blocks between them.
 #[tactic(auto, unfolding(vast_literal::specs::FileGrammar::assignment, vast_rows::specs::Built::make, vast_rows::specs::Built::of_one, vast_rows::specs::Built::of_two, vast_rows::specs::Built::of_three, vast_rows::specs::Built::of_four))]
-pub(crate) fn assigns(values: &mut Values<'_>) -> Result<(), Fault>
+pub(crate) fn assigns(values: &mut Values<'_>) -> Result<(), AllocError>
     ensures { IfOk result (λ _. Grown (make action.Assigns (seen values.old)) values.new) }
 {
     let Some(left) = first::<Box<NormalExpr>>(values) else {
@@ -43,7 +42,7 @@ pub(crate) fn assigns(values: &mut Values<'_>) -> Result<(), Fault>
 
 /// An assignment by its word, of its sides.
 #[tactic(auto, unfolding(vast_rows::specs::Built::make, vast_rows::specs::Built::of_one, vast_rows::specs::Built::of_two, vast_rows::specs::Built::of_three, vast_rows::specs::Built::of_four))]
-pub(crate) fn assigns_by_word(values: &mut Values<'_>) -> Result<(), Fault>
+pub(crate) fn assigns_by_word(values: &mut Values<'_>) -> Result<(), AllocError>
     ensures { IfOk result (λ _. Grown (make action.AssignsByWord (seen values.old)) values.new) }
 {
     let Some(left) = first::<Box<NormalExpr>>(values) else {
@@ -61,7 +60,7 @@ impl Alternatives {
     #[tactic(auto, using(crate::proofs::Making::arms))]
     pub(crate) fn in_order(
         self,
-    ) -> Result<(Children<Arm>, Option<Children<NormalStatement>>), Fault>
+    ) -> Result<(Children<Arm>, Option<Children<NormalStatement>>), AllocError>
         ensures { IfOk result (λ r. arms_of (map arm_view r.0) (option_map block_view r.1)
             ≡ arms_seen self) }
     {
@@ -78,7 +77,7 @@ impl Alternatives {
 
 /// A statement of the arms of a conditional.
 #[tactic(auto, unfolding(vast_rows::specs::Built::make, vast_rows::specs::Built::of_one, vast_rows::specs::Built::of_two, vast_rows::specs::Built::of_three, vast_rows::specs::Built::of_four))]
-pub(crate) fn chooses(values: &mut Values<'_>) -> Result<(), Fault>
+pub(crate) fn chooses(values: &mut Values<'_>) -> Result<(), AllocError>
     ensures { IfOk result (λ _. Grown (make action.Chooses (seen values.old)) values.new) }
 {
     let Some(alternatives) = first::<Alternatives>(values) else {
@@ -91,7 +90,7 @@ pub(crate) fn chooses(values: &mut Values<'_>) -> Result<(), Fault>
 
 /// The case that follows, which is unique.
 #[tactic(auto, unfolding(vast_rows::specs::Built::make, vast_rows::specs::Built::of_one, vast_rows::specs::Built::of_two, vast_rows::specs::Built::of_three, vast_rows::specs::Built::of_four))]
-pub(crate) fn unique_case(values: &mut Values<'_>) -> Result<(), Fault>
+pub(crate) fn unique_case(values: &mut Values<'_>) -> Result<(), AllocError>
     ensures { IfOk result (λ _. Grown (make action.UniqueCase (seen values.old)) values.new) }
 {
     let Some(statement) = first::<NormalStatement>(values) else {
@@ -103,7 +102,7 @@ pub(crate) fn unique_case(values: &mut Values<'_>) -> Result<(), Fault>
 
 /// A case by that word, of its selector and arms.
 #[tactic(auto, unfolding(vast_rows::specs::Built::make, vast_rows::specs::Built::of_one, vast_rows::specs::Built::of_two, vast_rows::specs::Built::of_three, vast_rows::specs::Built::of_four))]
-pub(crate) fn case_of(alloc: Global, key: Key, values: &mut Values<'_>) -> Result<(), Fault>
+pub(crate) fn case_of(alloc: Global, key: Key, values: &mut Values<'_>) -> Result<(), AllocError>
     ensures { IfOk result (λ _. Grown (make (action.CaseOf key) (seen values.old)) values.new) }
 {
     let Some(selector) = first::<Box<NormalExpr>>(values) else {
@@ -119,7 +118,7 @@ pub(crate) fn case_of(alloc: Global, key: Key, values: &mut Values<'_>) -> Resul
 
 /// The arms of a conditional, of its condition, its block and what follows that.
 #[tactic(auto, unfolding(vast_rows::specs::Built::alternated, vast_rows::specs::Built::make, vast_rows::specs::Built::of_one, vast_rows::specs::Built::of_two, vast_rows::specs::Built::of_three, vast_rows::specs::Built::of_four))]
-pub(crate) fn conditional(alloc: Global, values: &mut Values<'_>) -> Result<(), Fault>
+pub(crate) fn conditional(alloc: Global, values: &mut Values<'_>) -> Result<(), AllocError>
     ensures { IfOk result (λ _. Grown (make action.Conditional (seen values.old)) values.new) }
 {
     let Some(condition) = first::<Box<NormalExpr>>(values) else {
@@ -145,7 +144,7 @@ fn alternated<'t>(
     arm: Arm,
     value: Value<'t>,
     values: &mut Values<'t>,
-) -> Result<(), Fault>
+) -> Result<(), AllocError>
     ensures { IfOk result (λ _. Grown (alternated (arm_view arm).0 (arm_view arm).1
         (value_view value.entry ∷ seen values.old)) values.new) }
 {
@@ -177,7 +176,7 @@ fn alternated<'t>(
 
 /// An arm of a case of its label and block, before others.
 #[tactic(auto, using(crate::proofs::Making::lists), unfolding(vast_rows::specs::Built::make, vast_rows::specs::Built::of_one, vast_rows::specs::Built::of_two, vast_rows::specs::Built::of_three, vast_rows::specs::Built::of_four))]
-pub(crate) fn arm(values: &mut Values<'_>) -> Result<(), Fault>
+pub(crate) fn arm(values: &mut Values<'_>) -> Result<(), AllocError>
     ensures { IfOk result (λ _. Grown (make action.Arm (seen values.old)) values.new) }
 {
     let Some(label) = first::<Box<NormalExpr>>(values) else {
@@ -196,7 +195,7 @@ pub(crate) fn arm(values: &mut Values<'_>) -> Result<(), Fault>
 
 /// An arm of a case without a label, before others.
 #[tactic(auto, using(crate::proofs::Making::lists), unfolding(vast_rows::specs::Built::make, vast_rows::specs::Built::of_one, vast_rows::specs::Built::of_two, vast_rows::specs::Built::of_three, vast_rows::specs::Built::of_four))]
-pub(crate) fn default_arm(values: &mut Values<'_>) -> Result<(), Fault>
+pub(crate) fn default_arm(values: &mut Values<'_>) -> Result<(), AllocError>
     ensures { IfOk result (λ _. Grown (make action.DefaultArm (seen values.old)) values.new) }
 {
     let Some(block) = first::<Children<NormalStatement>>(values) else {

@@ -1,14 +1,12 @@
 //! Casts.
 
-ghost use Rattle.std.specs.Prelude.{◌≡◌, IfOk, IfErr};
+ghost use Rattle.std.specs.Prelude.{◌≡◌, IfOk};
 ghost use Rattle.vast_literal.specs.NormalExpr.{WordCast as NormalWordCast};
-ghost use Rattle.vast_read.specs.declared.fault.Fault.TheVariants.{Memory};
 ghost use Rattle.vast_read.specs.View.{view};
 
-use crate::fault::Fault;
 use crate::tree::expression::NormalExpr;
 use crate::tree::words::key_word;
-use std::alloc::Global;
+use std::alloc::{AllocError, Global};
 use vast_literal::Key;
 
 impl NormalExpr {
@@ -17,10 +15,9 @@ impl NormalExpr {
         alloc: Global,
         key: Key,
         operand: Box<NormalExpr>,
-    ) -> Result<Box<NormalExpr>, Fault>
+    ) -> Result<Box<NormalExpr>, AllocError>
         ensures ok { IfOk result (λ x. view x.value
             ≡ NormalWordCast key (view operand.value)) }
-        ensures err { IfErr result (λ e. e ≡ Memory) }
     {
         let word = key_word(alloc, key)?;
         Ok(Box::new(alloc, NormalExpr::WordCast(word, operand))?)

@@ -5,9 +5,8 @@ ghost use Rattle.vast_read.specs.DeclarationView.{groups_view, declaration_view}
 ghost use Rattle.vast_rows.specs.Built.{declared};
 
 use crate::children::Children;
-use crate::fault::Fault;
 use crate::tree::expression::NormalExpr;
-use std::alloc::Global;
+use std::alloc::{AllocError, Global};
 use vast_names::Word;
 
 /// What stands between brackets in a declaration: an expression, or a range from one to another.
@@ -52,7 +51,7 @@ impl NormalDeclaration {
         groups: Children<Group>,
         name: &str,
         after: Children<Group>,
-    ) -> Result<NormalDeclaration, Fault>
+    ) -> Result<NormalDeclaration, AllocError>
         ensures { IfOk result (λ d. declaration_view d
             ≡ declared (groups_view groups) name.now (groups_view after)) }
     {

@@ -1,8 +1,7 @@
 //! Modules and files.
 
-ghost use Rattle.std.specs.Prelude.{◌≡◌, IfOk, IfErr};
+ghost use Rattle.std.specs.Prelude.{◌≡◌, IfOk};
 ghost use Rattle.vast_literal.specs.NormalFile.{ModulePart, IncludePart};
-ghost use Rattle.vast_read.specs.declared.fault.Fault.TheVariants.{Memory};
 ghost use Rattle.vast_read.specs.DeclarationView.{declaration_view};
 ghost use Rattle.vast_read.specs.FileView.{parameter_view, parameters_view, port_view, ports_view, module_view, item_view};
 ghost use Rattle.vast_read.specs.Internal.FileView.{parameter_of, port_of, module_of};
@@ -10,12 +9,11 @@ ghost use Rattle.vast_read.specs.MemberView.{members_view};
 ghost use Rattle.vast_read.specs.View.{view};
 
 use crate::children::Children;
-use crate::fault::Fault;
 use crate::tree::declaration::NormalDeclaration;
 use crate::tree::expression::NormalExpr;
 use crate::tree::member::NormalMember;
 use crate::tree::words::key_word;
-use std::alloc::Global;
+use std::alloc::{AllocError, Global};
 use vast_literal::Key;
 use vast_names::Word;
 
@@ -72,10 +70,9 @@ impl Parameter {
         alloc: Global,
         declared: NormalDeclaration,
         value: Box<NormalExpr>,
-    ) -> Result<Parameter, Fault>
+    ) -> Result<Parameter, AllocError>
         ensures ok { IfOk result (λ p. parameter_view p
             ≡ parameter_of (declaration_view declared) (view value.value)) }
-        ensures err { IfErr result (λ e. e ≡ Memory) }
     {
         let declaration = Box::new(alloc, declared)?;
         Ok(Parameter { declaration, value })
@@ -88,10 +85,9 @@ impl Port {
         alloc: Global,
         direction: Key,
         declared: NormalDeclaration,
-    ) -> Result<Port, Fault>
+    ) -> Result<Port, AllocError>
         ensures ok { IfOk result (λ p. port_view p
             ≡ port_of direction (declaration_view declared)) }
-        ensures err { IfErr result (λ e. e ≡ Memory) }
     {
         let direction = key_word(alloc, direction)?;
         let declaration = Box::new(alloc, declared)?;
@@ -110,11 +106,10 @@ impl NormalModule {
         parameters: Children<Parameter>,
         ports: Children<Port>,
         members: Children<NormalMember>,
-    ) -> Result<NormalModule, Fault>
+    ) -> Result<NormalModule, AllocError>
         ensures ok { IfOk result (λ m. module_view m
             ≡ module_of name.now (parameters_view parameters)
             (ports_view ports) (members_view members)) }
-        ensures err { IfErr result (λ e. e ≡ Memory) }
     {
         let name = Word::new(alloc, name)?;
         Ok(NormalModule {
@@ -134,20 +129,18 @@ impl NormalItem {
         parameters: Children<Parameter>,
         ports: Children<Port>,
         members: Children<NormalMember>,
-    ) -> Result<NormalItem, Fault>
+    ) -> Result<NormalItem, AllocError>
         ensures ok { IfOk result (λ i. item_view i
             ≡ ModulePart (module_of name.now (parameters_view parameters)
             (ports_view ports) (members_view members))) }
-        ensures err { IfErr result (λ e. e ≡ Memory) }
     {
         let module = NormalModule::new(alloc, name, parameters, ports, members)?;
         Ok(NormalItem::Module(module))
     }
 
     /// An include of this path.
-    pub(crate) fn include(alloc: Global, path: &str) -> Result<NormalItem, Fault>
+    pub(crate) fn include(alloc: Global, path: &str) -> Result<NormalItem, AllocError>
         ensures ok { IfOk result (λ i. item_view i ≡ IncludePart path.now) }
-        ensures err { IfErr result (λ e. e ≡ Memory) }
     {
         let path = Word::new(alloc, path)?;
         Ok(NormalItem::Include(path))

@@ -1,8 +1,7 @@
 //! Members of modules and of generate loops.
 
-ghost use Rattle.std.specs.Prelude.{◌≡◌, ◌<◌, ◌≤◌, ◌+◌, ⊤, IfOk, IfErr, MatchOption, Some, None, option_map};
+ghost use Rattle.std.specs.Prelude.{◌≡◌, ◌<◌, ◌≤◌, ◌+◌, ⊤, IfOk, MatchOption, Some, None, option_map};
 ghost use Rattle.vast_literal.specs.NormalFile.{EdgeEvent, NameEvent, DeclarationPart, ParameterPart, MacroPart, InstancePart, AlwaysPart, ConditionalPart, FunctionPart, LoopPart};
-ghost use Rattle.vast_read.specs.declared.fault.Fault.TheVariants.{Memory};
 ghost use Rattle.vast_read.specs.DeclarationView.{declaration_view, declarations_view};
 ghost use Rattle.vast_read.specs.Internal.MemberRelease.{member_left, member_alone, members_beside, members_alone, waiting_alone};
 ghost use Rattle.vast_read.specs.MemberView.{event_view, events_view, connection_view, connections_view, member_view, members_view};
@@ -12,13 +11,12 @@ ghost use Rattle.vast_read.specs.StatementView.{statement_view, block_view};
 ghost use Rattle.vast_read.specs.View.{view, listed};
 
 use crate::children::Children;
-use crate::fault::Fault;
 use crate::tree::boxed::{Always, Function, Instance, LoopRange, MacroUse};
 use crate::tree::declaration::NormalDeclaration;
 use crate::tree::expression::NormalExpr;
 use crate::tree::statement::NormalStatement;
 use crate::tree::words::key_word;
-use std::alloc::Global;
+use std::alloc::{AllocError, Global};
 use vast_literal::Key;
 use vast_names::Word;
 
@@ -74,10 +72,9 @@ impl Event {
         alloc: Global,
         edge: Key,
         expression: Box<NormalExpr>,
-    ) -> Result<Event, Fault>
+    ) -> Result<Event, AllocError>
         ensures ok { IfOk result (λ e. event_view e
             ≡ EdgeEvent edge (view expression.value)) }
-        ensures err { IfErr result (λ e. e ≡ Memory) }
     {
         let edge = key_word(alloc, edge)?;
         Ok(Event {
@@ -87,9 +84,8 @@ impl Event {
     }
 
     /// A change of what has this name.
-    pub(crate) fn of_name(alloc: Global, name: &str) -> Result<Event, Fault>
+    pub(crate) fn of_name(alloc: Global, name: &str) -> Result<Event, AllocError>
         ensures ok { IfOk result (λ e. event_view e ≡ NameEvent name.now) }
-        ensures err { IfErr result (λ e. e ≡ Memory) }
     {
         let name = NormalExpr::Name(Word::new(alloc, name)?);
         let expression = Box::new(alloc, name)?;
@@ -106,10 +102,9 @@ impl Connection {
         alloc: Global,
         name: &str,
         value: Box<NormalExpr>,
-    ) -> Result<Connection, Fault>
+    ) -> Result<Connection, AllocError>
         ensures ok { IfOk result (λ c. connection_view c
             ≡ given name.now (Some (view value.value))) }
-        ensures err { IfErr result (λ e. e ≡ Memory) }
     {
         let name = Word::new(alloc, name)?;
         Ok(Connection {
@@ -119,9 +114,8 @@ impl Connection {
     }
 
     /// An open port.
-    pub(crate) fn open(alloc: Global, name: &str) -> Result<Connection, Fault>
+    pub(crate) fn open(alloc: Global, name: &str) -> Result<Connection, AllocError>
         ensures ok { IfOk result (λ c. connection_view c ≡ given name.now None) }
-        ensures err { IfErr result (λ e. e ≡ Memory) }
     {
         let name = Word::new(alloc, name)?;
         Ok(Connection { name, value: None })
@@ -208,10 +202,9 @@ impl NormalMember {
     pub(crate) fn declaration(
         alloc: Global,
         declared: NormalDeclaration,
-    ) -> Result<NormalMember, Fault>
+    ) -> Result<NormalMember, AllocError>
         ensures ok { IfOk result (λ m. member_view m
             ≡ DeclarationPart (declaration_view declared)) }
-        ensures err { IfErr result (λ e. e ≡ Memory) }
     {
         let declared = Box::new(alloc, declared)?;
         Ok(NormalMember::Declaration(declared))
@@ -223,10 +216,9 @@ impl NormalMember {
         key: Key,
         declared: NormalDeclaration,
         value: Box<NormalExpr>,
-    ) -> Result<NormalMember, Fault>
+    ) -> Result<NormalMember, AllocError>
         ensures ok { IfOk result (λ m. member_view m
             ≡ ParameterPart key (declaration_view declared) (view value.value)) }
-        ensures err { IfErr result (λ e. e ≡ Memory) }
     {
         let word = key_word(alloc, key)?;
         let declared = Box::new(alloc, declared)?;
@@ -239,10 +231,9 @@ impl NormalMember {
         name: &str,
         arguments: Option<Children<NormalExpr>>,
         has_semicolon: bool,
-    ) -> Result<NormalMember, Fault>
+    ) -> Result<NormalMember, AllocError>
         ensures ok { IfOk result (λ m. member_view m
             ≡ MacroPart name.now (option_map listed arguments) has_semicolon) }
-        ensures err { IfErr result (λ e. e ≡ Memory) }
     {
         let name = Word::new(alloc, name)?;
         let macro_use = MacroUse {
@@ -261,11 +252,10 @@ impl NormalMember {
         parameters: Children<Connection>,
         name: &str,
         connections: Children<Connection>,
-    ) -> Result<NormalMember, Fault>
+    ) -> Result<NormalMember, AllocError>
         ensures ok { IfOk result (λ m. member_view m
             ≡ InstancePart definition.now (connections_view parameters)
             name.now (connections_view connections)) }
-        ensures err { IfErr result (λ e. e ≡ Memory) }
     {
         let definition = Word::new(alloc, definition)?;
         let name = Word::new(alloc, name)?;
@@ -285,10 +275,9 @@ impl NormalMember {
         key: Key,
         events: Children<Event>,
         body: Children<NormalStatement>,
-    ) -> Result<NormalMember, Fault>
+    ) -> Result<NormalMember, AllocError>
         ensures ok { IfOk result (λ m. member_view m
             ≡ AlwaysPart key (events_view events) (block_view body)) }
-        ensures err { IfErr result (λ e. e ≡ Memory) }
     {
         let word = key_word(alloc, key)?;
         let always = Always { word, events, body };
@@ -297,10 +286,12 @@ impl NormalMember {
     }
 
     /// A conditional generate construct.
-    pub(crate) fn conditional(alloc: Global, choice: NormalStatement) -> Result<NormalMember, Fault>
+    pub(crate) fn conditional(
+        alloc: Global,
+        choice: NormalStatement,
+    ) -> Result<NormalMember, AllocError>
         ensures ok { IfOk result (λ m. member_view m
             ≡ ConditionalPart (arms_in (statement_view choice))) }
-        ensures err { IfErr result (λ e. e ≡ Memory) }
     {
         let choice = Box::new(alloc, choice)?;
         Ok(NormalMember::Conditional(choice))
@@ -313,11 +304,10 @@ impl NormalMember {
         inputs: Children<NormalDeclaration>,
         locals: Children<NormalDeclaration>,
         body: Children<NormalStatement>,
-    ) -> Result<NormalMember, Fault>
+    ) -> Result<NormalMember, AllocError>
         ensures ok { IfOk result (λ m. member_view m
             ≡ FunctionPart (declaration_view output) (declarations_view inputs)
             (declarations_view locals) (block_view body)) }
-        ensures err { IfErr result (λ e. e ≡ Memory) }
     {
         let output = Box::new(alloc, output)?;
         let function = Function {
@@ -338,11 +328,10 @@ impl NormalMember {
         end: Box<NormalExpr>,
         label: Option<&str>,
         members: Children<NormalMember>,
-    ) -> Result<NormalMember, Fault>
+    ) -> Result<NormalMember, AllocError>
         ensures ok { IfOk result (λ m. member_view m
             ≡ LoopPart variable.now (view start.value) (view end.value)
             (option_map (λ t. t.now) label.entry) (members_view members)) }
-        ensures err { IfErr result (λ e. e ≡ Memory) }
     {
         let variable = Word::new(alloc, variable)?;
         let label = Word::maybe(alloc, label)?;

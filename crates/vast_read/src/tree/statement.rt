@@ -8,7 +8,6 @@ ghost use Rattle.vast_read.specs.Internal.StatementView.{label_view};
 ghost use Rattle.vast_read.specs.View.{view};
 
 use crate::children::Children;
-use crate::fault::Fault;
 use crate::tree::expression::NormalExpr;
 use std::alloc::Global;
 use vast_names::Word;
