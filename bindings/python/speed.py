@@ -1,5 +1,8 @@
 #!/usr/bin/env python3
-"""Calls a second: so many wires (100,000, or the number given) with an assignment each, and the printing of their file."""
+"""Calls a second: so many wires (100,000, or the number given) with an assignment each, and the printing of their file.
+
+The rate is that of all of them, and the best of a thousand of them, which other work on the machine slows less.
+"""
 import os
 import sys
 import time
@@ -14,17 +17,21 @@ def measure(wires: int, strict: bool) -> None:
         byte = f.make_bit_vector_type(8)
         a = f.add_input(m, "a", byte)
         start = time.perf_counter()
-        for i in range(wires):
-            wire = f.add_wire(m, f"w{i}", byte)
-            f.add_member_continuous_assignment(m, f.make_continuous_assignment(wire, a))
-        f.flush()
+        times = []
+        for first in range(0, wires, 1000):
+            since = time.perf_counter()
+            for i in range(first, min(first + 1000, wires)):
+                wire = f.add_wire(m, f"w{i}", byte)
+                f.add_member_continuous_assignment(m, f.make_continuous_assignment(wire, a))
+            f.flush()
+            times.append(time.perf_counter() - since)
         made = time.perf_counter()
         text = f.emit()
         printed = time.perf_counter()
     rate = 3 * wires / (made - start)
     print(
-        f"{'strict' if strict else 'not strict'}: {3 * wires} calls in {made - start:.2f} s, {rate:,.0f} a second;"
-        f" {len(text)} characters printed in {printed - made:.2f} s"
+        f"{'strict' if strict else 'not strict'}: {3 * wires} calls in {made - start:.2f} s, {rate:,.0f} a second,"
+        f" {3000 / min(times):,.0f} at best; {len(text)} characters printed in {printed - made:.2f} s"
     )
 
 

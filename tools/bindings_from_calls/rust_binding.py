@@ -4,7 +4,7 @@ import pathlib
 import re
 import shutil
 
-from python_words import IN_FUNCTION, REFUSALS
+from python_words import REFUSALS
 from rust_arms import CALLS, test_text
 from rust_text import rustfmt
 from waiting import COMPARED, tests
@@ -34,12 +34,11 @@ LOOKS = {
 }
 
 # What tells for certain that a clause is met, or that a call is not refused so. A call waits where all of its own are told so;
-# one with a clause that is not here is made at once.
+# one with a clause that is not here is made at once, as are calls that enter names: to keep all names takes longer.
 TELLS = {
     **COMPARED,
     "name ≢ []": "!name.is_empty()",
     "AreDimensions dimensions": "are_dimensions(dimensions)",
-    "NameIsFree owner name": "self.known().enter(owner_step, name)",
     "has_else (slice_get nests conditional.id.index) ≡ false": "!self.known().has_else(conditional_step)",
     "is_castable (type_of data_type)": "!self.known().is_array(data_type_step)",
     # Asserted before.
@@ -48,14 +47,10 @@ TELLS = {
     REFUSALS["make_literal"]: "is_small_literal(text)",
     REFUSALS["make_binary_pattern"]: "is_pattern(bits_msb)",
     REFUSALS["case_set_unique"]: "!unique || self.file_type == VastFileType::SystemVerilog",
-    REFUSALS["add_reg"]: "self.known().enter(owner_step, name)",
-    REFUSALS["add_function"]: "self.known().enter(owner_step, name) && !self.known().is_array(result_type_step)",
-    IN_FUNCTION: "self.known().enter(function_step, name)",
 }
 
 # What is kept of a call that is made, to tell so of later ones.
 KEEPS = {
-    "add_function": "self.known().enter(made.step, name);",
     "conditional_add_else": "self.known().keep_else(conditional_step);",
 }
 

@@ -16,7 +16,7 @@ static NEXT_FILE: AtomicU64 = AtomicU64::new(1);
 
 /// A file of Verilog or SystemVerilog, which owns all that its handles name.
 ///
-/// Calls that nothing can refuse wait, and are made with the next call that may be refused, asks or prints, or when 64 KB of
+/// Calls that nothing can refuse wait, and are made with the next call that may be refused, asks or prints, or when 16 KB of
 /// them wait. What waits when the file is dropped is let go.
 ///
 /// # Panics

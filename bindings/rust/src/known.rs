@@ -4,7 +4,7 @@
 use crate::kinds::ModulePortDirection;
 use crate::mixer::Mixing;
 use std::collections::{HashMap, HashSet};
-use std::hash::{BuildHasher, Hash, Hasher};
+use std::hash::{Hash, Hasher};
 
 /// A port of a module; types and names by the steps that answered them.
 pub(crate) struct Port {
@@ -47,8 +47,6 @@ pub(crate) struct Known {
     pub(crate) widths: HashMap<usize, Width, Mixing>,
     /// What such a call returned, by its step.
     answers: HashMap<Asked, usize, Mixing>,
-    /// A digest of each name of a module or a function, beside the step of its owner.
-    names: HashSet<u32, Mixing>,
     /// The conditionals that have their `else`.
     with_else: HashSet<usize, Mixing>,
 }
@@ -71,14 +69,6 @@ impl Known {
 
     pub(crate) fn keep_answer(&mut self, call: &'static str, of: usize, answer: usize) {
         self.answers.insert(Asked { of, call }, answer);
-    }
-
-    /// Keeps a name of a module or a function, and returns whether it is surely new there. One of another digest is; one of
-    /// a digest that is there may be another name all the same, or that of a call that was refused.
-    #[inline]
-    pub(crate) fn enter(&mut self, owner: usize, name: &str) -> bool {
-        let digest = self.names.hasher().hash_one((owner, name));
-        self.names.insert(digest as u32)
     }
 
     /// Keeps that the conditional has its `else`.

@@ -3,7 +3,7 @@
 use std::io::Write;
 
 /// Bytes from which on no further line waits.
-const ROOM: usize = 1 << 16;
+const ROOM: usize = 1 << 14;
 
 /// Lines that wait, the last of which may be in the making: a call's name and its arguments, each after a space.
 #[derive(Default)]

@@ -43,9 +43,8 @@ impl VastFile {
     ) -> LogicRef {
         let owner_step = self.own(owner.0);
         let data_type_step = self.own(data_type.0);
-        let is_certain = self.known().enter(owner_step, name);
         let made = self.made(
-            is_certain,
+            false,
             "AddInput",
             "module ports must have unique names",
             |lines| lines.step(owner_step).text(name).step(data_type_step),
@@ -66,9 +65,8 @@ impl VastFile {
     ) -> LogicRef {
         let owner_step = self.own(owner.0);
         let data_type_step = self.own(data_type.0);
-        let is_certain = self.known().enter(owner_step, name);
         let made = self.made(
-            is_certain,
+            false,
             "AddOutput",
             "module ports must have unique names",
             |lines| lines.step(owner_step).text(name).step(data_type_step),
@@ -94,9 +92,8 @@ impl VastFile {
     ) -> LogicRef {
         let owner_step = self.own(owner.0);
         let data_type_step = self.own(data_type.0);
-        let is_certain = self.known().enter(owner_step, name);
         let made = self.made(
-            is_certain,
+            false,
             "AddInout",
             "module ports must have unique names",
             |lines| lines.step(owner_step).text(name).step(data_type_step),
@@ -118,9 +115,8 @@ impl VastFile {
     ) -> LogicRef {
         let owner_step = self.own(owner.0);
         let data_type_step = self.own(data_type.0);
-        let is_certain = self.known().enter(owner_step, name);
         let made = self.made(
-            is_certain,
+            false,
             "AddLogicInput",
             "module ports must have unique names",
             |lines| lines.step(owner_step).text(name).step(data_type_step),
@@ -142,9 +138,8 @@ impl VastFile {
     ) -> LogicRef {
         let owner_step = self.own(owner.0);
         let data_type_step = self.own(data_type.0);
-        let is_certain = self.known().enter(owner_step, name);
         let made = self.made(
-            is_certain,
+            false,
             "AddLogicOutput",
             "module ports must have unique names",
             |lines| lines.step(owner_step).text(name).step(data_type_step),
@@ -171,9 +166,8 @@ impl VastFile {
     ) -> LogicRef {
         let owner_step = self.own(owner.0);
         let data_type_step = self.own(data_type.0);
-        let is_certain = self.known().enter(owner_step, name);
         LogicRef(self.made(
-            is_certain,
+            false,
             "AddWire",
             "module wires must have unique names",
             |lines| lines.step(owner_step).text(name).step(data_type_step),
@@ -192,8 +186,7 @@ impl VastFile {
     ) -> Result<LogicRef, VastError> {
         let owner_step = self.own(owner.0);
         let data_type_step = self.own(data_type.0);
-        let is_certain = self.known().enter(owner_step, name);
-        Ok(LogicRef(self.allowed(is_certain, "AddReg", |lines| {
+        Ok(LogicRef(self.allowed(false, "AddReg", |lines| {
             lines.step(owner_step).text(name).step(data_type_step)
         })?))
     }
@@ -210,8 +203,7 @@ impl VastFile {
     ) -> Result<LogicRef, VastError> {
         let owner_step = self.own(owner.0);
         let data_type_step = self.own(data_type.0);
-        let is_certain = self.known().enter(owner_step, name);
-        Ok(LogicRef(self.allowed(is_certain, "AddLogic", |lines| {
+        Ok(LogicRef(self.allowed(false, "AddLogic", |lines| {
             lines.step(owner_step).text(name).step(data_type_step)
         })?))
     }

@@ -23,13 +23,11 @@ impl VastFile {
     ) -> Result<VastFunction, VastError> {
         let owner_step = self.own(owner.0);
         let result_type_step = self.own(result_type.0);
-        let is_certain =
-            self.known().enter(owner_step, name) && !self.known().is_array(result_type_step);
-        let made = self.allowed(is_certain, "AddFunction", |lines| {
-            lines.step(owner_step).text(name).step(result_type_step)
-        })?;
-        self.known().enter(made.step, name);
-        Ok(VastFunction(made))
+        Ok(VastFunction(self.allowed(
+            false,
+            "AddFunction",
+            |lines| lines.step(owner_step).text(name).step(result_type_step),
+        )?))
     }
 
     /// An input of this type with the kind word `reg`, as the function's last; returns its name as an
@@ -45,9 +43,8 @@ impl VastFile {
     ) -> Result<LogicRef, VastError> {
         let function_step = self.own(function.0);
         let data_type_step = self.own(data_type.0);
-        let is_certain = self.known().enter(function_step, name);
         Ok(LogicRef(self.allowed(
-            is_certain,
+            false,
             "FunctionAddInput",
             |lines| lines.step(function_step).text(name).step(data_type_step),
         )?))
@@ -66,9 +63,8 @@ impl VastFile {
     ) -> Result<LogicRef, VastError> {
         let function_step = self.own(function.0);
         let data_type_step = self.own(data_type.0);
-        let is_certain = self.known().enter(function_step, name);
         Ok(LogicRef(self.allowed(
-            is_certain,
+            false,
             "FunctionAddLogicInput",
             |lines| lines.step(function_step).text(name).step(data_type_step),
         )?))
@@ -86,9 +82,8 @@ impl VastFile {
     ) -> Result<LogicRef, VastError> {
         let function_step = self.own(function.0);
         let data_type_step = self.own(data_type.0);
-        let is_certain = self.known().enter(function_step, name);
         Ok(LogicRef(self.allowed(
-            is_certain,
+            false,
             "FunctionAddReg",
             |lines| lines.step(function_step).text(name).step(data_type_step),
         )?))
@@ -106,9 +101,8 @@ impl VastFile {
     ) -> Result<LogicRef, VastError> {
         let function_step = self.own(function.0);
         let data_type_step = self.own(data_type.0);
-        let is_certain = self.known().enter(function_step, name);
         Ok(LogicRef(self.allowed(
-            is_certain,
+            false,
             "FunctionAddLogic",
             |lines| lines.step(function_step).text(name).step(data_type_step),
         )?))
