@@ -144,7 +144,7 @@ def line_of(function, lines, modules):
 
 
 def of_file(source, names, modules):
-    """The lines of a file's calls, behind what its first comment says."""
+    """The lines of a file's calls, after what its first comment says."""
     functions = [it for it in source.functions if it.is_public and is_reached(it, names, modules)]
     if not functions:
         return ""

@@ -98,7 +98,7 @@ class Source:
         return Function(self, path, (found["public"] or "").strip() == "pub", self.text[: found.start()].count("\n") + 1)
 
     def read_clauses(self, function, start):
-        """Reads a signature up to its first clause, body or semicolon, and the clauses; answers where they end."""
+        """Reads a signature up to its first clause, body or semicolon, and the clauses; returns where they end."""
         depth, i = 0, start
         while i < len(self.text):
             c = self.text[i]

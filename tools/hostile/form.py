@@ -38,7 +38,7 @@ class Fault(Exception):
 
 
 def need(pattern, line, at):
-    """The place behind what the pattern finds."""
+    """The place after what the pattern finds."""
     found = re.compile(pattern).match(line, at)
     if not found:
         raise Fault
@@ -46,7 +46,7 @@ def need(pattern, line, at):
 
 
 def argument(kind, line, at, names):
-    """The place behind an argument and the space or the end that follows it."""
+    """The place after an argument and the space or the end that follows it."""
     if isinstance(kind, str):
         end = need(f"(?:{PATTERNS[kind]})(?: |\\Z)", line, at)
         word = line[at:end].rstrip(" ")
@@ -69,7 +69,7 @@ def argument(kind, line, at, names):
 
 
 def read_line(line, names):
-    """Reads a line behind the dialect. Its name is taken, be the line in the form or not."""
+    """Reads a line after the dialect. Its name is taken, be the line in the form or not."""
     given = re.match(r"([A-Za-z_][A-Za-z0-9_]*) = ", line)
     try:
         if given and given[1] in names:

@@ -6,14 +6,14 @@ the rules of `docs/` and `crates/vast_literal/specs/FileGrammar.antt`. What is m
 - openings only: whatever is opened is closed in every derived text;
 - a closing missing, and one too many: brackets, `?` with its `:` and the words `begin`, `case` and `module` with their
   ends come in pairs there;
-- a token too many: a name stands behind the core, where the grammar wants a sign, a mark or a keyword;
+- a token too many: a name stands after the core, where the grammar wants a sign, a mark or a keyword;
 - no last operand: a sign, a mark or a comma stands before what closes its expression.
 
 `grammar.py`, which reads texts by itself, must find the same of each at a few levels.
 """
 import collections
 
-# The texts around the levels, what is written for each level before and behind the core, and the core. `extra` is the
+# The texts around the levels, what is written for each level before and after the core, and the core. `extra` is the
 # core with a token too many, and `is_chain` says that no text is derived without the core.
 Shape = collections.namedtuple("Shape", "title head opening core closing foot extra is_chain")
 
@@ -35,12 +35,12 @@ def inner(title, opening, closing):
 
 
 def chain(title, opening, frame=EXPRESSION, core="a"):
-    """Levels that are written one behind the other before the last operand."""
+    """Levels that are written one after the other before the last operand."""
     return Shape(title, frame[0], opening, core, "", frame[1], core + " a ", True)
 
 
 def flat(title, frame, item, core=""):
-    """Items one behind the other."""
+    """Items one after the other."""
     return Shape(title, frame[0], item, core, "", frame[1], core + " a ", False)
 
 

@@ -16,7 +16,7 @@ class Stored:
         self.names = {LINE.match(it)[1]: number for number, it in enumerate(self.steps)}
 
     def cut(self, count):
-        """The first steps, so many, behind the title, with the questions that name no later one."""
+        """The first steps, so many, after the title, with the questions that name no later one."""
         asked = self.questions if count == len(self.steps) else [it for it in self.questions if self.last(it) < count]
         return [b"== " + self.title, self.dialect, *self.steps[:count], *asked]
 
@@ -26,7 +26,7 @@ class Stored:
         return max([int(it) if it.isdigit() else self.names.get(it, -1) for it in words], default=-1)
 
     def cuts(self):
-        """Cut behind each step whose call is the list's first of its name, and behind all steps."""
+        """Cut after each step whose call is the list's first of its name, and after all steps."""
         called = [LINE.match(it)[2] for it in self.steps]
         ends = {called.index(it) + 1 for it in called} | {len(called)}
         return [self.cut(it) for it in sorted(ends)]

@@ -1,7 +1,7 @@
 """What the readers of Yosys's and Verilator's dumps share."""
 from collections import namedtuple
 
-# A node of a dump: its word, what stands behind that, and its children by group (Yosys has one group).
+# A node of a dump: its word, what stands after that, and its children by group (Yosys has one group).
 Node = namedtuple("Node", "word rest groups")
 
 

@@ -123,7 +123,7 @@ class Random:
         magnitude = (1 << width) - value if negative else value
         text = f"{width}'{FORMATS[form]}{format(magnitude, {'b': 'b', 'h': 'x'}.get(FORMATS[form], 'd'))}"
         spelled = f"bits[{width}]:{value}"
-        literal = Literal(text, "behind a sign" if negative else "MakeLiteral", (spelled, form))
+        literal = Literal(text, "after a sign" if negative else "MakeLiteral", (spelled, form))
         number = ("number", form == "SignedDecimal", bits_of(width, magnitude), literal)
         return ("unary", "-", number) if negative else number
 
@@ -145,7 +145,7 @@ class Random:
         if form == "decimal":
             return integer(value)
         if form == "negative":
-            return ("unary", "-", (*integer(value + 1), Literal(str(value + 1), "behind a sign", (-1 - value,))))
+            return ("unary", "-", (*integer(value + 1), Literal(str(value + 1), "after a sign", (-1 - value,))))
         text = {"UnsizedBinary": f"'b{value:b}", "UnsizedDecimal": str(value), "UnsizedHex": f"'h{value:x}"}[form]
         literal = Literal(text, "MakeLiteral", (f"bits[32]:{value}", form))
         return ("number", form == "UnsizedDecimal", bits_of(32, value), literal)

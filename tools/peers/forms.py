@@ -62,11 +62,11 @@ def forms():
 
 def listed(form):
     """The whole list of a form."""
-    behind = ""
+    after = ""
     for name, (left, right) in BEHIND.items():
         if re.search(rf"(?m)^{name} = ", form.lines):
-            behind = f"\nlast = MakeContinuousAssignment {left} {right}\nAddMemberContinuousAssignment m last"
-    return f"{form.dialect}\n{BEFORE}{form.lines}{behind}"
+            after = f"\nlast = MakeContinuousAssignment {left} {right}\nAddMemberContinuousAssignment m last"
+    return f"{form.dialect}\n{BEFORE}{form.lines}{after}"
 
 
 def told(form, text, plain):

@@ -93,7 +93,7 @@ class ModuleWriter(Writer):
         self.call("GenerateAddInstantiation" if prefix else "AddMemberInstantiation", owner, made)
 
     def body(self, block, statements):
-        """The statements of a block, each behind the one before."""
+        """The statements of a block, each after the one before."""
         for kind, *parts in statements:
             if kind in ASSIGNMENTS:
                 self.call(ASSIGNMENTS[kind], block, *self.all(parts))

@@ -87,7 +87,7 @@ def cast(_, given):
 
 
 def typed(_, given):
-    """A cast to a type, which stands behind the value."""
+    """A cast to a type, which stands after the value."""
     kind = given[1]
     return ("type", kind.rest.split()[0], expression(given[0]))
 

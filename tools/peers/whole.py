@@ -39,15 +39,15 @@ FORMS = {
 
 
 def declared(data_type, word):
-    """A type before its name, and the array's dimensions behind it."""
+    """A type before its name, and the array's dimensions after it."""
     signed, high, dimensions = data_type
     before = f"{word} {'signed ' if signed else ''}{f'[{expression(high)}:0] ' if high else ''}".lstrip()
     return before, "".join(f"[{expression(it)}]" for it in dimensions)
 
 
 def variable(word, name, data_type):
-    before, behind = declared(data_type, word)
-    return f"{before}{name}{behind}"
+    before, after = declared(data_type, word)
+    return f"{before}{name}{after}"
 
 
 def block(body):
@@ -62,8 +62,8 @@ def statement(tree):
         return f"{expression(tree[1])} {tree[0]} {expression(tree[2])};"
     if tree[0] == "if":
         condition, then, otherwise = tree[1:]
-        behind = "" if otherwise is None else f" else {block(otherwise)}"
-        return f"if ({expression(condition)}) {block(then)}{behind}"
+        after = "" if otherwise is None else f" else {block(otherwise)}"
+        return f"if ({expression(condition)}) {block(then)}{after}"
     word, unique, selector, arms = tree[1:]
     written = [f"{'default' if label is None else expression(label)}: {block(body)}" for label, body in arms]
     return f"{'unique ' if unique else ''}{word} ({expression(selector)}) {' '.join(written)} endcase"

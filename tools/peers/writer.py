@@ -51,13 +51,13 @@ class Writer:
         return self.call({"0": "MakeUnsizedZeroLiteral", "1": "MakeUnsizedOneLiteral", "x": "MakeUnsizedXLiteral"}[digit])
 
     def make_unary(self, sign, operand):
-        """An operator; or a literal that is written behind a sign."""
-        if operand[0] == "number" and len(operand) == 4 and operand[3].call == "behind a sign":
+        """An operator; or a literal that is written after a sign."""
+        if operand[0] == "number" and len(operand) == 4 and operand[3].call == "after a sign":
             return self.negative(*operand[3].arguments)
         return self.call(self.source.choice(UNARY[sign]), self.expression(operand))
 
     def negative(self, value, form=None):
-        """The literal that is written behind a sign."""
+        """The literal that is written after a sign."""
         if form is None:
             return self.call("MakeUnsizedDecimalLiteral", value)
         return self.call("MakeLiteral", value, Word(form))
