@@ -31,7 +31,7 @@ static int handles(void)
     CHECK(vast_make_add(&one, a, a, &sum) == VAST_OK && !is_none(sum.id) && one.count == 2 && is_told(&one, ""));
     CHECK(vast_make_concat(&one, &b, 1, NULL) == VAST_CONDITION && vast_make_concat(&one, NULL, 0, NULL) == VAST_OK);
     CHECK(vast_file_open(&one, VAST_SYSTEMVERILOG) == VAST_OK && one.count == 0);
-    CHECK(vast_make_not(&one, a, NULL) == VAST_CONDITION);
+    CHECK(vast_make_not(&one, a, NULL) == VAST_CONDITION && is_told(&one, "MakeNot: a handle that is none of this file"));
     CHECK(vast_make_name(&one, vast_str("c"), &b) == VAST_OK && vast_make_add(&one, b, a, &sum) == VAST_CONDITION);
     vast_file_close(&one);
     vast_file_close(&one);

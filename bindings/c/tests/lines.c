@@ -10,7 +10,7 @@ static int32_t lines(vast_session *session, const char *text, size_t *taken)
     return vast_lines(session, (const uint8_t *)text, strlen(text), taken);
 }
 
-/* Whether the text is this one, and no byte behind it is written. */
+/* Whether the text is this one, and no byte after it is written. */
 static int is_text(vast_session *session, int32_t text, const char *wanted)
 {
     uint8_t room[512];
@@ -87,7 +87,7 @@ static int faults(void)
     return 0;
 }
 
-/* Whether these lines are told so, and no byte behind that is written. */
+/* Whether these lines are told so, and no byte after that is written. */
 static int is_told(int32_t dialect, const char *text, const char *wanted)
 {
     uint8_t room[512];
