@@ -22,5 +22,6 @@ pub mod KeptWords
 mod KeptCalls
 mod KeptRegisters
 mod KeptReductions
+mod KeptLists
 pub mod Callers
 mod Presence

@@ -19,6 +19,7 @@ use vast_core::{Expr, GenerateLoop, Scope, VastAlwaysBase, VastModule, VastState
 use vast_literal::{VastError, VastFault};
 
 /// The words that refuse the event at this place of a list, for an always block that begins with the word.
+#[tactic(auto, unfolding(crate::specs::AlwaysBlocks::wrong_event))]
 fn wrong_event(alloc: Global, word: &str, index: usize) -> Result<String, AllocError>
     ensures { IfOk result (λ text. string_bytes text ≡ wrong_event word.now index) }
 {

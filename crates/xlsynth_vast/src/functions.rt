@@ -26,6 +26,7 @@ use vast_core::{
 use vast_literal::{VastError, VastFault};
 
 /// The words that refuse a name which the function has already: they list all its names in the order of their bytes.
+#[tactic(auto, unfolding(crate::specs::Functions::declared_in_function))]
 fn declared_in_function(
     alloc: Global,
     kind: &str,

@@ -107,6 +107,7 @@ impl VastFile {
 
     /// The bits of the port's type, with those of all elements of an array; 0 where they aren't known or are more than
     /// an `i64` can be. It takes no memory.
+    #[tactic(auto, using(crate::proofs::Inspected::width_refused))]
     pub fn port_width(&self, port: ModulePort) -> i64
         requires { OwnsPort self.now port }
         ensures { width_at self.now port ≡ Some result }

@@ -2,7 +2,7 @@
 //!
 //! A [`VastFile`] owns every node of one file, and returns small copyable handles. [`VastFile::emit`] prints the
 //! file; the text is the written layout of the tree that the calls built, byte for byte.
-#![tactic(auto)]
+#![tactic(auto, using(crate::proofs::KeptLists::kept))]
 
 mod always;
 mod artifacts;

@@ -126,7 +126,7 @@ fn array_reduced(
 /// type: expected [2, 3], got [2, 4]`, where the array is a name or a cast with its type, or an element of one;
 /// `packed-array element count exceeds usize`, for a product of 2^64 or more. `Memory` as
 /// [`logical_or_reduce`](crate::helpers::logical_or_reduce).
-#[tactic(auto, using(crate::proofs::UnseenNodes::unseen))]
+#[tactic(auto, using(crate::proofs::UnseenNodes::unseen, crate::proofs::KeptLists::kept))]
 pub fn bitwise_or_reduce_array_elements(
     value: &IndexableExpr,
     dimensions: &[i64],

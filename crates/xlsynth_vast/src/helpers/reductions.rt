@@ -107,7 +107,7 @@ pub(crate) fn bitwise_reduced(values: &[Expr], file: &mut VastFile) -> Result<Ex
 /// # Errors
 /// `Memory` where a growth was refused. The file then may have expressions more that nothing uses; all else of it is
 /// as it was.
-#[tactic(auto, using(crate::proofs::UnseenNodes::unseen))]
+#[tactic(auto, using(crate::proofs::UnseenNodes::unseen, crate::proofs::KeptLists::kept))]
 pub fn logical_or_reduce(
     values: &[Expr],
     invert: bool,
@@ -129,7 +129,7 @@ pub fn logical_or_reduce(
 ///
 /// # Errors
 /// As [`logical_or_reduce`].
-#[tactic(auto, using(crate::proofs::UnseenNodes::unseen))]
+#[tactic(auto, using(crate::proofs::UnseenNodes::unseen, crate::proofs::KeptLists::kept))]
 pub fn logical_and_reduce(
     values: &[Expr],
     invert: bool,
@@ -150,7 +150,7 @@ pub fn logical_and_reduce(
 ///
 /// # Errors
 /// As [`logical_or_reduce`].
-#[tactic(auto, using(crate::proofs::UnseenNodes::unseen))]
+#[tactic(auto, using(crate::proofs::UnseenNodes::unseen, crate::proofs::KeptLists::kept))]
 pub fn bitwise_or_reduce(values: &[Expr], file: &mut VastFile) -> Result<Expr, VastFault>
     requires { All (OwnsExpr file.old) values.now }
     ensures made { MakesTree file.old file.new result

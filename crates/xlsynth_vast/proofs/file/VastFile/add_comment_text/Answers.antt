@@ -1,6 +1,0 @@
-use Rattle.xlsynth_vast.proofs.Kept.{kept_by}
-use Rattle.xlsynth_vast.proofs.KeptWords.{item-kept}
-use Rattle.xlsynth_vast.proofs.file.VastFile.add_comment_text.Goals as goal
-
-pub returns-clause-kept : goal.returns-clause-kept
-returns-clause-kept c = kept_by _ _ _ _ _ _ c.append_file_comment.ensures c.self.view_is (item-kept _ _)

@@ -1,6 +1,0 @@
-use Rattle.xlsynth_vast.proofs.Kept.{keeps-then, kept_by}
-use Rattle.xlsynth_vast.proofs.KeptWords.{conditional-kept, loop_member-kept}
-use Rattle.xlsynth_vast.proofs.file.VastFile.generate_add_conditional.Goals as goal
-
-pub returns-clause-kept : goal.returns-clause-kept
-returns-clause-kept c = kept_by _ _ _ _ _ _ c.push_conditional.ensures c.self.view_is (keeps-then _ _ _ (conditional-kept c.args.condition.now _) (loop_member-kept c.args.generate _ _))
