@@ -1,6 +1,6 @@
--- A file keeps what it has where its lists have elements more, or elements changed that stay of their kind: each law is
--- one of a list. A call names `kept`.
-use Rattle.std.proofs.Common.{◌≡◌, ℕ, zero, suc, ◌<◌, ◌≤◌, Bool, List, [], ◌∷◌, ◌++◌, length, take, drop, map, Option, Some, slice_get, refl, sym, ap, ◌∙◌, subst, arith}
+-- That a file keeps what it has follows from the equation of the call: its lists have elements more, or elements changed
+-- that stay of their kind. Each law is one of a list. The crate's functions are proved with `kept` (src/lib.rt).
+use Rattle.std.proofs.Common.{◌≡◌, ℕ, zero, suc, ◌<◌, ◌≤◌, Bool, List, [], ◌∷◌, ◌++◌, length, take, drop, Some, slice_get, refl, ap, arith}
 use Rattle.std.proofs.lemmas.List.{take-append-drop, length-append}
 use Rattle.std.proofs.Math.Seq.{take-append_seam, take-length}
 use Rattle.vast_core.specs.declared.node.Statement.{Statement}
@@ -8,16 +8,16 @@ use Rattle.vast_core.specs.declared.node.ElseIf.{ElseIf}
 use Rattle.vast_core.specs.declared.node.CaseArm.{CaseArm}
 use Rattle.vast_core.specs.declared.node.Member.{Member}
 use Rattle.vast_core.specs.declared.handle.VastStatementBlock.{VastStatementBlock}
-use Rattle.vast_core.specs.Records.{ModuleRecord, changed_at}
-use Rattle.vast_core.specs.Nests.{NestRecord, BlockRecord, FunctionRecord, NestKind, nest_kind}
-use Rattle.vast_core.specs.Containers.{NestedEntry, StatementEnters, ElseIfEnters, ElseEnters, CaseArmEnters, MemberEnters, with_entry, with_unique}
+use Rattle.vast_core.specs.Records.{changed_at}
+use Rattle.vast_core.specs.Nests.{NestRecord, BlockRecord, NestKind, nest_kind}
+use Rattle.vast_core.specs.Containers.{StatementEnters, ElseIfEnters, ElseEnters, CaseArmEnters, MemberEnters, with_entry, with_unique}
 use Rattle.vast_core.specs.Bench.{Bench}
 use Rattle.vast_core.specs.ArenaState.{ArenaState}
 use Rattle.vast_core.specs.View.{bench}
-use Rattle.vast_core.proofs.Lists.{length-push, length-changed_at, slice_get-append}
+use Rattle.vast_core.proofs.Lists.{slice_get-append}
 use Rattle.vast_core.proofs.Nests.{entry-kind}
-use Rattle.vast_core.proofs.Sound.{Grows}
 use Rattle.xlsynth_vast.specs.Keeps.{Keeps}
+use Rattle.xlsynth_vast.proofs.Callers.{more_modules, more_functions, changed_modules, changed_functions}
 use Rattle.xlsynth_vast.proofs.Kept.{keeps-grown}
 use Rattle.xlsynth_vast.proofs.KeptReductions.{made-keeps}
 use Rattle.std.specs.declared.alloc.AllocError.{AllocError}
@@ -97,45 +97,39 @@ unique-kind unique _ = refl
 pub kinds-unique : (unique : Bool) (xs : List NestRecord) (i : ℕ) → kinds (changed_at i (with_unique unique) xs) ≡ kinds xs
 kinds-unique unique xs i = kinds-changed (with_unique unique) (unique-kind unique) xs i
 
-pub more_modules : (xs : List ModuleRecord) (x : ModuleRecord) → length (xs ++ x ∷ []) ≡ suc (length xs)
-more_modules xs x = length-push xs x
-
-pub changed_modules : (f : ModuleRecord → ModuleRecord) (xs : List ModuleRecord) (i : ℕ) → length (changed_at i f xs) ≡ length xs
-changed_modules f xs i = length-changed_at f xs i
-
-pub more_functions : (xs : List FunctionRecord) (x : FunctionRecord) → length (xs ++ x ∷ []) ≡ suc (length xs)
-more_functions xs x = length-push xs x
-
-pub changed_functions : (f : FunctionRecord → FunctionRecord) (xs : List FunctionRecord) (i : ℕ) → length (changed_at i f xs) ≡ length xs
-changed_functions f xs i = length-changed_at f xs i
-
 front-length : {A : Type 0} (xs ys : List A) → front xs ys ≡ xs → length xs ≤ length ys
 unfolding front
 front-length xs ys f =
     let whole : xs ++ drop (length xs) ys ≡ ys = rw f at (take-append-drop (length xs) ys)
     in omega (arith, length-append xs (drop (length xs) ys), ap length whole)
 
+-- What holds of the lists of two files. The first equation is there for `grind`, which takes a lemma up at a call that
+-- shows all its variables.
 pub keeps-lists :
     (b c : Bench) → c.file_type ≡ b.file_type → c.nodes.id ≡ b.nodes.id → front b.nodes.roots c.nodes.roots ≡ b.nodes.roots →
     front (kinds b.nests) (kinds c.nests) ≡ kinds b.nests → front b.ports c.ports ≡ b.ports → front b.assignments c.assignments ≡ b.assignments →
     length b.modules ≤ length c.modules → length b.functions ≤ length c.functions → front b.definitions c.definitions ≡ b.definitions →
     front b.artifacts c.artifacts ≡ b.artifacts → front b.instances c.instances ≡ b.instances → front b.always_blocks c.always_blocks ≡ b.always_blocks →
     (front b.nodes.roots c.nodes.roots ≡ front b.nodes.roots c.nodes.roots) × Keeps b c
-keeps-lists b c dialect id roots nests ports assignments modules functions definitions artifacts instances always_blocks =
-    (refl, keeps-grown b c (record {
-      nodes = record { same_id = id; same_roots = λ i r h. front-there b.nodes.roots c.nodes.roots i r roots h };
-      ports = front-length b.ports c.ports ports;
-      assignments = λ i a h. front-there b.assignments c.assignments i a assignments h;
-      modules = modules;
-      definitions = front-length b.definitions c.definitions definitions;
-      artifacts = λ i a h. front-there b.artifacts c.artifacts i a artifacts h;
-      instances = front-length b.instances c.instances instances;
-      nests = λ i below. kinds-there b.nests c.nests i nests below;
-      functions = functions;
-      always_blocks = λ i a h. front-there b.always_blocks c.always_blocks i a always_blocks h;
-    }) dialect)
+keeps-lists b c dialect id roots nests ports assignments modules functions definitions artifacts instances always_blocks = (
+  refl,
+  keeps-grown b c (record {
+    nodes = record { same_id = id; same_roots = λ i r h. front-there b.nodes.roots c.nodes.roots i r roots h };
+    ports = front-length b.ports c.ports ports;
+    assignments = λ i a h. front-there b.assignments c.assignments i a assignments h;
+    modules = modules;
+    definitions = front-length b.definitions c.definitions definitions;
+    artifacts = λ i a h. front-there b.artifacts c.artifacts i a artifacts h;
+    instances = front-length b.instances c.instances instances;
+    nests = λ i below. kinds-there b.nests c.nests i nests below;
+    functions = functions;
+    always_blocks = λ i a h. front-there b.always_blocks c.always_blocks i a always_blocks h;
+  }) dialect,
+)
 
-pub seen : {A : Type 0} (old new : ArenaState) (result : Result A AllocError) (answer : Bench → A) (after : Bench → Bench) →
+-- The lists before a call and after it: from the call's equation `grind` takes the two files.
+pub seen :
+    {A : Type 0} (old new : ArenaState) (result : Result A AllocError) (answer : Bench → A) (after : Bench → Bench) →
     GrowsTo old new result answer after → front (bench old).nodes.roots (bench new).nodes.roots ≡ front (bench old).nodes.roots (bench new).nodes.roots
 seen old new result answer after h = refl
 

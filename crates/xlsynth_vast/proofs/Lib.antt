@@ -19,7 +19,6 @@ pub mod Unseen
 pub mod UnseenNodes
 pub mod Kept
 pub mod KeptWords
-mod KeptCalls
 mod KeptRegisters
 mod KeptReductions
 mod KeptLists
