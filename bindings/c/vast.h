@@ -11,7 +11,7 @@
  *
  * Ownership. A `vast_session` is a pointer to memory that the library owns. Set it to NULL once, before its first use;
  * from then on only the functions below read or write it, and they are given its address. Copy none that is not NULL.
- * `vast_close` gives all memory back; nothing else that a function answers has to be freed. What a function is given, as
+ * `vast_close` gives all memory back; nothing else that a function returns has to be freed. What a function is given, as
  * lines and buffers, stays the caller's, and the library keeps no pointer to it once the function returns.
  *
  * Pointers. No pointer that a function is given may be NULL, not even beside a length of 0. What a function writes (the
@@ -21,7 +21,7 @@
  * share nothing, and nothing is global: different sessions may be used by different threads at the same time. Call none
  * of the functions from a signal handler.
  *
- * Faults. No call ends the process or prints. A call that can fail answers a status; any status but VAST_OK leaves the
+ * Faults. No call ends the process or prints. A call that can fail returns a status; any status but VAST_OK leaves the
  * file and its handles as they were, but that lines before the one at fault stay made.
  *
  * Memory comes from `malloc`, `realloc` and `free`. They must belong together, and align a block to each power of two up
@@ -39,7 +39,7 @@ extern "C" {
 
 typedef struct vast_session_state *vast_session;
 
-/* What a call answers. */
+/* What a call returns. */
 enum {
     VAST_OK = 0,
     /* The library refuses what the line asks, as a literal that does not fit its width; or the file's text. */
@@ -60,7 +60,7 @@ enum {
 /* The dialects. */
 enum { VAST_VERILOG = 0, VAST_SYSTEMVERILOG = 1 };
 
-/* The texts of a session. Each is UTF-8, with no NUL behind it, and empty where there is nothing to tell. */
+/* The texts of a session. Each is UTF-8, with no NUL after it, and empty where there is nothing to tell. */
 enum {
     /* What the last line of the last `vast_lines` answered, if it is a question. */
     VAST_ANSWER = 0,
@@ -71,7 +71,7 @@ enum {
     VAST_WORDS = 2,
     /* The same fault's call, as it stands in the line. */
     VAST_CALL = 3,
-    /* The file as the last `vast_print` that answered VAST_OK printed it. */
+    /* The file as the last `vast_print` that returned VAST_OK printed it. */
     VAST_FILE = 4
 };
 
@@ -92,15 +92,15 @@ int32_t vast_open(vast_session *session, int32_t dialect);
 /* Makes the calls of the lines in order, up to the first at fault. Each line is ended by a line feed, which the last one
  * may lack: one line or many may be given at once, and no line goes over two calls.
  * `*taken` becomes the number of the lines that were made. VAST_OK: it is all of them. VAST_REFUSED, VAST_CONDITION,
- * VAST_FORM, VAST_MEMORY: what is wrong with the line behind those. VAST_NOT_OPEN: it is 0. */
+ * VAST_FORM, VAST_MEMORY: what is wrong with the line after those. VAST_NOT_OPEN: it is 0. */
 int32_t vast_lines(vast_session *session, const uint8_t *lines, size_t length, size_t *taken);
 
 /* Prints the file, which VAST_FILE is then.
  * VAST_OK; VAST_REFUSED: the file has no text, VAST_LINE is the line whose call made what is refused; VAST_MEMORY;
- * VAST_NOT_OPEN. Behind those VAST_FILE is as before. */
+ * VAST_NOT_OPEN. After those VAST_FILE is as before. */
 int32_t vast_print(vast_session *session);
 
-/* Copies the start of a text to `out`, as much as the `capacity` bytes there hold, and answers the length of the whole
+/* Copies the start of a text to `out`, as much as the `capacity` bytes there hold, and returns the length of the whole
  * text in bytes. 0 where the session is not open, or `text` is the number of none. */
 size_t vast_text(vast_session *session, int32_t text, uint8_t *out, size_t capacity);
 
@@ -108,11 +108,11 @@ size_t vast_text(vast_session *session, int32_t text, uint8_t *out, size_t capac
 size_t vast_number(vast_session *session, int32_t number);
 
 /* What the calls of the lines print that is no SystemVerilog or Verilog, or that Icarus, Verilator or Yosys refuses: the
- * warnings of a list of these lines, as `vast_replay --lint` tells them, each a line of UTF-8 with a line feed behind it,
+ * warnings of a list of these lines, as `vast_replay --lint` tells them, each a line of UTF-8 with a line feed after it,
  *
  *     12: MakeIndex: prints "(a + b)[1]": a select of a computed value is no SystemVerilog (Icarus, Verilator, Yosys refuse it)
  *
- * those of the lines in order, and behind them those that only the end tells, as a case without arms. The number is that
+ * those of the lines in order, and after them those that only the end tells, as a case without arms. The number is that
  * of the line among these, from 1. Copies the start of that text to `out`, as much as the `capacity` bytes there hold;
  * `*all` becomes the length of the whole text in bytes, 0 where there is nothing to tell.
  *

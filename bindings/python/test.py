@@ -3,7 +3,7 @@
 
     python3 bindings/python/test.py [-v] [NAME..]       a NAME as test_faults.Conditions
 
-Behind the tests it says over which sessions they ran, and it fails where there is none, or where some call of the table was
+After the tests it says over which sessions they ran, and it fails where there is none, or where some call of the table was
 never made in some dialect. `README.md` beside it says how library and program are built.
 """
 import json

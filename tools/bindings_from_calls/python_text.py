@@ -51,7 +51,7 @@ def pieces(text, width):
 
 
 def doc(text, indent):
-    """A doc string of a first paragraph and, in the lines behind it, others."""
+    """A doc string of a first paragraph and, in the lines after it, others."""
     first, *others = [
         textwrap.wrap(line, WIDTH - len(indent) - 3, break_on_hyphens=False)
         for line in text.split("\n")

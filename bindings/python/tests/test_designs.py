@@ -20,7 +20,7 @@ from uart import uart  # noqa: E402
 
 
 def stored(title):
-    """What the stored run of vast_replay has behind this header, but for the answers of questions."""
+    """What the stored run of vast_replay has after this header, but for the answers of questions."""
     with open(f"{ROOT}/crates/vast_replay/stdout", encoding="utf-8") as file:
         _, _, text = file.read().partition(f"== {title}\n")
     lines = itertools.takewhile(lambda line: not line.startswith("== "), text.splitlines(keepends=True))

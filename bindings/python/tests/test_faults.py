@@ -1,4 +1,4 @@
-"""Each refusal by its name, and each condition; behind each the file is as it was."""
+"""Each refusal by its name, and each condition; after each the file is as it was."""
 from sessions import FileTest, over_each
 from vast import Condition, File, LiteralFormat, Refused, RegisterDefinition, VastFault
 
@@ -236,7 +236,7 @@ class Conditions(FileTest):
 
     @over_each()
     def test_faults_go_on(self, file):
-        """Behind a fault the numbers of handles are right, with calls that wait on both sides of it."""
+        """After a fault the numbers of handles are right, with calls that wait on both sides of it."""
         module = file.add_module("m")
         a = module.reg("a", 8)
         before = a + 1

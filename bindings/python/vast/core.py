@@ -62,14 +62,14 @@ class Core:
 
         Raises `MemoryError` where memory was refused: those that weren't made wait on, and `flush` may be called again.
         Without `strict` it raises the fault of the first call that is at fault, and so does each later call, since the
-        handles that were given behind it are none.
+        handles that were given after it are none.
         """
         if self._fault is not None:
             raise self._fault
         lines = self._lines
         if not lines:
             return
-        # Cleared behind the call, so that lines whose sending was interrupted aren't sent twice.
+        # Cleared after the call, so that lines whose sending was interrupted aren't sent twice.
         self._fault = self._interrupted
         try:
             taken, fault = self._session.lines(lines)
@@ -161,7 +161,7 @@ class Core:
     def warnings(self) -> List[Warned]:
         """What the calls so far print that is no SystemVerilog or Verilog, or that Icarus, Verilator or Yosys refuses.
 
-        Those of the calls in order, and behind them those that only the end tells, as a case without arms. A file with
+        Those of the calls in order, and after them those that only the end tells, as a case without arms. A file with
         `lint=True` tells them; of one without it is a `ValueError`. The rules are those of `vast_replay --lint`.
         """
         self.flush()

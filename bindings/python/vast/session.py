@@ -189,7 +189,7 @@ class ProcessSession:
         self._empty.append(1)
 
     def lines(self, lines: List[str]) -> Tuple[int, Optional[Exception]]:
-        """See `Session`. Lines behind one at fault are sent all the same."""
+        """See `Session`. Lines after one at fault are sent all the same."""
         made, first = 0, None
         for sent, count in self._parts(lines):
             self._send(sent, count)
@@ -270,13 +270,13 @@ class ProcessSession:
             raise BrokenPipeError(f"vast_replay --session ended, status {self._process.wait()}")
         self._owed -= 1
         self._sent += 1
-        # Quotes within texts stand behind a backslash, here too.
+        # Quotes within texts stand after a backslash, here too.
         if self._told is not None and b',"warnings":[' in reply:
             self._told += self._warned(json.loads(reply)["warnings"])
         return reply
 
     def _fault_of(self, reply: bytes) -> Optional[Exception]:
-        """The fault that a reply tells. Quotes within texts stand behind a backslash, so they are no sign of one."""
+        """The fault that a reply tells. Quotes within texts stand after a backslash, so they are no sign of one."""
         if b',"cause":"' not in reply:
             return None
         given = json.loads(reply)

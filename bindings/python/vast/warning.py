@@ -44,7 +44,7 @@ def on_a_line(text: str) -> str:
 
 
 def listed_warning(given: Dict[str, Any], line: int) -> Warned:
-    """A warning as JSON has it, of the call in the line behind so many."""
+    """A warning as JSON has it, of the call in the line after so many."""
     text = given.get("text")
     shown = None if text is None else on_a_line(text)
     return Warned(line, given["call"], shown, given["why"], given["tools"])

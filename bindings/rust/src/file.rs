@@ -65,7 +65,7 @@ impl VastFile {
     }
 
     /// What the calls so far print that is no SystemVerilog or Verilog, or that Icarus, Verilator or Yosys refuses: those
-    /// of the calls in order, and behind them those that only the end tells, as a case without arms. The calls are made
+    /// of the calls in order, and after them those that only the end tells, as a case without arms. The calls are made
     /// anew, on a file of their own, so it takes as long as they did.
     ///
     /// # Panics
