@@ -154,7 +154,8 @@ pub(crate) fn front<S: Source, P: Phrases<S>>(
 /// How far the tokens of the source begin a file, and what could stand next.
 ///
 /// Files go on after what was read with tokens of these kinds and with no others, and with none as
-/// the one that is left. Where a loop's header is no header, nothing is told.
+/// the one that is left. Nothing is told only where a front of the tokens goes on with any loop's
+/// header; that none stands there is not said.
 pub fn file_front<S: Fronts>(alloc: Global, source: &mut S) -> Result<Option<Next>, AllocError>
     ensures { IfOk result (λ o. MatchOption o
         (AtLoopHead SpellsFile (S.left source.old))
