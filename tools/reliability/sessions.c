@@ -253,6 +253,18 @@ static void *work(void *given)
     return NULL;
 }
 
+/* Runs so many at once, until each has ended; whether all began. */
+static bool run_workers(worker *workers, int threads, double seconds)
+{
+    if (threads == 0)
+        return true;
+    workers->seconds = seconds;
+    CHECK(pthread_create(&workers->thread, NULL, work, workers) == 0);
+    bool have_begun = run_workers(workers + 1, threads - 1, seconds);
+    CHECK(pthread_join(workers->thread, NULL) == 0);
+    return have_begun;
+}
+
 static bool at_once(int threads, double seconds)
 {
     enum { MOST = 64 };
@@ -260,13 +272,8 @@ static bool at_once(int threads, double seconds)
     unsigned long sessions = 0;
     long granted = 0;
     CHECK(threads > 0 && threads <= MOST);
+    bool are_right = run_workers(workers, threads, seconds);
     for (int at = 0; at < threads; at++) {
-        workers[at].seconds = seconds;
-        CHECK(pthread_create(&workers[at].thread, NULL, work, &workers[at]) == 0);
-    }
-    bool are_right = true;
-    for (int at = 0; at < threads; at++) {
-        CHECK(pthread_join(workers[at].thread, NULL) == 0);
         are_right = are_right && workers[at].is_right;
         sessions += workers[at].sessions;
         granted += workers[at].requests;
@@ -278,22 +285,23 @@ static bool at_once(int threads, double seconds)
 
 /* Sessions in turn */
 
-/* Memory that the process holds, in KiB. */
+/* Memory that the process holds, in KiB; -1 where the system doesn't tell. */
 static long resident(void)
 {
-    long pages = 0;
-    FILE *file = fopen("/proc/self/statm", "r");
-    if (file == NULL || fscanf(file, "%*s %ld", &pages) != 1)
-        pages = -1;
-    if (file != NULL)
-        fclose(file);
-    return pages * sysconf(_SC_PAGESIZE) / 1024;
+    long held = -1;
+    FILE *file = fopen("/proc/self/smaps_rollup", "r");
+    if (file == NULL)
+        return -1;
+    if (fscanf(file, "%*[^\n] Rss: %ld kB", &held) != 1)
+        held = -1;
+    fclose(file);
+    return held;
 }
 
 static bool in_turn(unsigned long number)
 {
-    enum { FIRST = 1000, UNSURE = 256 }; /* (the system's count is off by some pages) */
-    long first = 0;
+    enum { FIRST = 1000, PAGES = 64 }; /* KiB of pages that the process may touch first after the first sessions */
+    long first = -1;
     for (unsigned long at = 0; at < number; at++) {
         CHECK(session_is_right(at));
         if (at + 1 == FIRST)
@@ -302,7 +310,7 @@ static bool in_turn(unsigned long number)
     long last = resident();
     printf("%lu sessions in turn: %ld KiB after %d, %ld after all; %ld blocks, all given back\n", number, first, (int)FIRST,
            last, requests);
-    CHECK(number > FIRST && last <= first + UNSURE);
+    CHECK(first > 0 && last > 0 && last <= first + PAGES);
     return true;
 }
 
@@ -353,23 +361,23 @@ static bool shared(void)
     return count == 0;
 }
 
+/* Does what the words say. */
+static bool is_right(int argc, char **argv)
+{
+    const char *what = argc > 1 ? argv[1] : "";
+    if (strcmp(what, "at_once") == 0 && argc == 4)
+        return at_once(atoi(argv[2]), atof(argv[3]));
+    if (strcmp(what, "in_turn") == 0 && argc == 3)
+        return in_turn(strtoul(argv[2], NULL, 10));
+    if (strcmp(what, "passed_on") == 0)
+        return passed_on();
+    return strcmp(what, "shared") == 0 && shared();
+}
+
 int main(int argc, char **argv)
 {
-    bool is_right = true;
-    const char *what = argc > 1 ? argv[1] : "";
-    for (int at = 0; at < DESIGNS; at++)
-        is_right = is_right && learn(&designs[at]);
-    if (strcmp(what, "at_once") == 0 && argc == 4)
-        is_right = is_right && at_once(atoi(argv[2]), atof(argv[3]));
-    else if (strcmp(what, "in_turn") == 0 && argc == 3)
-        is_right = is_right && in_turn(strtoul(argv[2], NULL, 10));
-    else if (strcmp(what, "passed_on") == 0)
-        is_right = is_right && passed_on();
-    else if (strcmp(what, "shared") == 0)
-        is_right = is_right && shared();
-    else
-        is_right = false;
-    for (int at = 0; at < DESIGNS; at++)
-        forget(&designs[at]);
-    return is_right && blocks == 0 ? 0 : 1;
+    bool is_well = learn(&designs[0]) && learn(&designs[1]) && is_right(argc, argv);
+    forget(&designs[0]);
+    forget(&designs[1]);
+    return is_well && blocks == 0 ? 0 : 1;
 }

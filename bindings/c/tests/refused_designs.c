@@ -15,10 +15,13 @@ typedef struct {
 static design of_fifo, of_registers;
 static design *made; /* the one that is tried */
 
-/* How many bytes the first line has, with its line feed. */
-static size_t line_length(const char *lines)
+/* How many bytes the first lines have, so many, with their line feeds. */
+static size_t length_of(const char *lines, size_t number)
 {
-    return (size_t)(strchr(lines, '\n') - lines) + 1;
+    const char *end = lines;
+    for (; number > 0; number--)
+        end = strchr(end, '\n') + 1;
+    return (size_t)(end - lines);
 }
 
 /* Keeps the lines of the design's calls, its text and its counts; false where they are not as they have to be. */
@@ -38,7 +41,7 @@ static bool learn(design *one, void (*build)(vast_file *file))
     size_t place = 0, number = 0, taken = 0;
     vast_open(&s, VAST_SYSTEMVERILOG);
     while (fits && place < one->length && number + 1 < sizeof one->counts / sizeof one->counts[0]) {
-        size_t length = line_length(one->lines + place);
+        size_t length = length_of(one->lines + place, 1);
         fits = vast_lines(&s, (const uint8_t *)one->lines + place, length, &taken) == VAST_OK && taken == 1;
         one->counts[++number] = vast_number(&s, VAST_COUNT);
         place += length;
@@ -64,8 +67,7 @@ static int lines_made(vast_session *session)
         const uint8_t *lines = (const uint8_t *)made->lines + place;
         int32_t status = vast_lines(session, lines, made->length - place, &taken);
         number += taken;
-        for (; taken > 0; taken--)
-            place += line_length(made->lines + place);
+        place += length_of(made->lines + place, taken);
         if (vast_number(session, VAST_COUNT) != made->counts[number])
             return -1;
         if (status == VAST_OK)
