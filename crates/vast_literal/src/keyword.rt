@@ -77,6 +77,7 @@ static KEYWORDS: [&str; 248] = keywords!(texts);
 static KEYS: [Option<Key>; 248] = keywords!(keys);
 
 /// The keywords of Verilog and SystemVerilog, in the order of their bytes.
+#[tactic(auto, unfolding(crate::specs::Keyword::keywords))]
 pub fn system_verilog_keywords() -> &'static [&'static str]
     ensures words { map (λ t. t.now) result.now ≡ keywords }
     ensures count { length result.now ≡ 248 }
@@ -85,6 +86,7 @@ pub fn system_verilog_keywords() -> &'static [&'static str]
 }
 
 /// For each of the keywords, in the same order, its key, where the grammar uses it.
+#[tactic(auto, unfolding(crate::specs::Keyword::keywords, crate::specs::Tokens::reserved_keys, crate::specs::Tokens::key_text))]
 pub fn system_verilog_keys() -> &'static [Option<Key>]
     ensures keys { result.now ≡ map (key_written reserved_keys) keywords }
     ensures count { length result.now ≡ 248 }
