@@ -42,6 +42,11 @@ pub or_right : (a b : Bool) → (a || b) ≡ false → b ≡ false
 or_right true b e = cc
 or_right false b e = e
 
+-- what follows from a test that holds, and from one that does not
+pub by_test : {P : Type 0} (b : Bool) → (b ≡ true → P) → (b ≡ false → P) → P
+by_test true h k = h refl
+by_test false h k = k refl
+
 pub join_after : (t : Token) (o r : Option (List Token)) → join_tokens (join_tokens (Some (t ∷ [])) o) r ≡ cons_token t (join_tokens o r)
 join_after t None r = refl
 join_after t (Some us) r = refl
