@@ -1,5 +1,5 @@
 -- Numbers, and what an apostrophe begins.
-use Rattle.std.proofs.Common.{◌≡◌, ◌≤◌, ◌⊎◌, inl, inr, ℕ, List, [], ◌∷◌, ◌++◌, length, Bool, true, false, eqb-true, ◌||◌, eqb, None, refl, sym, ◌∙◌, ap, append_assoc, append-nil, arith}
+use Rattle.std.proofs.Common.{◌≡◌, ◌≤◌, ◌⊎◌, inl, inr, ℕ, List, [], ◌∷◌, ◌++◌, length, true, false, eqb-true, ◌||◌, eqb, None, refl, sym, ◌∙◌, ap, append_assoc, append-nil, arith}
 use Rattle.vast_literal.specs.Tokens.{OpenParen, OpenBrace, Apostrophe, Number, Based, Mark}
 use Rattle.vast_literal.specs.Scan.{is_digit, is_based_digit, is_radix, is_filler, Gap, InNumber, AfterTick, InSigned, InRadix, InBased, before_tick, scan, add_tokens}
 use Rattle.vast_literal.specs.LiteralToken.{every, is_number, is_based_number, is_radix_tail, is_based_tail}
@@ -12,6 +12,7 @@ use Rattle.vast_literal.proofs.TokenTexts.{no_tick}
 use Rattle.vast_literal.proofs.LexemeShapes.{radix_signed, digit_goes}
 use Rattle.vast_literal.proofs.LexemeFronts.{Ahead, Lost, Ends, here, extend, nowhere, lost, ends_on, add_none, scan_follow}
 use Rattle.vast_literal.proofs.LexemeRuns.{based_on}
+use Rattle.vast_literal.proofs.NumberLaws.{every_number}
 
 -- digits after a base
 radix_ends : (size base t : List ℕ) → every is_digit size ≡ true → IsBase base → Ends is_based_number (size ++ (39 ∷ base)) (InRadix (size ++ (39 ∷ base))) t
@@ -91,10 +92,6 @@ tick_ends d (c ∷ cs) g = by_test (is_radix c || eqb c 115) (λ e. based_or_par
     based_or_parted e (inr l) = inr (none_before d (c ∷ cs) l (base_none [] c cs l.nothing e))
 
 -- Numbers.
-every_number : (d : List ℕ) → is_number d ≡ true → every is_digit d ≡ true
-every_number [] h = refl
-every_number (c ∷ d) h = h
-
 number_push : (d : List ℕ) (c : ℕ) → is_number d ≡ true → is_digit c ≡ true → is_number (d ++ (c ∷ [])) ≡ true
 number_push [] c h k = cc
 number_push (x ∷ d) c h k = every_push is_digit (x ∷ d) c h k

@@ -1,7 +1,7 @@
 -- The lexemes that go on as long as the bytes pass a test, and the strings.
-use Rattle.std.proofs.Common.{◌≡◌, inl, inr, ℕ, List, [], ◌∷◌, ◌++◌, Bool, true, false, cond, not, eqb-true, eqb, Some, refl, sym, ◌∙◌, ap, append_assoc}
+use Rattle.std.proofs.Common.{◌≡◌, inl, inr, ℕ, List, [], ◌∷◌, ◌++◌, Bool, true, false, not, eqb-true, eqb, Some, refl, sym, ◌∙◌, ap, append_assoc}
 use Rattle.vast_literal.specs.Tokens.{Token, SystemWord, MacroWord, Based, Quoted, word_token}
-use Rattle.vast_literal.specs.Scan.{is_letter, is_word_byte, is_digit, is_based_digit, State, Gap, InWord, InSystemWord, InMacroWord, InBased, InString, InEscape, InComment, keep, follow, start, step, flush, scan, add_tokens}
+use Rattle.vast_literal.specs.Scan.{is_letter, is_word_byte, is_digit, is_based_digit, State, InWord, InSystemWord, InMacroWord, InBased, InString, InEscape, InComment, keep, follow, start, step, flush, scan}
 use Rattle.vast_literal.specs.LiteralToken.{every, is_string_rest}
 use Rattle.vast_literal.specs.Lexemes.{is_in_line, AreCharacters, IsBase, IsLexeme}
 use Rattle.vast_literal.specs.Lexemes.AreCharacters.{no_character, bare, escaped}
@@ -9,10 +9,7 @@ use Rattle.vast_literal.specs.Lexemes.IsLexeme.{comment, word, system_word, macr
 use Rattle.vast_literal.proofs.ScanLaws.{and_right, by_test, not_true}
 use Rattle.vast_literal.proofs.LiteralLaws.{every_push}
 use Rattle.vast_literal.proofs.LexemeFronts.{Ahead, Ends, here, extend, whole, lost, ends_on, scan_follow}
-
-add_no_tokens : (ts : List Token) → add_tokens ts (Some []) ≡ Some ts
-add_no_tokens [] = refl
-add_no_tokens (t ∷ ts) = rw (add_no_tokens ts)
+use Rattle.vast_literal.proofs.Pieces.{add_tokens-nil}
 
 -- a lexeme that goes on as long as `go` holds: v is what it has of such bytes
 module _ (go : ℕ → Bool) (state : List ℕ → State) (text : List ℕ → List ℕ) (brings : List ℕ → List Token)
@@ -23,7 +20,7 @@ module _ (go : ℕ → Bool) (state : List ℕ → State) (text : List ℕ → L
     (fits : (v : List ℕ) → every go v ≡ true → IsLexeme (text v) (brings v)) where
   pub run : (v : List ℕ) → every go v ≡ true → (t : List ℕ) → Ahead (every go) (text v) (state v) t
   unfolding scan
-  run v h [] = here (every go) (text v) (state v) [] (brings v) (fits v h) tt (rw (last v) (sym (add_no_tokens (brings v))))
+  run v h [] = here (every go) (text v) (state v) [] (brings v) (fits v h) tt (rw (last v) (sym (add_tokens-nil (brings v))))
   run v h (c ∷ cs) = by_test (go c)
       (λ e. extend (every go) (every go) (text v) (state v) (state (v ++ (c ∷ []))) c cs (goes v c e) (λ u k. and_right (go c) (every go u) k)
       (rw (push v c) (run (v ++ (c ∷ [])) (every_push go v c h e) cs)))

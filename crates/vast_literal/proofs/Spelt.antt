@@ -1,18 +1,19 @@
 -- What `format_text` gives is the text that a format wants.
-use Rattle.std.proofs.Common.{◌≡◌, ◌≢◌, ℕ, zero, suc, ◌+◌, ◌*◌, ◌/◌, ◌%◌, ◌^◌, ◌<◌, ◌≤◌, List, [], ◌∷◌, ◌++◌, Bool, true, false, cond, eqb, eqb-true, leb, refl, sym, ap, ◌∙◌, length, arith}
+use Rattle.std.proofs.Common.{◌≡◌, ◌≢◌, ℕ, zero, suc, ◌+◌, ◌*◌, ◌/◌, ◌%◌, ◌^◌, ◌<◌, ◌≤◌, List, [], ◌∷◌, ◌++◌, Bool, true, false, eqb, eqb-true, leb, refl, sym, ap, ◌∙◌, length, arith}
 use Rattle.std.specs.Prelude.{◌&&◌}
 use Rattle.std.specs.List.{list_all, AllByRecursion}
 use Rattle.std.specs.Char.{digit_value, digit_char, is_digit}
 use Rattle.std.proofs.Math.Nat.{pow-zero, mod-one, mul-suc, add_comm, mod-eq_of_lt}
 use Rattle.std.proofs.Math.Pow.{pow_mono}
 use Rattle.std.proofs.Common.{inl, inr, ◌⊎◌, lit≤}
-use Rattle.std.proofs.lemmas.Bool.{eqb-false, lt-ltb}
+use Rattle.std.proofs.lemmas.Bool.{eqb-false, lt-ltb, cases_cond}
 use Rattle.std.proofs.lemmas.Bool.Decides.{nat_tests}
 use Rattle.std.proofs.lemmas.Nat.{mod_below, pow_pos, mod-pow-add}
 use Rattle.vast_literal.specs.Digits.{is_gap, is_digit_or_gap, is_numeral, digits_in, number_in, weighted, lowest_digits, characters, separator, grouped}
 use Rattle.vast_literal.specs.Spells.{is_no_capital, IsWritten, AreFours, IsGrouped}
 use Rattle.vast_literal.specs.Spells.AreFours.{NoGroup, OneGroup}
 use Rattle.vast_literal.proofs.Numbers.{pow-pow, length-lowest_digits}
+use Rattle.vast_literal.proofs.ScanLaws.{by_test}
 
 -- the character of a digit
 char_digit : (d radix : ℕ) → d < radix → radix ≤ 16 → is_digit (digit_char d) radix ≡ true
@@ -37,21 +38,13 @@ lowest_below radix zero n p = tt
 lowest_below radix (suc count) n p = (mod_below (n / radix ^ count) radix p, lowest_below radix count n p)
 
 -- an underscore or nothing between two digits
-one_or_none : (b : Bool) → (cond {A = List ℕ} b (95 ∷ []) [] ≡ 95 ∷ []) ⊎ (cond {A = List ℕ} b (95 ∷ []) [] ≡ [])
-one_or_none true = inl refl
-one_or_none false = inr refl
-
 separator_cases : (n : ℕ) → (separator n ≡ 95 ∷ []) ⊎ (separator n ≡ [])
 unfolding separator
-separator_cases n = one_or_none (leb 1 n && eqb (n % 4) 0)
-
-by_rest : (b : Bool) (r : ℕ) → eqb r 0 ≡ b → ((cond {A = List ℕ} b (95 ∷ []) [] ≡ 95 ∷ []) × (r ≡ 0)) ⊎ ((cond {A = List ℕ} b (95 ∷ []) [] ≡ []) × (r ≢ 0))
-by_rest true r e = inl (refl, eqb-true r 0 e)
-by_rest false r e = inr (refl, eqb-false r 0 e)
+separator_cases n = cases_cond (leb 1 n && eqb (n % 4) 0) _ _ _ refl
 
 separator_place : (n : ℕ) → 0 < n → ((separator n ≡ 95 ∷ []) × (n % 4 ≡ 0)) ⊎ ((separator n ≡ []) × (n % 4 ≢ 0))
 unfolding separator
-separator_place n p = rw (lt-ltb 0 n p) (by_rest (eqb (n % 4) 0) (n % 4) refl)
+separator_place n p = rw (lt-ltb 0 n p) (by_test (eqb (n % 4) 0) (λ e. rw e (inl (refl, eqb-true (n % 4) 0 e))) (λ e. rw e (inr (refl, eqb-false (n % 4) 0 e))))
 
 -- what a test says of digits with underscores
 all_separated : (p : ℕ → Bool) (s t : List ℕ) → (s ≡ 95 ∷ []) ⊎ (s ≡ []) → p 95 ≡ true → list_all p t ≡ true → list_all p (s ++ t) ≡ true
