@@ -1,13 +1,11 @@
 -- Laws of writing what the arena holds.
-use Rattle.std.proofs.Common.{◌≡◌, ◌<◌, ◌≤◌, ℕ, zero, suc, ◌+◌, List, [], ◌∷◌, length, get_or, map, drop, refl, sym, ◌∙◌, ap, codes, arith, add-one, Option, Some, None, Err, subst}
-use Rattle.std.proofs.lemmas.List.{drop_all}
+use Rattle.std.proofs.Common.{◌≡◌, ◌<◌, ℕ, suc, ◌+◌, List, [], ◌∷◌, length, map, refl, sym, ◌∙◌, ap, codes, arith, Option, Some, None, Err, subst}
 use Rattle.vast_literal.specs.declared.error.VastFault.{VastFault}
 use Rattle.vast_literal.specs.declared.error.VastFault.TheVariants.{Refused as RefusedBy, Memory as NoMemory}
 use Rattle.vast_literal.specs.Tree.{PortTree, ParameterPortTree, Connection as ConnectionTree}
 use Rattle.vast_literal.specs.declared.kind.VastFileType.{VastFileType as Dialect}
 use Rattle.vast_core.specs.declared.node.Member.{Member}
 use Rattle.vast_core.specs.declared.node.Connection.{Connection}
-use Rattle.vast_core.specs.declared.node.FileItem.{FileItem}
 use Rattle.vast_core.specs.Bench.{Bench}
 use Rattle.vast_core.specs.FileTree.{member_tree, members_tree, connection_tree, item_tree, tree}
 use Rattle.vast_print.specs.Printed.{Printed, plain_text}
@@ -20,7 +18,7 @@ use Rattle.vast_print.specs.Internal.Emits.{Faults}
 use Rattle.vast_print.specs.declared.refusal.Refusal.{Refusal}
 use Rattle.vast_print.specs.declared.refusal.PrintFault.{PrintFault}
 use Rattle.vast_print.specs.declared.refusal.PrintFault.TheVariants.{Refused, Memory}
-use Rattle.vast_print.specs.Members.{member_page, members_page, entries_page, connection_text, connections_page, instance_head_page}
+use Rattle.vast_print.specs.Members.{members_page, entries_page, connection_text, connections_page, instance_head_page}
 use Rattle.vast_print.specs.Layout.{body_page, header_page, ports_page, parameter_ports_page, items_page, layout}
 use Rattle.vast_print.proofs.OutputLaws.{inline-then, inline-word, indented-stopped, inline-stopped, whole-page, whole-fault, line-text, line-fault}
 use Rattle.vast_print.proofs.Lines.{word-stopped, next-stopped}

@@ -1,34 +1,28 @@
 -- Laws of writing the containers, functions and always blocks of the arena, and what they hold.
-use Rattle.std.proofs.Common.{◌≡◌, ◌<◌, ◌≤◌, ℕ, zero, suc, ◌+◌, Bool, true, false, List, [], ◌∷◌, length, get_or, map, drop, refl, sym, ◌∙◌, codes, arith, Option, Some, None, slice_get, All}
-use Rattle.vast_literal.specs.Tree.{ExprTree, NoExpr, SomeExpr, Statements, NoStatements, MoreStatements, StatementTree, AssignTree, CommentTree, BlankTree, InlineTree, ConditionalTree, CaseTree, Alternates, CaseArms, Members, AssignMember, LoopMember}
+use Rattle.std.proofs.Common.{◌≡◌, ◌<◌, ℕ, zero, suc, ◌+◌, Bool, true, false, List, [], ◌∷◌, length, refl, sym, ◌∙◌, codes, arith, Option, Some, None, slice_get, All}
+use Rattle.vast_literal.specs.Tree.{ExprTree, NoExpr, SomeExpr, NoStatements, MoreStatements, StatementTree, AssignTree, AssignMember}
 use Rattle.vast_literal.specs.declared.kind.VastFileType.{VastFileType as Dialect}
 use Rattle.vast_literal.specs.declared.kind.AssignmentForm.TheVariants.{Blocking, Nonblocking, Continuous}
 use Rattle.vast_literal.specs.declared.kind.CaseKind.{CaseKind as CaseWord}
 use Rattle.vast_literal.specs.declared.kind.CaseKind.TheVariants.{Case as CaseExact, CaseZ, CaseX}
 use Rattle.vast_literal.specs.Shape.{is_bare_arm, is_one_assignment, is_one_casez}
-use Rattle.vast_core.specs.declared.handle.Expr.{Expr}
 use Rattle.vast_core.specs.declared.handle.VastStatement.{VastStatement}
-use Rattle.vast_core.specs.declared.handle.VastStatementBlock.{VastStatementBlock}
 use Rattle.vast_core.specs.declared.node.Assignment.{Assignment}
 use Rattle.vast_core.specs.declared.node.Statement.{Statement}
-use Rattle.vast_core.specs.declared.node.ElseIf.{ElseIf}
-use Rattle.vast_core.specs.declared.node.CaseArm.{CaseArm}
-use Rattle.vast_core.specs.declared.node.FunctionVariable.{FunctionVariable}
 use Rattle.vast_core.specs.Sound.{StatementSound}
 use Rattle.vast_core.proofs.Lists.{below-of}
-use Rattle.vast_core.specs.Bench.{Bench, OwnsStatement, tree_of, maybe_tree_of, trees_of}
-use Rattle.vast_core.specs.Nests.{NestRecord, BlockRecord, ConditionalNestRecord, CaseNestRecord, LoopNestRecord}
+use Rattle.vast_core.specs.Bench.{Bench, OwnsStatement, tree_of}
+use Rattle.vast_core.specs.Nests.{NestRecord, BlockRecord}
 use Rattle.vast_core.specs.declared.node.Statement.TheVariants.{Assignment as AssignStatement, Continuous as ContinuousStatement, Conditional as ConditionalStatement, Case as CasesStatement}
-use Rattle.vast_core.specs.FileTree.{Family, BlockFamily, ConditionalFamily, CaseFamily, LoopFamily, family, unfolded, families, conditional_statement, case_statement, conditional_member, loop_member, form_of, assigned_tree, continuous_tree, statement_in, statements_tree, block_tree, alternates_tree, case_arms_tree, variable_tree}
+use Rattle.vast_core.specs.FileTree.{Family, BlockFamily, family, unfolded, families, conditional_statement, case_statement, conditional_member, form_of, assigned_tree, continuous_tree, statement_in, statements_tree}
 use Rattle.vast_print.specs.Internal.Bodies.{assignment_of, bare_assignment}
 use Rattle.vast_print.specs.Printed.{plain_text, ◌⊕◌}
 use Rattle.vast_print.specs.Page.{written}
 use Rattle.vast_print.specs.Output.{Output, word, next, indented, inline}
 use Rattle.vast_print.specs.Text.{expr_text}
-use Rattle.vast_print.specs.Internal.Words.{separator}
-use Rattle.vast_print.specs.Statements.{assignment_operator, unique_word, case_word, label_text, statement_page, statements_page, block_page, alternates_page, arms_page}
-use Rattle.vast_print.specs.Internal.Statements.{arm_page, arm_body_page}
-use Rattle.vast_print.specs.Members.{input_text, local_page, locals_page, loop_text, member_page, members_page}
+use Rattle.vast_print.specs.Statements.{assignment_operator, label_text, statement_page, statements_page, block_page}
+use Rattle.vast_print.specs.Internal.Statements.{arm_body_page}
+use Rattle.vast_print.specs.Members.{member_page}
 use Rattle.vast_print.proofs.Lines.{word-nothing, word-word}
 use Rattle.vast_print.proofs.OutputLaws.{inline-word, indented-blank, indented-written, inline-line, inline-then, inline-above-none}
 use Rattle.vast_print.proofs.StatementLaws.{indented-assign, inline-assign, indented-arm, indented-comment, indented-blank-statement, indented-inline, indented-conditional, indented-case, inline-no-else, inline-else, inline-block-none, inline-block, inline-arm-block, inline-else-if-arm, indented-arms, indented-arms-none}
@@ -139,11 +133,8 @@ other-conditional (BlockFamily held) = refl
 other-conditional _ = refl
 
 other-case-record : (b : Bench) (f : ℕ → Family) (o : Option NestRecord) → IsOther (case_statement (family b f o))
-other-case-record b f None = refl
 other-case-record b f (Some (BlockRecord statements)) = refl
-other-case-record b f (Some (ConditionalNestRecord c)) = refl
-other-case-record b f (Some (CaseNestRecord c)) = refl
-other-case-record b f (Some (LoopNestRecord l)) = refl
+other-case-record b f _ = refl
 
 other-unfolded : (b : Bench) (n i : ℕ) → IsOther (case_statement (unfolded b n i))
 other-unfolded b zero i = refl
@@ -168,13 +159,7 @@ not-bare b CaseZ (e ∷ g ∷ es) h = more (statement_in b (families b) e)
   where
     more : (t : StatementTree) → is_one_assignment (MoreStatements t (MoreStatements (statement_in b (families b) g) (statements_tree b es))) ≡ false
     more (AssignTree Blocking l r) = refl
-    more (AssignTree Nonblocking l r) = refl
-    more (AssignTree Continuous l r) = refl
-    more (CommentTree text) = refl
-    more BlankTree = refl
-    more (InlineTree text) = refl
-    more (ConditionalTree c s rest) = refl
-    more (CaseTree unique u x arms) = refl
+    more _ = refl
 not-bare b CaseX es h = refl
 
 pub inline-arm-full : (b : Bench) (d : ℕ) (k : Output) (w : CaseWord) (xs : List Statement) → None ≡ bare_assignment w xs →

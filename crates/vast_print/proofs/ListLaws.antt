@@ -1,22 +1,18 @@
 -- Laws of writing lists of parts: the first before the others, and none.
-use Rattle.std.proofs.Common.{◌≡◌, ◌<◌, ◌≤◌, ℕ, zero, suc, ◌+◌, true, ltb, List, [], ◌∷◌, length, get_or, map, drop, sym, ◌∙◌, ap, codes, refl, arith, add-one, ◌-◌}
-use Rattle.std.proofs.lemmas.List.{drop_all, length-map, length-drop}
+use Rattle.std.proofs.Common.{◌≡◌, ℕ, ◌+◌, true, ltb, List, [], ◌∷◌, length, map, drop, sym, ◌∙◌, ap, codes, refl, arith, ◌-◌}
+use Rattle.std.proofs.lemmas.List.{length-map, length-drop}
 use Rattle.std.proofs.lemmas.Bool.{lt-ltb}
 use Rattle.std.proofs.lemmas.Bool.Decides.{nat_tests}
-use Rattle.vast_literal.specs.Tree.{Declaration, ExprTree, StatementTree, Statements, NoStatements, MoreStatements, Alternates, ElseIf, MaybeExpr, CaseArms, NoCaseArms, CaseArm}
+use Rattle.vast_literal.specs.Tree.{Declaration, StatementTree, Statements, NoStatements, MoreStatements}
 use Rattle.vast_literal.specs.declared.kind.VastFileType.{VastFileType as Dialect}
-use Rattle.vast_literal.specs.declared.kind.CaseKind.{CaseKind as CaseWord}
 use Rattle.vast_print.specs.Printed.{Printed, plain_text, ◌⊕◌}
 use Rattle.vast_print.specs.Page.{lead, written}
 use Rattle.vast_print.specs.Output.{Output, word, next, indented, inline}
-use Rattle.vast_print.specs.Text.{expr_text}
-use Rattle.vast_print.specs.Statements.{statement_page, statements_page, block_page, alternates_page, arms_page}
-use Rattle.vast_print.specs.Internal.Statements.{arm_page}
+use Rattle.vast_print.specs.Statements.{statement_page, statements_page}
 use Rattle.vast_print.specs.Members.{entries_page, local_page, locals_page}
 use Rattle.vast_print.specs.Internal.Words.{comma}
 use Rattle.vast_print.proofs.Lines.{word-nothing}
 use Rattle.vast_print.proofs.OutputLaws.{indented-none, indented-above, indented-lead, inline-then, inline-word}
-use Rattle.vast_print.proofs.StatementLaws.{indented-arms-none, indented-arms, inline-else-if-arm}
 
 pub indented-no-entries : (d : ℕ) (k : Output) → indented d k (entries_page []) ≡ k
 unfolding entries_page

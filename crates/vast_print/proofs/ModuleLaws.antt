@@ -1,12 +1,10 @@
 -- Laws of writing files and modules.
-use Rattle.std.proofs.Common.{◌≡◌, ◌<◌, ◌≤◌, ℕ, zero, suc, ◌+◌, ltb, List, [], ◌∷◌, length, get_or, map, drop, refl, ◌∙◌, ap, codes, arith, add-one}
-use Rattle.std.proofs.lemmas.List.{drop_all}
+use Rattle.std.proofs.Common.{◌≡◌, ◌<◌, ℕ, ◌+◌, List, [], ◌∷◌, length, map, refl, ◌∙◌, codes, arith}
 use Rattle.vast_literal.specs.Tree.{Members, NoMembers, MoreMembers, MemberTree, PortTree, ParameterPortTree, ModuleTree, FileItemTree, IncludeItem, CommentItem, BlankItem}
 use Rattle.vast_literal.specs.declared.kind.VastFileType.{VastFileType as Dialect}
 use Rattle.vast_print.specs.Printed.{plain_text}
 use Rattle.vast_print.specs.Page.{written, commented}
 use Rattle.vast_print.specs.Output.{Output, word, next, indented, inline}
-use Rattle.vast_print.specs.Internal.Words.{comma}
 use Rattle.vast_print.specs.Members.{members_page, entries_page}
 use Rattle.vast_print.specs.Layout.{port_text, parameter_port_text, ports_page, parameter_ports_page, opening_page, header_page, body_page, module_page, item_page, items_page}
 use Rattle.vast_print.proofs.OutputLaws.{inline-word, indented-line, indented-none, indented-blank, indented-above, indented-inner, indented-written, inline-then}

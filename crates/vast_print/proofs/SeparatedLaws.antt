@@ -1,6 +1,5 @@
 -- Laws of writing lists in a line, with a separator before each part but the first.
-use Rattle.std.proofs.Common.{◌≡◌, ◌<◌, ◌≤◌, ℕ, zero, suc, ◌+◌, List, [], ◌∷◌, length, get_or, map, drop, ◌∙◌, ap, codes, arith, add-one}
-use Rattle.std.proofs.lemmas.List.{drop_all}
+use Rattle.std.proofs.Common.{◌≡◌, ℕ, zero, suc, ◌+◌, List, [], ◌∷◌, codes, add-one}
 use Rattle.vast_literal.specs.Tree.{Declaration, ExprTree, Exprs, NoExprs, MoreExprs}
 use Rattle.vast_literal.specs.declared.kind.VastFileType.{VastFileType as Dialect}
 use Rattle.vast_print.specs.Printed.{Printed}

@@ -1,15 +1,14 @@
 -- Laws of the dimensions of arrays.
-use Rattle.std.proofs.Common.{◌≡◌, ◌<◌, ◌≤◌, ℕ, zero, suc, ◌+◌, ℤ, pos, true, List, [], ◌∷◌, ◌++◌, length, get_or, drop, refl, ◌∙◌, ap, codes, arith, add-one, append_assoc}
+use Rattle.std.proofs.Common.{◌≡◌, ℕ, ◌+◌, ℤ, pos, true, List, [], ◌∷◌, ◌++◌, refl, ◌∙◌, ap, codes, append_assoc}
 use Rattle.std.specs.Prelude.{◌-ℤ◌}
 use Rattle.std.specs.Fmt.{signed_decimal}
-use Rattle.std.proofs.lemmas.List.{drop_all}
 use Rattle.vast_literal.specs.declared.kind.VastFileType.{VastFileType as Dialect}
 use Rattle.vast_literal.specs.declared.kind.VastFileType.TheVariants.{Verilog as VerilogDialect, SystemVerilog as SystemVerilogDialect}
 use Rattle.vast_print.specs.Printed.{plain_text}
 use Rattle.vast_print.specs.Page.{written}
 use Rattle.vast_print.specs.Output.{Output, word, inline}
 use Rattle.vast_print.specs.Declaration.{packed_range, packed_text, unpacked_range, unpacked_text}
-use Rattle.vast_print.proofs.OutputLaws.{inline-then, inline-empty, inline-word}
+use Rattle.vast_print.proofs.OutputLaws.{inline-then, inline-word}
 use Rattle.vast_print.proofs.Lines.{unbroken}
 use Rattle.vast_print.proofs.NumberLaws.{inline-number}
 use Rattle.vast_print.proofs.DeclarationLaws.{plain-append}
