@@ -17,5 +17,8 @@ is_plain_case-returns-then-not-branch-2 t c =
     let xs = c.deref-arm-items.result.now in
     let i = c.loop-arm.arm-index in
     let x : CaseArm = get_or xs i no_arm in
-    grind (arith, at_drop_more (λ ys. are_plain_arms (case_arms_tree b ys)) xs i no_arm c.loop-arm-test.true
-    ∙ sym (and-assoc (is_plain_maybe (maybe_tree_of b x.label)) (are_plain_statements (block_tree b x.block)) (are_plain_arms (case_arms_tree b (drop (i + 1) xs)))))
+    grind (
+      arith,
+      at_drop_more (λ ys. are_plain_arms (case_arms_tree b ys)) xs i no_arm c.loop-arm-test.true
+          ∙ sym (and-assoc (is_plain_maybe (maybe_tree_of b x.label)) (are_plain_statements (block_tree b x.block)) (are_plain_arms (case_arms_tree b (drop (i + 1) xs)))),
+    )
