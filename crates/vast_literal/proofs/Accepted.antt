@@ -1,5 +1,5 @@
 -- A text that denotes a literal is accepted.
-use Rattle.std.proofs.Common.{◌≡◌, ◌≢◌, ℕ, ◌+◌, ◌-◌, ◌%◌, ◌^◌, ◌<◌, ◌≤◌, List, [], ◌∷◌, ◌++◌, Bool, true, false, cond, eqb, refl, sym, ap, ◌∙◌, arith, Some, None, Result, Ok, Err, inl, inr, MatchResult}
+use Rattle.std.proofs.Common.{◌≡◌, ◌≢◌, ℕ, ◌+◌, ◌-◌, ◌%◌, ◌^◌, ◌<◌, ◌≤◌, List, [], ◌∷◌, ◌++◌, Bool, true, false, eqb, refl, sym, ap, ◌∙◌, arith, Some, None, Result, Ok, Err, inl, inr, MatchResult}
 use Rattle.std.specs.Prelude.{◌⊎◌}
 use Rattle.std.specs.Bool.{MatchBool}
 use Rattle.std.specs.Int.{IsInRange}
@@ -12,11 +12,12 @@ use Rattle.vast_literal.specs.declared.error.VastFault.{VastFault}
 use Rattle.vast_literal.specs.declared.error.VastFault.TheVariants.{Refused, Memory}
 use Rattle.vast_literal.specs.Fault.{OnlyRefusedBy}
 use Rattle.vast_literal.specs.Digits.{is_digit_or_gap, is_numeral, number_in, weighted}
-use Rattle.vast_literal.specs.Literal.{Bits, split_at, typed_parts, without_sign, has_minus, marked_radix, radix_or_ten, digits_or_all, radix_and_digits, is_decimal, width_of, fits_in, modulo_width, magnitude_of, fitted, value_of, literal_of}
+use Rattle.vast_literal.specs.Literal.{Bits, split_at, typed_parts, without_sign, has_minus, marked_radix, radix_and_digits, is_decimal, width_of, fits_in, modulo_width, magnitude_of, fitted, value_of, literal_of}
 use Rattle.vast_literal.specs.Denotes.{IsSign, IsRadixMark, IsModulo, Denotes}
 use Rattle.vast_literal.specs.Denotes.IsSign.{NoSign, PlusSign, MinusSign}
 use Rattle.vast_literal.specs.Denotes.IsRadixMark.{NoMark}
 use Rattle.vast_literal.proofs.Parts.{starts_not}
+use Rattle.vast_literal.proofs.ScanLaws.{by_test}
 
 -- the width has no bracket, so the text is cut after it
 no_bracket : (c : ℕ) → is_ascii_digit c ≡ true → c ≢ 93
@@ -46,10 +47,6 @@ no_mark : (m : ℕ) → (m ≡ 95) ⊎ IsInRange 48 57 m → marked_radix m ≡ 
 no_mark m (inl e) = rw e
 no_mark m (inr r) = rw (ne_eqb m 120 (λ e. omega arith), ne_eqb m 88 (λ e. omega arith), ne_eqb m 98 (λ e. omega arith), ne_eqb m 66 (λ e. omega arith), ne_eqb m 111 (λ e. omega arith), ne_eqb m 79 (λ e. omega arith))
 
-zero_or_not : (b : Bool) (z m : ℕ) (ds : List ℕ) → marked_radix m ≡ None → (let parts : ℕ × List ℕ = cond b (radix_or_ten (marked_radix m), digits_or_all (marked_radix m) (z ∷ m ∷ ds) ds) (10, z ∷ m ∷ ds) in parts) ≡ (10, z ∷ m ∷ ds)
-zero_or_not true z m ds h = rw h
-zero_or_not false z m ds h = refl
-
 plain_digits : (digits : List ℕ) → is_numeral 10 digits ≡ true → radix_and_digits digits ≡ (10, digits)
 unfolding radix_and_digits is_numeral
 plain_digits [] h = refl
@@ -58,7 +55,7 @@ plain_digits (z ∷ m ∷ ds) h =
     let p = and_parts (list_all (is_digit_or_gap 10) (z ∷ m ∷ ds)) _ h in
     let q = and_parts (is_digit_or_gap 10 z) _ p.0 in
     let r = and_parts (is_digit_or_gap 10 m) _ q.1 in
-    zero_or_not (eqb z 48) z m ds (no_mark m (digit_range m r.0))
+    by_test (eqb z 48) (λ e. rw (e, no_mark m (digit_range m r.0))) (λ e. rw e)
 
 mark_read : (mark digits : List ℕ) (radix : ℕ) → IsRadixMark mark radix → is_numeral radix digits ≡ true → radix_and_digits (mark ++ digits) ≡ (radix, digits)
 unfolding radix_and_digits

@@ -1,6 +1,5 @@
 -- An accepted text denotes its literal, and a text that denotes one is accepted.
 use Rattle.std.proofs.Common.{◌≡◌, ℕ, ◌+◌, ◌-◌, ◌%◌, ◌^◌, ◌<◌, ◌≤◌, List, [], ◌∷◌, ◌++◌, Bool, true, false, eqb, eqb-true, refl, sym, ap, ◌∙◌, length, drop, arith, Option, Some, None, Result, Ok, Err, subst}
-use Rattle.std.specs.Prelude.{◌||◌}
 use Rattle.std.specs.Bool.{MatchBool, if◌then◌else◌}
 use Rattle.std.specs.List.{starts_with}
 use Rattle.std.specs.Option.{option_map}
@@ -13,10 +12,11 @@ use Rattle.std.proofs.Common.{MatchResult, IfOk}
 use Rattle.vast_literal.specs.declared.error.VastFault.{VastFault}
 use Rattle.vast_literal.specs.Fault.{OnlyRefusedBy}
 use Rattle.vast_literal.specs.Digits.{is_numeral, number_in, weighted}
-use Rattle.vast_literal.specs.Literal.{Bits, split_at, typed_parts, without_sign, has_minus, marked_radix, radix_or_ten, digits_or_all, radix_and_digits, is_decimal, width_of, fits_in, modulo_width, magnitude_of, fitted, value_of, bits_of_parts, literal_of, and_then}
+use Rattle.vast_literal.specs.Literal.{Bits, split_at, typed_parts, without_sign, has_minus, radix_and_digits, is_decimal, width_of, fits_in, modulo_width, magnitude_of, fitted, value_of, bits_of_parts, literal_of, and_then}
 use Rattle.vast_literal.specs.Denotes.{IsSign, IsRadixMark, IsModulo, Denotes}
 use Rattle.vast_literal.specs.Denotes.IsSign.{NoSign, PlusSign, MinusSign}
 use Rattle.vast_literal.specs.Denotes.IsRadixMark.{NoMark, LowerHexMark, UpperHexMark, LowerBinaryMark, UpperBinaryMark, LowerOctalMark, UpperOctalMark}
+use Rattle.vast_literal.proofs.ScanLaws.{by_test}
 
 -- a check that passed, where the result is there
 passed : (b : Bool) (r : Result ℕ (List ℕ)) (t : List ℕ) (x : ℕ) → (if b then r else Err t) ≡ Ok x → (b ≡ true) × (r ≡ Ok x)
@@ -42,51 +42,34 @@ split_at-parts mark [] parts h = cc
 split_at-parts mark (c ∷ cs) parts h =
     split_step mark c cs (starts_with eqb (c ∷ cs) mark) (split_at mark cs) parts (λ e. (starts_is Decides-eqb (c ∷ cs) mark _ refl).0 e) (λ q e. split_at-parts mark cs q e) h
 
-typed_step : (text : List ℕ) (b : Bool) (parts : List ℕ × List ℕ) → (b ≡ true → text ≡ 98 ∷ 105 ∷ 116 ∷ 115 ∷ 91 ∷ drop 5 text) → (if b then split_at (93 ∷ 58 ∷ []) (drop 5 text) else None) ≡ Some parts
-    → text ≡ 98 ∷ 105 ∷ 116 ∷ 115 ∷ 91 ∷ (parts.0 ++ (93 ∷ 58 ∷ parts.1))
-typed_step text true parts f h = f refl ∙ ap (λ t. 98 ∷ 105 ∷ 116 ∷ 115 ∷ 91 ∷ t) (split_at-parts (93 ∷ 58 ∷ []) (drop 5 text) parts h)
-typed_step text false parts f h = cc
-
 typed_parts-text : (text : List ℕ) (parts : List ℕ × List ℕ) → typed_parts text ≡ Some parts → text ≡ 98 ∷ 105 ∷ 116 ∷ 115 ∷ 91 ∷ (parts.0 ++ (93 ∷ 58 ∷ parts.1))
 unfolding typed_parts
-typed_parts-text text parts h = typed_step text (starts_with eqb text (98 ∷ 105 ∷ 116 ∷ 115 ∷ 91 ∷ [])) parts (λ e. (starts_is Decides-eqb text (98 ∷ 105 ∷ 116 ∷ 115 ∷ 91 ∷ []) _ refl).0 e) h
+typed_parts-text text parts h = by_test (starts_with eqb text (98 ∷ 105 ∷ 116 ∷ 115 ∷ 91 ∷ []))
+    (λ e. (starts_is Decides-eqb text (98 ∷ 105 ∷ 116 ∷ 115 ∷ 91 ∷ []) _ refl).0 e ∙ ap (λ t. 98 ∷ 105 ∷ 116 ∷ 115 ∷ 91 ∷ t) (split_at-parts (93 ∷ 58 ∷ []) (drop 5 text) parts (rw e at h))) (λ e. absurd (cc (rw e at h)))
 
 -- the sign that a number begins with
-sign_cases : (c : ℕ) (cs : List ℕ) (m p : Bool) → eqb c 45 ≡ m → eqb c 43 ≡ p → (sign : List ℕ) × IsSign sign m × (c ∷ cs ≡ sign ++ (if m || p then cs else c ∷ cs))
-sign_cases c cs true p e f = (45 ∷ [], MinusSign, ap (λ d. d ∷ cs) (eqb-true c 45 e))
-sign_cases c cs false true e f = (43 ∷ [], PlusSign, ap (λ d. d ∷ cs) (eqb-true c 43 f))
-sign_cases c cs false false e f = ([], NoSign, refl)
-
 sign_of : (value : List ℕ) → (sign : List ℕ) × IsSign sign (has_minus value) × (value ≡ sign ++ without_sign value)
 unfolding has_minus without_sign
 sign_of [] = ([], NoSign, refl)
-sign_of (c ∷ cs) = sign_cases c cs (eqb c 45) (eqb c 43) refl refl
+sign_of (c ∷ cs) = by_test (eqb c 45) (λ m. rw m (45 ∷ [], MinusSign, ap (λ d. d ∷ cs) (eqb-true c 45 m)))
+    (λ m. by_test (eqb c 43) (λ p. rw (m, p) (43 ∷ [], PlusSign, ap (λ d. d ∷ cs) (eqb-true c 43 p))) (λ p. rw (m, p) ([], NoSign, refl)))
 
 -- the mark that a number without a sign begins with
 two : (z m : ℕ) (y n : ℕ) (ds : List ℕ) → eqb z y ≡ true → eqb m n ≡ true → z ∷ m ∷ ds ≡ y ∷ n ∷ ds
 two z m y n ds e f = ap (λ a. a ∷ m ∷ ds) (eqb-true z y e) ∙ ap (λ b. y ∷ b ∷ ds) (eqb-true m n f)
 
-mark_cases : (z m : ℕ) (ds : List ℕ) (x X b B o O : Bool) → eqb z 48 ≡ true → eqb m 120 ≡ x → eqb m 88 ≡ X → eqb m 98 ≡ b → eqb m 66 ≡ B → eqb m 111 ≡ o → eqb m 79 ≡ O →
-    (mark : List ℕ) × IsRadixMark mark (radix_or_ten (if x || X then Some 16 else (if b || B then Some 2 else (if o || O then Some 8 else None))))
-    × (z ∷ m ∷ ds ≡ mark ++ digits_or_all (if x || X then Some 16 else (if b || B then Some 2 else (if o || O then Some 8 else None))) (z ∷ m ∷ ds) ds)
-mark_cases z m ds true X b B o O e e1 e2 e3 e4 e5 e6 = (48 ∷ 120 ∷ [], LowerHexMark, two z m 48 120 ds e e1)
-mark_cases z m ds false true b B o O e e1 e2 e3 e4 e5 e6 = (48 ∷ 88 ∷ [], UpperHexMark, two z m 48 88 ds e e2)
-mark_cases z m ds false false true B o O e e1 e2 e3 e4 e5 e6 = (48 ∷ 98 ∷ [], LowerBinaryMark, two z m 48 98 ds e e3)
-mark_cases z m ds false false false true o O e e1 e2 e3 e4 e5 e6 = (48 ∷ 66 ∷ [], UpperBinaryMark, two z m 48 66 ds e e4)
-mark_cases z m ds false false false false true O e e1 e2 e3 e4 e5 e6 = (48 ∷ 111 ∷ [], LowerOctalMark, two z m 48 111 ds e e5)
-mark_cases z m ds false false false false false true e e1 e2 e3 e4 e5 e6 = (48 ∷ 79 ∷ [], UpperOctalMark, two z m 48 79 ds e e6)
-mark_cases z m ds false false false false false false e e1 e2 e3 e4 e5 e6 = ([], NoMark, refl)
-
-zero_cases : (z m : ℕ) (ds : List ℕ) (b : Bool) → eqb z 48 ≡ b → let parts : ℕ × List ℕ = if b then (radix_or_ten (marked_radix m), digits_or_all (marked_radix m) (z ∷ m ∷ ds) ds) else (10, z ∷ m ∷ ds) in
-    (mark : List ℕ) × IsRadixMark mark parts.0 × (z ∷ m ∷ ds ≡ mark ++ parts.1)
-zero_cases z m ds true e = mark_cases z m ds (eqb m 120) (eqb m 88) (eqb m 98) (eqb m 66) (eqb m 111) (eqb m 79) e refl refl refl refl refl refl
-zero_cases z m ds false e = ([], NoMark, refl)
-
 mark_of : (number : List ℕ) → (mark : List ℕ) × IsRadixMark mark (radix_and_digits number).0 × (number ≡ mark ++ (radix_and_digits number).1)
 unfolding radix_and_digits
 mark_of [] = ([], NoMark, refl)
 mark_of (z ∷ []) = ([], NoMark, refl)
-mark_of (z ∷ m ∷ ds) = zero_cases z m ds (eqb z 48) refl
+mark_of (z ∷ m ∷ ds) = by_test (eqb z 48)
+    (λ e. by_test (eqb m 120) (λ x. rw (e, x) (48 ∷ 120 ∷ [], LowerHexMark, two z m 48 120 ds e x))
+    (λ x. by_test (eqb m 88) (λ X. rw (e, x, X) (48 ∷ 88 ∷ [], UpperHexMark, two z m 48 88 ds e X))
+    (λ X. by_test (eqb m 98) (λ b. rw (e, x, X, b) (48 ∷ 98 ∷ [], LowerBinaryMark, two z m 48 98 ds e b))
+    (λ b. by_test (eqb m 66) (λ B. rw (e, x, X, b, B) (48 ∷ 66 ∷ [], UpperBinaryMark, two z m 48 66 ds e B))
+    (λ B. by_test (eqb m 111) (λ o. rw (e, x, X, b, B, o) (48 ∷ 111 ∷ [], LowerOctalMark, two z m 48 111 ds e o))
+    (λ o. by_test (eqb m 79) (λ O. rw (e, x, X, b, B, o, O) (48 ∷ 79 ∷ [], UpperOctalMark, two z m 48 79 ds e O)) (λ O. rw (e, x, X, b, B, o, O) ([], NoMark, refl))))))))
+    (λ e. rw e ([], NoMark, refl))
 
 -- what the checks say
 width_facts : (text w : List ℕ) (n : ℕ) → width_of text w ≡ Ok n → (is_decimal w ≡ true) × (n ≡ weighted 10 w) × (1 ≤ n) × (n ≤ 1048576)

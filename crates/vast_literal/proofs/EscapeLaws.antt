@@ -1,15 +1,16 @@
 -- The escapes of a text between quotes, however it writes the codes of control characters: what each character adds.
-use Rattle.std.proofs.Common.{◌≡◌, ℕ, ◌+◌, ◌/◌, ◌<◌, ◌≤◌, List, [], ◌∷◌, ◌++◌, Bool, true, false, cond, refl, append_assoc, arith, ⊎_elim, eqb, eqb-true, ltb}
+use Rattle.std.proofs.Common.{◌≡◌, ℕ, ◌<◌, ◌≤◌, List, [], ◌∷◌, ◌++◌, true, false, append_assoc, arith, ⊎_elim, eqb, eqb-true, ltb}
 use Rattle.std.proofs.lemmas.Bool.Decides.{nat_tests}
 use Rattle.std.specs.Prelude.{◌≢◌, ◌⊎◌}
-use Rattle.std.proofs.lemmas.Bool.{le-ltb, lt-ltb, cases_lt, ne_eqb}
+use Rattle.std.proofs.lemmas.Bool.{le-ltb, lt-ltb, cases_lt, ne_eqb, cond_both}
 use Rattle.std.specs.Prelude.{encode_utf8}
-use lib.Utf8.{encode, next}
+use lib.Utf8.{encode}
 use Rattle.std.specs.List.{flat_map}
 use Rattle.vast_literal.specs.Quoted.{escaped_by}
 use Rattle.std.proofs.lemmas.List.Concat.{flat_map-append}
 use mathlib.Core.List.{append-nil}
 use Rattle.std.specs.Char.{is_ascii_control}
+use Rattle.vast_literal.proofs.ScanLaws.{by_test}
 
 pub escaped_quote : (code : ℕ → List ℕ) (c : ℕ) → c ≡ 34 → flat_map (escaped_by code) (encode_utf8 c) ≡ 92 ∷ 34 ∷ []
 unfolding escaped_by encode
@@ -52,16 +53,11 @@ high_three code a b c h k l = rw (escaped_high code a h, escaped_high code b k, 
 high_four : (code : ℕ → List ℕ) (a b c d : ℕ) → 128 ≤ a → 128 ≤ b → 128 ≤ c → 128 ≤ d → flat_map (escaped_by code) (a ∷ b ∷ c ∷ d ∷ []) ≡ a ∷ b ∷ c ∷ d ∷ []
 high_four code a b c d h k l m = rw (escaped_high code a h, escaped_high code b k, escaped_high code c l, escaped_high code d m)
 
-wide_cases : (code : ℕ → List ℕ) (c : ℕ) (x y : Bool) →
-    flat_map (escaped_by code) (cond x ((192 + c / 64) ∷ next c ∷ []) (cond y ((224 + c / 4096) ∷ next (c / 64) ∷ next c ∷ []) ((240 + c / 262144) ∷ next (c / 4096) ∷ next (c / 64) ∷ next c ∷ [])))
-    ≡ cond x ((192 + c / 64) ∷ next c ∷ []) (cond y ((224 + c / 4096) ∷ next (c / 64) ∷ next c ∷ []) ((240 + c / 262144) ∷ next (c / 4096) ∷ next (c / 64) ∷ next c ∷ []))
-wide_cases code c true y = high_two code _ _ (omega arith) (omega arith)
-wide_cases code c false true = high_three code _ _ _ (omega arith) (omega arith) (omega arith)
-wide_cases code c false false = high_four code _ _ _ _ (omega arith) (omega arith) (omega arith) (omega arith)
-
 wide_character : (code : ℕ → List ℕ) (c : ℕ) → 128 ≤ c → flat_map (escaped_by code) (encode_utf8 c) ≡ encode_utf8 c
 unfolding encode
-wide_character code c h = rw (le-ltb c 128 h) (wide_cases code c (ltb c 2048) (ltb c 65536))
+wide_character code c h = rw (le-ltb c 128 h) (by_test (ltb c 2048) (λ x. rw x (high_two code _ _ (omega arith) (omega arith)))
+    (λ x. by_test (ltb c 65536) (λ y. rw (x, y) (high_three code _ _ _ (omega arith) (omega arith) (omega arith)))
+    (λ y. rw (x, y) (high_four code _ _ _ _ (omega arith) (omega arith) (omega arith) (omega arith)))))
 
 plain_ascii : (code : ℕ → List ℕ) (c : ℕ) → c ≢ 34 → c ≢ 92 → c ≢ 10 → c ≢ 13 → c ≢ 9 → is_ascii_control c ≡ false → c < 128 → flat_map (escaped_by code) (encode_utf8 c) ≡ encode_utf8 c
 unfolding escaped_by encode
@@ -79,18 +75,14 @@ one_more code text more rest after c all h e k =
     let g = append_assoc text (flat_map (escaped_by code) (encode_utf8 c)) (flat_map (escaped_by code) after) in
     cc
 
-by_test : (P : List ℕ → Type 0) (b : Bool) (u v : List ℕ) → (b ≡ true → P u) → (b ≡ false → P v) → P (cond b u v)
-by_test P true u v f g = f refl
-by_test P false u v f g = g refl
-
 -- what holds of each form of an escape
 pub by_escape : (code : ℕ → List ℕ) (P : List ℕ → Type 0) (c : ℕ) → (c ≡ 34 → P (92 ∷ 34 ∷ [])) → (c ≡ 92 → P (92 ∷ 92 ∷ [])) → (c ≡ 10 → P (92 ∷ 110 ∷ [])) → (c ≡ 13 → P (92 ∷ 114 ∷ [])) → (c ≡ 9 → P (92 ∷ 116 ∷ []))
     → (is_ascii_control c ≡ true → P (code c)) → (eqb c 34 ≡ false → eqb c 92 ≡ false → eqb c 10 ≡ false → is_ascii_control c ≡ false → P (c ∷ [])) → P (escaped_by code c)
 unfolding escaped_by
 by_escape code P c q b n r t o p =
-    by_test P (eqb c 34) _ _ (λ e. q (eqb-true c 34 e)) (λ no_quote.
-    by_test P (eqb c 92) _ _ (λ e. b (eqb-true c 92 e)) (λ no_backslash.
-    by_test P (eqb c 10) _ _ (λ e. n (eqb-true c 10 e)) (λ no_break.
-    by_test P (eqb c 13) _ _ (λ e. r (eqb-true c 13 e)) (λ _.
-    by_test P (eqb c 9) _ _ (λ e. t (eqb-true c 9 e)) (λ _.
-    by_test P (is_ascii_control c) _ _ o (λ no_control. p no_quote no_backslash no_break no_control))))))
+    cond_both (eqb c 34) _ _ P (λ e. q (eqb-true c 34 e)) (λ no_quote.
+    cond_both (eqb c 92) _ _ P (λ e. b (eqb-true c 92 e)) (λ no_backslash.
+    cond_both (eqb c 10) _ _ P (λ e. n (eqb-true c 10 e)) (λ no_break.
+    cond_both (eqb c 13) _ _ P (λ e. r (eqb-true c 13 e)) (λ _.
+    cond_both (eqb c 9) _ _ P (λ e. t (eqb-true c 9 e)) (λ _.
+    cond_both (is_ascii_control c) _ _ P o (λ no_control. p no_quote no_backslash no_break no_control))))))

@@ -16,6 +16,7 @@ use Rattle.vast_literal.proofs.Numbers.{pow-pow}
 use Rattle.vast_literal.proofs.Widths.{positive_from_high, narrow_from_high}
 use Rattle.vast_literal.proofs.Spelt.{written-grouped, written-characters, is_grouped, no_gaps}
 use Rattle.vast_literal.proofs.Decimals.{written-decimal, decimal_no_gaps, digit_count-fits, digit_count-some}
+use Rattle.std.proofs.lemmas.Nat.{pow_pos}
 
 modulo_plain : (n v : ℕ) → v < 2 ^ n → IsModulo n false v v
 modulo_plain n v h = record { below = h; same = sym (mod-eq_of_lt h) }
@@ -24,21 +25,13 @@ modulo_minus : (n v : ℕ) → v < 2 ^ n → IsModulo n true (2 ^ n - v) v
 modulo_minus n v h = record { below = h; same = ap (λ k. k % 2 ^ n) (let e : v + (2 ^ n - v) ≡ 2 ^ n = omega arith in e) ∙ mod_self (2 ^ n) }
 
 -- a number fits in its padded digits
-pub padded_some : (n v : ℕ) (b : Bool) → 1 ≤ n → 0 < cond b 1 (div_ceil n 1)
-padded_some n v true p = lit< tt
-padded_some n v false p = omega arith
+pub padded_some : (b : Bool) (count : ℕ) → 0 < count → 0 < cond b 1 count
+padded_some true count p = lit< tt
+padded_some false count p = p
 
-padded_fits_1 : (n v : ℕ) (b : Bool) → (b ≡ true → v ≡ 0) → v < 2 ^ n → v < (2 ^ 1) ^ cond b 1 (div_ceil n 1)
-padded_fits_1 n v true z h = rw (z refl) (lit< tt)
-padded_fits_1 n v false z h = rw (pow-pow 1 (div_ceil n 1)) (let m = pow_mono {i = n} {j = 1 * div_ceil n 1} (omega arith) in omega arith)
-
-padded_fits_4 : (n v : ℕ) (b : Bool) → (b ≡ true → v ≡ 0) → v < 2 ^ n → v < (2 ^ 4) ^ cond b 1 (div_ceil n 4)
-padded_fits_4 n v true z h = rw (z refl) (lit< tt)
-padded_fits_4 n v false z h = rw (pow-pow 4 (div_ceil n 4)) (let m = pow_mono {i = n} {j = 4 * div_ceil n 4} (omega arith) in omega arith)
-
-pub padded_some_4 : (n v : ℕ) (b : Bool) → 1 ≤ n → 0 < cond b 1 (div_ceil n 4)
-padded_some_4 n v true p = lit< tt
-padded_some_4 n v false p = omega arith
+padded_fits : (k n v : ℕ) (b : Bool) → n ≤ k * div_ceil n k → (b ≡ true → v ≡ 0) → v < 2 ^ n → v < (2 ^ k) ^ cond b 1 (div_ceil n k)
+padded_fits k n v true l z h = rw (z refl, pow-pow k 1) (pow_pos (k * 1))
+padded_fits k n v false l z h = rw (pow-pow k (div_ceil n k)) (let m = pow_mono {i = n} {j = k * div_ceil n k} l in omega arith)
 
 is_zero : (n v : ℕ) → (eqb v 0 && ltb 1024 n) ≡ true → v ≡ 0
 is_zero n v h = eqb-true v 0 (and_parts (eqb v 0) (ltb 1024 n) h).0
@@ -63,8 +56,8 @@ spells Binary n v p h s = record {
   parts = refl;
   fits = h;
   value = modulo_plain n v h;
-  written = written-grouped 1 (padded_count 1 n v) v (lit≤ tt) (lit≤ tt) (padded_some n v (eqb v 0 && ltb 1024 n) p) (padded_fits_1 n v (eqb v 0 && ltb 1024 n) (is_zero n v) h);
-  separated = is_grouped 1 (padded_count 1 n v) v (lit≤ tt) (padded_some n v (eqb v 0 && ltb 1024 n) p);
+  written = written-grouped 1 (padded_count 1 n v) v (lit≤ tt) (lit≤ tt) (padded_some (eqb v 0 && ltb 1024 n) (div_ceil n 1) (omega arith)) (padded_fits 1 n v (eqb v 0 && ltb 1024 n) (omega arith) (is_zero n v) h);
+  separated = is_grouped 1 (padded_count 1 n v) v (lit≤ tt) (padded_some (eqb v 0 && ltb 1024 n) (div_ceil n 1) (omega arith));
 }
 spells Hex n v p h s = record {
   number = v;
@@ -72,8 +65,8 @@ spells Hex n v p h s = record {
   parts = refl;
   fits = h;
   value = modulo_plain n v h;
-  written = written-grouped 4 (padded_count 4 n v) v (lit≤ tt) (lit≤ tt) (padded_some_4 n v (eqb v 0 && ltb 1024 n) p) (padded_fits_4 n v (eqb v 0 && ltb 1024 n) (is_zero n v) h);
-  separated = is_grouped 4 (padded_count 4 n v) v (lit≤ tt) (padded_some_4 n v (eqb v 0 && ltb 1024 n) p);
+  written = written-grouped 4 (padded_count 4 n v) v (lit≤ tt) (lit≤ tt) (padded_some (eqb v 0 && ltb 1024 n) (div_ceil n 4) (omega arith)) (padded_fits 4 n v (eqb v 0 && ltb 1024 n) (omega arith) (is_zero n v) h);
+  separated = is_grouped 4 (padded_count 4 n v) v (lit≤ tt) (padded_some (eqb v 0 && ltb 1024 n) (div_ceil n 4) (omega arith));
 }
 spells SignedDecimal n v p h s =
     let t = signed_cases n v (is_below_half n v) refl h s in

@@ -1,20 +1,12 @@
 -- A word is a keyword exactly where a binary search in the table of keywords finds it.
-use Rattle.std.proofs.Common.{◌≡◌, zero, suc, ℕ, ◌<◌, List, [], ◌∷◌, length, map, get_or, Bool, true, false, not, ◌&&◌, ◌||◌, Result, Ok, Err, is_ok, Less, Equal, Greater, Ordering, is_lt, is_eq, nat_cmp, bytes_eq, ⊎_elim, refl, ap, sym, ◌∙◌, arith, add-one}
+use Rattle.std.proofs.Common.{◌≡◌, zero, suc, ℕ, ◌<◌, List, [], ◌∷◌, length, map, get_or, Bool, true, false, not, ◌&&◌, Result, Ok, Err, is_ok, Less, Equal, Greater, Ordering, is_lt, is_eq, nat_cmp, bytes_eq, ⊎_elim, refl, ap, sym, ◌∙◌, arith, add-one}
 use Rattle.std.specs.Cmp.Lexicographic.{slice_cmp}
 use Rattle.std.specs.List.Sorted.{IsSortedBy, IsSearchInRange, IsBinarySearchResult}
-use Rattle.std.proofs.lemmas.Bool.{cases_lt, and_parts}
+use Rattle.std.proofs.lemmas.Bool.{cases_lt, and_parts, not-true as not_true, or_right}
 use Rattle.std.proofs.lemmas.Cmp.{nat_list_cmp_total}
 use Rattle.std.proofs.lemmas.List.Sorted.{searchable_from_sorted}
 use Rattle.std.proofs.lemmas.Map.Text.{is_eq-slice_cmp}
 use Rattle.vast_literal.specs.Keyword.{keywords, is_among, is_keyword}
-
-denied : (a : Bool) → not a ≡ true → a ≡ false
-denied true h = sym h
-denied false h = refl
-
-or_true : (a b : Bool) → b ≡ true → a || b ≡ true
-or_true true b h = refl
-or_true false b h = h
 
 abbrev is_below : List ℕ → List ℕ → Bool
 is_below t u = is_lt (slice_cmp nat_cmp t u)
@@ -41,7 +33,7 @@ module _ {X : Type 0} (text : X → List ℕ) where
   sorted_from : (t : X) (ts : List X) → rises_from (text t) (map text ts) ≡ true → IsInOrder (t ∷ ts)
   unfolding rises_from
   sorted_from t [] h k d low high = absurd (omega arith)
-  sorted_from t (u ∷ us) h zero d low high = denied (is_below (text u) (text t)) (and_parts _ _ h).0
+  sorted_from t (u ∷ us) h zero d low high = not_true (is_below (text u) (text t)) (and_parts _ _ h).0
   sorted_from t (u ∷ us) h (suc k) d low high =
       let step = sorted_from u us (and_parts _ _ h).1 k d (omega arith) (omega arith) in
       let moved = rw (add-one k) at step in
@@ -55,7 +47,7 @@ module _ {X : Type 0} (text : X → List ℕ) where
   among_at : (ts : List X) (word : List ℕ) (i : ℕ) → i < length ts → ((d : X) → bytes_eq (text (get_or ts i d)) word ≡ true) → is_among (map text ts) word ≡ true
   among_at [] word i low h = absurd (omega arith)
   among_at (t ∷ ts) word zero low h = rw (h t) refl
-  among_at (t ∷ ts) word (suc i) low h = or_true (bytes_eq (text t) word) _ (among_at ts word i (omega arith) h)
+  among_at (t ∷ ts) word (suc i) low h = or_right (bytes_eq (text t) word) _ (among_at ts word i (omega arith) h)
 
   among_none : (ts : List X) (word : List ℕ) → ((i : ℕ) (d : X) → i < length ts → bytes_eq (text (get_or ts i d)) word ≡ false) → is_among (map text ts) word ≡ false
   among_none [] word h = refl

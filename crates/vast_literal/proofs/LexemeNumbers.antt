@@ -1,47 +1,38 @@
 -- Numbers, and what an apostrophe begins.
-use Rattle.std.proofs.Common.{◌≡◌, ◌≤◌, ◌⊎◌, inl, inr, ℕ, List, [], ◌∷◌, ◌++◌, length, Bool, true, false, eqb-true, ◌||◌, eqb, None, refl, sym, ◌∙◌, ap, append_assoc, append-nil, arith}
+use Rattle.std.proofs.Common.{◌≡◌, ◌≤◌, ◌⊎◌, inl, inr, ℕ, List, [], ◌∷◌, ◌++◌, length, true, false, eqb-true, ◌||◌, eqb, None, refl, sym, ◌∙◌, ap, append_assoc, append-nil, arith}
 use Rattle.vast_literal.specs.Tokens.{OpenParen, OpenBrace, Apostrophe, Number, Based, Mark}
 use Rattle.vast_literal.specs.Scan.{is_digit, is_based_digit, is_radix, is_filler, Gap, InNumber, AfterTick, InSigned, InRadix, InBased, before_tick, scan, add_tokens}
 use Rattle.vast_literal.specs.LiteralToken.{every, is_number, is_based_number, is_radix_tail, is_based_tail}
 use Rattle.vast_literal.specs.Lexemes.{IsBase}
 use Rattle.vast_literal.specs.Lexemes.IsBase.{unsigned, signed}
 use Rattle.vast_literal.specs.Lexemes.IsLexeme.{number}
-use Rattle.vast_literal.proofs.ScanLaws.{add_tokens-append, and_right, or_left, or_right}
+use Rattle.vast_literal.proofs.ScanLaws.{add_tokens-append, and_right, or_left, or_right, by_test}
 use Rattle.vast_literal.proofs.LiteralLaws.{every_push}
 use Rattle.vast_literal.proofs.TokenTexts.{no_tick}
 use Rattle.vast_literal.proofs.LexemeShapes.{radix_signed, digit_goes}
 use Rattle.vast_literal.proofs.LexemeFronts.{Ahead, Lost, Ends, here, extend, nowhere, lost, ends_on, add_none, scan_follow}
 use Rattle.vast_literal.proofs.LexemeRuns.{based_on}
+use Rattle.vast_literal.proofs.NumberLaws.{every_number}
 
 -- digits after a base
-radix_by : (size base : List ℕ) (c : ℕ) (cs : List ℕ) → every is_digit size ≡ true → IsBase base → (b : Bool) → is_based_digit c ≡ b →
-    Ends is_based_number (size ++ (39 ∷ base)) (InRadix (size ++ (39 ∷ base))) (c ∷ cs)
-unfolding scan
-radix_by size base c cs g h false e = inr (lost is_based_number (InRadix (size ++ (39 ∷ base))) (c ∷ cs) refl (λ v. rw e) (rw e))
-radix_by size base c cs g h true e =
-    let joined : (size ++ (39 ∷ base)) ++ (c ∷ []) ≡ size ++ (39 ∷ (base ++ (c ∷ []))) = append_assoc size (39 ∷ base) (c ∷ []) in
-    inl (extend is_based_number (every is_based_digit) (size ++ (39 ∷ base)) (InRadix (size ++ (39 ∷ base))) (InBased ((size ++ (39 ∷ base)) ++ (c ∷ []))) c cs (rw e) (λ v k. and_right (is_based_digit c) (every is_based_digit v) k)
-    (rw joined (based_on size base c g h e cs)))
-
 radix_ends : (size base t : List ℕ) → every is_digit size ≡ true → IsBase base → Ends is_based_number (size ++ (39 ∷ base)) (InRadix (size ++ (39 ∷ base))) t
 unfolding scan
 radix_ends size base [] g h = inr (lost is_based_number (InRadix (size ++ (39 ∷ base))) [] refl tt refl)
-radix_ends size base (c ∷ cs) g h = radix_by size base c cs g h (is_based_digit c) refl
+radix_ends size base (c ∷ cs) g h = by_test (is_based_digit c)
+    (λ e. let joined : (size ++ (39 ∷ base)) ++ (c ∷ []) ≡ size ++ (39 ∷ (base ++ (c ∷ []))) = append_assoc size (39 ∷ base) (c ∷ []) in
+    inl (extend is_based_number (every is_based_digit) (size ++ (39 ∷ base)) (InRadix (size ++ (39 ∷ base))) (InBased ((size ++ (39 ∷ base)) ++ (c ∷ []))) c cs (rw e) (λ v k. and_right (is_based_digit c) (every is_based_digit v) k)
+    (rw joined (based_on size base c g h e cs))))
+    (λ e. inr (lost is_based_number (InRadix (size ++ (39 ∷ base))) (c ∷ cs) refl (λ v. rw e) (rw e)))
 
 -- a radix after `s`
-signed_by : (size : List ℕ) (c : ℕ) (cs : List ℕ) → every is_digit size ≡ true → (b : Bool) → is_radix c ≡ b →
-    Ends is_radix_tail (size ++ (39 ∷ 115 ∷ [])) (InSigned (size ++ (39 ∷ 115 ∷ []))) (c ∷ cs)
-unfolding scan
-signed_by size c cs g false e = inr (lost is_radix_tail (InSigned (size ++ (39 ∷ 115 ∷ []))) (c ∷ cs) refl (λ v. rw e) (rw e))
-signed_by size c cs g true e =
-    let joined : (size ++ (39 ∷ 115 ∷ [])) ++ (c ∷ []) ≡ size ++ (39 ∷ 115 ∷ c ∷ []) = append_assoc size (39 ∷ 115 ∷ []) (c ∷ []) in
-    ends_on is_radix_tail is_based_number (size ++ (39 ∷ 115 ∷ [])) (InSigned (size ++ (39 ∷ 115 ∷ []))) (InRadix ((size ++ (39 ∷ 115 ∷ [])) ++ (c ∷ []))) c cs refl (rw e) (λ v k. and_right (is_radix c) (is_based_number v) k)
-    (rw joined (radix_ends size (115 ∷ c ∷ []) cs g (signed e)))
-
 signed_ends : (size t : List ℕ) → every is_digit size ≡ true → Ends is_radix_tail (size ++ (39 ∷ 115 ∷ [])) (InSigned (size ++ (39 ∷ 115 ∷ []))) t
 unfolding scan
 signed_ends size [] g = inr (lost is_radix_tail (InSigned (size ++ (39 ∷ 115 ∷ []))) [] refl tt refl)
-signed_ends size (c ∷ cs) g = signed_by size c cs g (is_radix c) refl
+signed_ends size (c ∷ cs) g = by_test (is_radix c)
+    (λ e. let joined : (size ++ (39 ∷ 115 ∷ [])) ++ (c ∷ []) ≡ size ++ (39 ∷ 115 ∷ c ∷ []) = append_assoc size (39 ∷ 115 ∷ []) (c ∷ []) in
+    ends_on is_radix_tail is_based_number (size ++ (39 ∷ 115 ∷ [])) (InSigned (size ++ (39 ∷ 115 ∷ []))) (InRadix ((size ++ (39 ∷ 115 ∷ [])) ++ (c ∷ []))) c cs refl (rw e) (λ v k. and_right (is_radix c) (is_based_number v) k)
+    (rw joined (radix_ends size (115 ∷ c ∷ []) cs g (signed e))))
+    (λ e. inr (lost is_radix_tail (InSigned (size ++ (39 ∷ 115 ∷ []))) (c ∷ cs) refl (λ v. rw e) (rw e)))
 
 -- After digits and an apostrophe: a based literal, or the digits are a lexeme and the apostrophe begins another.
 pub record Parted (d t : List ℕ) : Type 0 where
@@ -58,68 +49,49 @@ none_before d t l e = record { nothing = l.nothing; scanned = l.scanned ∙ sym 
 radix_none : (b t : List ℕ) → ((v behind : List ℕ) → t ≡ v ++ behind → is_based_number v ≡ true → ⊥) → scan (InRadix b) t ≡ None
 unfolding scan
 radix_none b [] n = refl
-radix_none b (c ∷ cs) n = radix_none_by (is_based_digit c) refl
-  where
-    radix_none_by : (d : Bool) → is_based_digit c ≡ d → scan (InRadix b) (c ∷ cs) ≡ None
-    radix_none_by false e = rw e
-    radix_none_by true e = absurd (n (c ∷ []) cs refl (rw e))
+radix_none b (c ∷ cs) n = by_test (is_based_digit c) (λ e. absurd (n (c ∷ []) cs refl (rw e))) (λ e. rw e)
 
 signed_none : (b t : List ℕ) → ((v behind : List ℕ) → t ≡ v ++ behind → is_radix_tail v ≡ true → ⊥) → scan (InSigned b) t ≡ None
 unfolding scan
 signed_none b [] n = refl
-signed_none b (c ∷ cs) n = signed_none_by (is_radix c) refl
-  where
-    signed_none_by : (r : Bool) → is_radix c ≡ r → scan (InSigned b) (c ∷ cs) ≡ None
-    signed_none_by false e = rw e
-    signed_none_by true e = rw e (radix_none (b ++ (c ∷ [])) cs (λ v behind p k. n (c ∷ v) behind (ap (λ x. c ∷ x) p) (rw e k)))
+signed_none b (c ∷ cs) n = by_test (is_radix c) (λ e. rw e (radix_none (b ++ (c ∷ [])) cs (λ v behind p k. n (c ∷ v) behind (ap (λ x. c ∷ x) p) (rw e k)))) (λ e. rw e)
 
 -- a byte that a base begins with
-pub base_by : (d : List ℕ) (c : ℕ) (cs : List ℕ) → every is_digit d ≡ true → (r : Bool) → is_radix c ≡ r → (r || eqb c 115) ≡ true → Ends is_based_tail (d ++ (39 ∷ [])) (AfterTick d) (c ∷ cs)
-base_by d c cs g true e h =
-    ends_on is_based_tail is_based_number (d ++ (39 ∷ [])) (AfterTick d) (InRadix (d ++ (39 ∷ c ∷ []))) c cs refl (rw e) (λ v k. rw (radix_signed c e, e) at k)
-    (rw (append_assoc d (39 ∷ []) (c ∷ [])) (radix_ends d (c ∷ []) cs g (unsigned e)))
-base_by d c cs g false e h =
-    rw (eqb-true c 115 h)
+pub base_by : (d : List ℕ) (c : ℕ) (cs : List ℕ) → every is_digit d ≡ true → (is_radix c || eqb c 115) ≡ true → Ends is_based_tail (d ++ (39 ∷ [])) (AfterTick d) (c ∷ cs)
+base_by d c cs g h = by_test (is_radix c)
+    (λ e. ends_on is_based_tail is_based_number (d ++ (39 ∷ [])) (AfterTick d) (InRadix (d ++ (39 ∷ c ∷ []))) c cs refl (rw e) (λ v k. rw (radix_signed c e, e) at k)
+    (rw (append_assoc d (39 ∷ []) (c ∷ [])) (radix_ends d (c ∷ []) cs g (unsigned e))))
+    (λ e. rw (eqb-true c 115 (rw e at h))
     (ends_on is_based_tail is_radix_tail (d ++ (39 ∷ [])) (AfterTick d) (InSigned (d ++ (39 ∷ 115 ∷ []))) 115 cs refl refl (λ v k. k)
-    (rw (append_assoc d (39 ∷ []) (115 ∷ [])) (signed_ends d cs g)))
+    (rw (append_assoc d (39 ∷ []) (115 ∷ [])) (signed_ends d cs g))))
 
-base_none : (d : List ℕ) (c : ℕ) (cs : List ℕ) → ((v behind : List ℕ) → c ∷ cs ≡ v ++ behind → is_based_tail v ≡ true → ⊥) → (r : Bool) → is_radix c ≡ r → (r || eqb c 115) ≡ true → scan (AfterTick d) (c ∷ cs) ≡ None
+base_none : (d : List ℕ) (c : ℕ) (cs : List ℕ) → ((v behind : List ℕ) → c ∷ cs ≡ v ++ behind → is_based_tail v ≡ true → ⊥) → (is_radix c || eqb c 115) ≡ true → scan (AfterTick d) (c ∷ cs) ≡ None
 unfolding scan
-base_none d c cs n true e h = rw e (radix_none (d ++ (39 ∷ c ∷ [])) cs (λ v behind p k. n (c ∷ v) behind (ap (λ x. c ∷ x) p) (rw (radix_signed c e, e) k)))
-base_none d c cs n false e h =
-    let m = rw (eqb-true c 115 h) at n in
-    rw (eqb-true c 115 h) (signed_none (d ++ (39 ∷ 115 ∷ [])) cs (λ v behind p k. m (115 ∷ v) behind (ap (λ x. 115 ∷ x) p) k))
+base_none d c cs n h = by_test (is_radix c)
+    (λ e. rw e (radix_none (d ++ (39 ∷ c ∷ [])) cs (λ v behind p k. n (c ∷ v) behind (ap (λ x. c ∷ x) p) (rw (radix_signed c e, e) k))))
+    (λ e. let at : c ≡ 115 = eqb-true c 115 (rw e at h) in let m = rw at at n in
+    rw at (signed_none (d ++ (39 ∷ 115 ∷ [])) cs (λ v behind p k. m (115 ∷ v) behind (ap (λ x. 115 ∷ x) p) k)))
 
 -- another byte
-apart_by : (d : List ℕ) (c : ℕ) (cs : List ℕ) → is_radix c ≡ false → eqb c 115 ≡ false → (f p b : Bool) → is_filler c ≡ f → eqb c 40 ≡ p → eqb c 123 ≡ b →
-    scan (AfterTick d) (c ∷ cs) ≡ add_tokens (before_tick d) (scan (AfterTick []) (c ∷ cs))
+apart : (d : List ℕ) (c : ℕ) (cs : List ℕ) → is_radix c ≡ false → eqb c 115 ≡ false → scan (AfterTick d) (c ∷ cs) ≡ add_tokens (before_tick d) (scan (AfterTick []) (c ∷ cs))
 unfolding scan
-apart_by d c cs er es true p b ef ep eb = rw (er, es, ef) (add_tokens-append (before_tick d) (Based (39 ∷ c ∷ []) ∷ []) (scan Gap cs))
-apart_by d c cs er es false true b ef ep eb = rw (er, es, ef, ep) (add_tokens-append (before_tick d) (Mark Apostrophe ∷ Mark OpenParen ∷ []) (scan Gap cs))
-apart_by d c cs er es false false true ef ep eb = rw (er, es, ef, ep, eb) (add_tokens-append (before_tick d) (Mark Apostrophe ∷ Mark OpenBrace ∷ []) (scan Gap cs))
-apart_by d c cs er es false false false ef ep eb = rw (er, es, ef, ep, eb) (sym (add_none (before_tick d)))
-
-tick_by : (d : List ℕ) (c : ℕ) (cs : List ℕ) → every is_digit d ≡ true → (o : Bool) → (is_radix c || eqb c 115) ≡ o → TickEnds d (c ∷ cs)
-tick_by d c cs g true e = based_or_parted (base_by d c cs g (is_radix c) refl e)
-  where
-    based_or_parted : Ends is_based_tail (d ++ (39 ∷ [])) (AfterTick d) (c ∷ cs) → TickEnds d (c ∷ cs)
-    based_or_parted (inl a) = inl a
-    based_or_parted (inr l) = inr (none_before d (c ∷ cs) l (base_none [] c cs l.nothing (is_radix c) refl e))
-tick_by d c cs g false e =
-    let er = or_left (is_radix c) (eqb c 115) e in
-    let es = or_right (is_radix c) (eqb c 115) e in
-    inr (record { nothing = nowhere is_based_tail (c ∷ cs) refl (λ v. rw (es, er)); scanned = apart_by d c cs er es (is_filler c) (eqb c 40) (eqb c 123) refl refl refl })
+apart d c cs er es = by_test (is_filler c) (λ ef. rw (er, es, ef) (add_tokens-append (before_tick d) (Based (39 ∷ c ∷ []) ∷ []) (scan Gap cs)))
+    (λ ef. by_test (eqb c 40) (λ ep. rw (er, es, ef, ep) (add_tokens-append (before_tick d) (Mark Apostrophe ∷ Mark OpenParen ∷ []) (scan Gap cs)))
+    (λ ep. by_test (eqb c 123) (λ eb. rw (er, es, ef, ep, eb) (add_tokens-append (before_tick d) (Mark Apostrophe ∷ Mark OpenBrace ∷ []) (scan Gap cs)))
+    (λ eb. rw (er, es, ef, ep, eb) (sym (add_none (before_tick d))))))
 
 tick_ends : (d t : List ℕ) → every is_digit d ≡ true → TickEnds d t
 unfolding scan
 tick_ends d [] g = inr (record { nothing = nowhere is_based_tail [] refl tt; scanned = sym (add_none (before_tick d)) })
-tick_ends d (c ∷ cs) g = tick_by d c cs g (is_radix c || eqb c 115) refl
+tick_ends d (c ∷ cs) g = by_test (is_radix c || eqb c 115) (λ e. based_or_parted e (base_by d c cs g e))
+    (λ e. let er = or_left (is_radix c) (eqb c 115) e in let es = or_right (is_radix c) (eqb c 115) e in
+    inr (record { nothing = nowhere is_based_tail (c ∷ cs) refl (λ v. rw (es, er)); scanned = apart d c cs er es }))
+  where
+    based_or_parted : (is_radix c || eqb c 115) ≡ true → Ends is_based_tail (d ++ (39 ∷ [])) (AfterTick d) (c ∷ cs) → TickEnds d (c ∷ cs)
+    based_or_parted e (inl a) = inl a
+    based_or_parted e (inr l) = inr (none_before d (c ∷ cs) l (base_none [] c cs l.nothing e))
 
 -- Numbers.
-every_number : (d : List ℕ) → is_number d ≡ true → every is_digit d ≡ true
-every_number [] h = refl
-every_number (c ∷ d) h = h
-
 number_push : (d : List ℕ) (c : ℕ) → is_number d ≡ true → is_digit c ≡ true → is_number (d ++ (c ∷ [])) ≡ true
 number_push [] c h k = cc
 number_push (x ∷ d) c h k = every_push is_digit (x ∷ d) c h k
@@ -146,18 +118,13 @@ number_tick (x ∷ d) cs h (inr p) = record {
   scanned = p.scanned;
 }
 
-number_by : (d : List ℕ) (c : ℕ) (cs : List ℕ) → is_number d ≡ true → (b t : Bool) → is_digit c ≡ b → eqb c 39 ≡ t →
-    (is_number (d ++ (c ∷ [])) ≡ true → Ahead digit_goes (d ++ (c ∷ [])) (InNumber (d ++ (c ∷ []))) cs) → Ahead digit_goes d (InNumber d) (c ∷ cs)
-number_by d c cs h true t eb et f =
-    extend digit_goes digit_goes d (InNumber d) (InNumber (d ++ (c ∷ []))) c cs (rw eb) (λ v k. rw (eb, no_tick c eb) at k) (f (number_push d c h eb))
-number_by d c cs h false true eb et f = rw (eqb-true c 39 et) (number_tick d cs h (tick_ends d cs (every_number d h)))
-number_by d c cs h false false eb et f =
-    here digit_goes d (InNumber d) (c ∷ cs) (Number d ∷ []) (number h) (λ v. rw (eb, et)) (scan_follow (InNumber d) c cs (Number d ∷ []) (rw (eb, et)))
-
 number_ends : (d : List ℕ) → is_number d ≡ true → (t : List ℕ) → Ahead digit_goes d (InNumber d) t
 unfolding scan
 number_ends d h [] = here digit_goes d (InNumber d) [] (Number d ∷ []) (number h) tt refl
-number_ends d h (c ∷ cs) = number_by d c cs h (is_digit c) (eqb c 39) refl refl (λ k. number_ends (d ++ (c ∷ [])) k cs)
+number_ends d h (c ∷ cs) = by_test (is_digit c)
+    (λ eb. extend digit_goes digit_goes d (InNumber d) (InNumber (d ++ (c ∷ []))) c cs (rw eb) (λ v k. rw (eb, no_tick c eb) at k) (number_ends (d ++ (c ∷ [])) (number_push d c h eb) cs))
+    (λ eb. by_test (eqb c 39) (λ et. rw (eqb-true c 39 et) (number_tick d cs h (tick_ends d cs (every_number d h))))
+    (λ et. here digit_goes d (InNumber d) (c ∷ cs) (Number d ∷ []) (number h) (λ v. rw (eb, et)) (scan_follow (InNumber d) c cs (Number d ∷ []) (rw (eb, et)))))
 
 pub number_on : (b : ℕ) → is_digit b ≡ true → (t : List ℕ) → Ahead digit_goes (b ∷ []) (InNumber (b ∷ [])) t
 number_on b h t = number_ends (b ∷ []) (rw h) t

@@ -1,5 +1,5 @@
 -- A test that each lexeme passes, by its first byte, in the order in which the scan tests it; and what the scan says of a lexeme alone.
-use Rattle.std.proofs.Common.{◌≡◌, ◌≢◌, ℕ, List, [], ◌∷◌, ◌++◌, Bool, true, false, cond, not, ◌&&◌, ◌||◌, eqb, Option, Some, None, refl, ◌∙◌, arith}
+use Rattle.std.proofs.Common.{◌≡◌, ◌≢◌, ℕ, List, [], ◌∷◌, ◌++◌, Bool, true, false, cond, ◌&&◌, ◌||◌, eqb, Option, Some, None, refl, ◌∙◌, arith}
 use Rattle.std.proofs.lemmas.Bool.Decides.{nat_tests}
 use Rattle.vast_literal.specs.Tokens.{Op, LogicOr, Punct, Apostrophe, Token}
 use Rattle.vast_literal.specs.Scan.{is_letter, is_digit, is_word_byte, is_radix, is_filler, is_space, State, Gap, InString, InComment, Pending, Step, grown, find_sign, whole_signs, growing_signs}
@@ -10,7 +10,7 @@ use Rattle.vast_literal.specs.Lexemes.{mark_text, is_in_line, is_bare, AreCharac
 use Rattle.vast_literal.specs.Lexemes.AreCharacters.{no_character, bare, escaped}
 use Rattle.vast_literal.specs.Lexemes.IsBase.{unsigned, signed}
 use Rattle.vast_literal.specs.Lexemes.IsLexeme.{space, comment, word, system_word, macro_word, number, based, filled, string, operator, mark, cast, pattern}
-use Rattle.vast_literal.proofs.ScanLaws.{and_left, and_right, digit_letter}
+use Rattle.vast_literal.proofs.ScanLaws.{and_left, and_right, digit_letter, not_or_left, not_or_right, or_left, or_right}
 use Rattle.vast_literal.proofs.TokenTexts.{or_true, based_sized}
 
 -- where a sign's growth leads to; a string with no quote where it doesn't grow, which nothing follows
@@ -91,13 +91,9 @@ number_one (c ∷ ds) h =
     rw (digit_letter c d, d, and_right (is_digit c) (every is_digit ds) h)
 
 bare_string : (c : ℕ) (rest : List ℕ) → is_bare c ≡ true → is_string_rest false (c ∷ rest) ≡ is_string_rest false rest
-bare_string c rest h = bare_by (eqb c 34) (eqb c 92) (eqb c 10) (is_done rest) (λ b. is_string_rest b rest) h
-  where
-    bare_by : (q b n x : Bool) (f : Bool → Bool) → not (q || (b || n)) ≡ true → cond q x (not n && f b) ≡ f false
-    bare_by true b n x f h = cc
-    bare_by false true n x f h = cc
-    bare_by false false true x f h = cc
-    bare_by false false false x f h = refl
+bare_string c rest h =
+    let k = not_or_right (eqb c 34) (eqb c 92 || eqb c 10) h in
+    rw (not_or_left (eqb c 34) (eqb c 92 || eqb c 10) h, or_left (eqb c 92) (eqb c 10) k, or_right (eqb c 92) (eqb c 10) k)
 
 pub characters_rest : (cs : List ℕ) → AreCharacters cs → is_string_rest false (cs ++ (34 ∷ [])) ≡ true
 characters_rest cs no_character = refl

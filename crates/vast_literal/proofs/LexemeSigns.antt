@@ -1,5 +1,5 @@
 -- Operators, marks, and what an apostrophe begins where no digits stand before it.
-use Rattle.std.proofs.Common.{◌≡◌, ℕ, List, [], ◌∷◌, ◌++◌, Bool, true, false, cond, eqb-true, eqb, Option, Some, None, refl, sym, ◌∙◌, ap}
+use Rattle.std.proofs.Common.{◌≡◌, ℕ, List, [], ◌∷◌, ◌++◌, cond, eqb-true, eqb, Option, Some, None, refl, sym, ◌∙◌, ap}
 use Rattle.vast_literal.specs.Tokens.{LogicOr, LogicAnd, BitOr, BitXor, BitAnd, NotEqual, CaseNotEqual, Equal, CaseEqual, GreaterEqual, Greater, LessEqual, Less, ShiftLeft, ShiftRightSigned, ShiftRight, Plus, Minus, Times, Divide, Modulo, Power, BitNot, LogicNot}
 use Rattle.vast_literal.specs.Tokens.{Punct, OpenParen, CloseParen, OpenBracket, CloseBracket, OpenBrace, CloseBrace, Comma, Colon, Semicolon, Dot, Hash, At, Question, DoubleColon, PlusColon, Assign, Apostrophe, Token, Operator, Mark}
 use Rattle.vast_literal.specs.Scan.{InComment, Pending, Step, keep, give, grown, find_sign, whole_signs, growing_signs, scan}
@@ -10,6 +10,8 @@ use Rattle.vast_literal.specs.Lexemes.IsLexeme.{operator, mark}
 use Rattle.vast_literal.proofs.LexemeShapes.{grown_state, sign_goes}
 use Rattle.vast_literal.proofs.LexemeFronts.{Ahead, here, extend, whole, scan_follow}
 use Rattle.vast_literal.proofs.LexemeRuns.{comment_on}
+use Rattle.vast_literal.proofs.ScanLaws.{by_test}
+use Rattle.std.proofs.lemmas.Bool.{cond_both}
 
 -- A sign as it is written.
 abbrev pub sign_text : Token → List ℕ
@@ -29,11 +31,7 @@ data Grows (w : List ℕ) (c : ℕ) : Option Step → Type 0 where
   comments : w ++ (c ∷ []) ≡ 47 ∷ 47 ∷ [] → Grows w c (Some (keep InComment))
 
 grows_at : (w : List ℕ) (c d : ℕ) (longer other : Option Step) → Grows w d longer → Grows w c other → Grows w c (cond (eqb c d) longer other)
-grows_at w c d longer other h k = by_test (eqb c d) refl
-  where
-    by_test : (b : Bool) → eqb c d ≡ b → Grows w c (cond b longer other)
-    by_test true e = rw (eqb-true c d e) h
-    by_test false e = k
+grows_at w c d longer other h k = cond_both (eqb c d) longer other (Grows w c) (λ e. rw (eqb-true c d e) h) (λ e. k)
 
 is_mark : (m : Punct) → (m ≡ Apostrophe → ⊥) → IsSign (Mark m)
 is_mark m h = mark m h
@@ -101,13 +99,9 @@ pub record IsFound (c : ℕ) (g : Token) : Type 0 where
 
 found : (signs : List (ℕ × Token)) → AreSigns signs → (c : ℕ) (g : Token) → find_sign signs c ≡ Some g → IsFound c g
 found signs no_sign c g e = absurd (cc)
-found signs (sign {c = d} {g = h} {signs = rest} t k m) c g e = found_by (eqb c d) refl (found rest m c g) e
-  where
-    found_by : (b : Bool) → eqb c d ≡ b → (find_sign rest c ≡ Some g → IsFound c g) → cond b (Some h) (find_sign rest c) ≡ Some g → IsFound c g
-    found_by true p f e =
-        let same : h ≡ g = cc in
-        rw (eqb-true c d p, sym same) (record { text = t; lexeme = k })
-    found_by false p f e = f e
+found signs (sign {c = d} {g = h} {signs = rest} t k m) c g e = by_test (eqb c d)
+    (λ p. let same : h ≡ g = cc (rw p at e) in rw (eqb-true c d p, sym same) (record { text = t; lexeme = k }))
+    (λ p. found rest m c g (rw p at e))
 
 pub found_whole : (c : ℕ) (g : Token) → find_sign whole_signs c ≡ Some g → IsFound c g
 found_whole = found whole_signs whole_are

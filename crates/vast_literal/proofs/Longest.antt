@@ -12,6 +12,7 @@ use Rattle.vast_literal.proofs.LiteralLaws.{based_tail}
 use Rattle.vast_literal.proofs.LexemeShapes.{one, lexeme_one, base_tail, characters_rest, space_letter, space_digit}
 use Rattle.vast_literal.proofs.LexemeFronts.{Ends, add_none}
 use Rattle.vast_literal.proofs.LexemeStarts.{front}
+use Rattle.vast_literal.proofs.SpeltOnce.{split_same}
 
 -- A lexeme alone has its tokens.
 
@@ -89,20 +90,6 @@ sound (suc n) (b ∷ t) ts h e = sound_by (front b t) (λ rest us k. sound n res
 
 -- From the lexemes to the scan.
 
-pub record Same (xs ys zs ws : List ℕ) : Type 0 where
-  pub fronts : xs ≡ zs
-  pub rests : ys ≡ ws
-
-same : (xs ys zs ws : List ℕ) → xs ++ ys ≡ zs ++ ws → length xs ≡ length zs → Same xs ys zs ws
-same [] ys [] ws e h = record { fronts = refl; rests = e }
-same [] ys (z ∷ zs) ws e h = absurd (omega arith)
-same (x ∷ xs) ys [] ws e h = absurd (omega arith)
-same (x ∷ xs) ys (z ∷ zs) ws e h =
-    let k : length xs ≡ length zs = omega arith in
-    let s = same xs ys zs ws (cc) k in
-    let f = s.fronts in
-    record { fronts = cc; rests = s.rests }
-
 complete_by : (w rest : List ℕ) (us vs : List Token) → IsLexeme w us → IsLongest w rest → scan Gap rest ≡ Some vs → scan Gap (w ++ rest) ≡ Some (us ++ vs)
 complete_by [] rest us vs l m k = let z = lexeme_one [] us l in absurd (cc)
 complete_by (b ∷ v) rest us vs l m k = by_front (front b (v ++ rest))
@@ -112,12 +99,12 @@ complete_by (b ∷ v) rest us vs l m k = by_front (front b (v ++ rest))
         let low = a.longest (b ∷ v) rest refl (lexeme_one (b ∷ v) us l) in
         let high = m a.more a.rest a.brings a.parts a.lexeme in
         let long : length (b ∷ v) ≡ length a.more = omega arith in
-        let s = same (b ∷ v) rest a.more a.rest a.parts long in
+        let s = split_same (b ∷ v) rest a.more a.rest long a.parts in
         let mine = lexeme_scan (b ∷ v) us l in
         let other = lexeme_scan a.more a.brings a.lexeme in
-        let f = s.fronts in
+        let f = s.0 in
         let brings : us ≡ a.brings = cc in
-        a.scanned ∙ (rw (sym brings, sym s.rests, k) (add_some us vs))
+        a.scanned ∙ (rw (sym brings, sym s.1, k) (add_some us vs))
     by_front (inr n) = absurd (n.nothing (b ∷ v) rest refl (lexeme_one (b ∷ v) us l))
 
 complete : (text : List ℕ) (ts : List Token) → Lexes text ts → scan Gap text ≡ Some ts

@@ -1,7 +1,7 @@
 -- The tokens of a member's page spell its normal form.
 use Rattle.std.proofs.Common.{◌≡◌, ℕ, List, [], ◌∷◌, ◌++◌, map, Bool, true, false, ◌&&◌, Option, Some, None, IsTrue, refl, append_assoc, append-nil, arith}
 use Rattle.vast_literal.specs.Tokens.{Less, level, OpenParen, CloseParen, Comma, Semicolon, Dot, Key, BeginKey, EndKey, WireKey, RegKey, LogicKey, IntKey, AlwaysFFKey, AlwaysKey, PosedgeKey, NegedgeKey, OrKey, Token, Reserved, Word, Operator, Mark}
-use Rattle.vast_literal.specs.Tree.{Dialect, LtOp, ExprTree, NameTree, LiteralTree, StringTree, UnaryTree, BinaryTree, TernaryTree, IndexTree, SliceTree, PartSelectTree, ConcatTree, PatternTree, WidthCastTree, TypeCastTree, PosEdgeTree, NegEdgeTree, MacroTree, CallTree, MissingExpr, MaybeExpr, NoExpr, SomeExpr, Exprs, NoExprs, MoreExprs, NoArguments, SomeArguments, Kind, RegKind, WireKind, LogicKind, Declaration, Continuous, AlwaysWord, AlwaysFFWord, AlwaysAtWord, AlwaysCombWord, ParameterName, PlainParameter, IntParameter, DefinedParameter, Connection, InstanceTree, FunctionTree, MemberTree, DeclarationMember, AssignMember, ParameterMember, CommentMember, BlankMember, InlineMember, MacroMember, InstanceMember, AlwaysMember, ConditionalMember, FunctionMember, LoopMember, Members, NoMembers, MoreMembers}
+use Rattle.vast_literal.specs.Tree.{Dialect, LtOp, ExprTree, NameTree, PosEdgeTree, NegEdgeTree, MacroTree, MaybeExpr, NoExpr, SomeExpr, Exprs, NoExprs, MoreExprs, NoArguments, SomeArguments, Kind, RegKind, WireKind, LogicKind, Declaration, Continuous, AlwaysWord, AlwaysFFWord, AlwaysAtWord, AlwaysCombWord, ParameterName, PlainParameter, IntParameter, DefinedParameter, Connection, InstanceTree, FunctionTree, MemberTree, DeclarationMember, AssignMember, ParameterMember, CommentMember, BlankMember, InlineMember, MacroMember, InstanceMember, AlwaysMember, ConditionalMember, FunctionMember, LoopMember, Members, NoMembers, MoreMembers}
 use Rattle.vast_literal.specs.NormalExpr.{NormalExpr, Name, Binary, binary_operator_token, normal}
 use Rattle.vast_literal.specs.NormalFile.{NormalStatements, Event, AssignPart, InstancePart, NormalMembers}
 use Rattle.vast_literal.specs.Grammar.{Spells, binary, name}
@@ -177,23 +177,7 @@ macro_spelled : (call : ExprTree) (s : Bool) → is_plain call ≡ true → (is_
 unfolding expr_tokens normal_macro normal_arguments
 macro_spelled (MacroTree m NoArguments) s p w = macro m (semicolon_spelled s)
 macro_spelled (MacroTree m (SomeArguments es)) s p w = simp append_assoc (macro_with m (list_spells (each_spelled es (and_right (is_plain_name m) (are_plain es) p) w)) (semicolon_spelled s))
-macro_spelled (NameTree _ _) s p w = absurd (cc w)
-macro_spelled (LiteralTree _ _) s p w = absurd (cc w)
-macro_spelled (StringTree _) s p w = absurd (cc w)
-macro_spelled (UnaryTree _ _) s p w = absurd (cc w)
-macro_spelled (BinaryTree _ _ _) s p w = absurd (cc w)
-macro_spelled (TernaryTree _ _ _) s p w = absurd (cc w)
-macro_spelled (IndexTree _ _) s p w = absurd (cc w)
-macro_spelled (SliceTree _ _ _) s p w = absurd (cc w)
-macro_spelled (PartSelectTree _ _ _) s p w = absurd (cc w)
-macro_spelled (ConcatTree _ _) s p w = absurd (cc w)
-macro_spelled (PatternTree _) s p w = absurd (cc w)
-macro_spelled (WidthCastTree _ _) s p w = absurd (cc w)
-macro_spelled (TypeCastTree _ _) s p w = absurd (cc w)
-macro_spelled (PosEdgeTree _) s p w = absurd (cc w)
-macro_spelled (NegEdgeTree _) s p w = absurd (cc w)
-macro_spelled (CallTree _ _) s p w = absurd (cc w)
-macro_spelled MissingExpr s p w = absurd (cc w)
+macro_spelled _ s p w = absurd (cc w)
 
 label_spelled : (l : Option (List ℕ)) → IsLabel (loop_label_tokens l) l
 unfolding loop_label_tokens

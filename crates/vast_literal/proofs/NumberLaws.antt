@@ -1,6 +1,6 @@
 -- A written number is a number, perhaps after a minus.
 use Rattle.std.proofs.Common.{◌≡◌, ℕ, zero, suc, ◌+◌, ◌/◌, ◌%◌, ◌<◌, ℤ, pos, negsuc, List, [], ◌∷◌, Bool, true, false, ◌||◌, eqb, refl, arith, mod-lt, lit<}
-use Rattle.std.proofs.lemmas.Bool.{and_from}
+use Rattle.std.proofs.lemmas.Bool.{and_from, cond_both}
 use Rattle.std.proofs.lemmas.Bool.Decides.{nat_tests}
 use Rattle.std.specs.Prelude.{nat_lt, ◌==◌, if◌then◌else◌}
 use Rattle.std.specs.Fmt.{digits, digits_onto, digit_glyph, decimal, signed_decimal}
@@ -23,22 +23,16 @@ glyph n = let h : n % 10 < 10 = mod-lt n (lit< tt) in go (nat_lt (n % 10) 10) (s
 
 digits_number : (k n c : ℕ) (acc : List ℕ) → every is_digit (c ∷ acc) ≡ true → is_number (digits_onto k 10 false n (c ∷ acc)) ≡ true
 digits_number zero n c acc h = h
-digits_number (suc k) n c acc h =
-    go (n / 10 == 0) (and_from _ _ (glyph n) h) (digits_number k (n / 10) (digit_glyph false (n % 10)) (c ∷ acc) (and_from _ _ (glyph n) h))
-  where
-    go : (b : Bool) → every is_digit (digit_glyph false (n % 10) ∷ c ∷ acc) ≡ true → is_number (digits_onto k 10 false (n / 10) (digit_glyph false (n % 10) ∷ c ∷ acc)) ≡ true →
-        is_number (if b then digit_glyph false (n % 10) ∷ c ∷ acc else digits_onto k 10 false (n / 10) (digit_glyph false (n % 10) ∷ c ∷ acc)) ≡ true
-    go true a b = a
-    go false a b = b
+digits_number (suc k) n c acc h = cond_both (n / 10 == 0) _ _ (λ ds. is_number ds ≡ true)
+    (λ _. and_from _ _ (glyph n) h) (λ _. digits_number k (n / 10) (digit_glyph false (n % 10)) (c ∷ acc) (and_from _ _ (glyph n) h))
 
 pub decimal_number : (n : ℕ) → is_number (decimal n) ≡ true
 unfolding digits
-decimal_number n = go (n / 10 == 0) (and_from _ _ (glyph n) refl) (digits_number 63 (n / 10) (digit_glyph false (n % 10)) [] (and_from _ _ (glyph n) refl))
-  where
-    go : (b : Bool) → every is_digit (digit_glyph false (n % 10) ∷ []) ≡ true → is_number (digits_onto 63 10 false (n / 10) (digit_glyph false (n % 10) ∷ [])) ≡ true →
-        is_number (if b then digit_glyph false (n % 10) ∷ [] else digits_onto 63 10 false (n / 10) (digit_glyph false (n % 10) ∷ [])) ≡ true
-    go true a b = a
-    go false a b = b
+decimal_number n = cond_both (n / 10 == 0) _ _ (λ ds. is_number ds ≡ true) (λ _. and_from _ _ (glyph n) refl) (λ _. digits_number 63 (n / 10) (digit_glyph false (n % 10)) [] (and_from _ _ (glyph n) refl))
+
+pub every_number : (d : List ℕ) → is_number d ≡ true → every is_digit d ≡ true
+every_number [] h = refl
+every_number (c ∷ d) h = h
 
 bare_number : (a b : Bool) → a ≡ true → (a || b) ≡ true
 bare_number true b h = refl

@@ -78,15 +78,10 @@ one_separated old new all radix place low n d s e k h =
     rw (s, lowest_digits-suc radix low n, length-lowest_digits radix low n) (ap (λ x. digit_char x ∷ (separator low ++ rest)) (sym e)) in
     ap (λ t. t ++ rest) k ∙ append_assoc old (digit_char d ∷ separator low) rest ∙ ap (λ t. old ++ t) (sym j) ∙ h
 
-pub none_left : (text all : List ℕ) (place radix n : ℕ) → place ≤ 0 → text ++ characters (lowest_digits radix place n) ≡ all → text ≡ all
+pub none_left : (w : List ℕ → List ℕ) → w [] ≡ [] → (text all : List ℕ) (place radix n : ℕ) → place ≤ 0 → text ++ w (lowest_digits radix place n) ≡ all → text ≡ all
 unfolding lowest_digits
-none_left text all zero radix n l h = sym (append-nil text) ∙ h
-none_left text all (suc place) radix n l h = absurd (omega arith)
-
-pub none_left_grouped : (text all : List ℕ) (place radix n : ℕ) → place ≤ 0 → text ++ grouped (lowest_digits radix place n) ≡ all → text ≡ all
-unfolding lowest_digits
-none_left_grouped text all zero radix n l h = sym (append-nil text) ∙ h
-none_left_grouped text all (suc place) radix n l h = absurd (omega arith)
+none_left w none text all zero radix n l h = sym (append-nil text) ∙ (ap (λ t. text ++ t) (sym none) ∙ h)
+none_left w none text all (suc place) radix n l h = absurd (omega arith)
 
 -- the digits of a number that is divided until nothing is left
 pub one_division : (radix count rest : ℕ) (all : ℕ) → 2 ≤ radix → 0 < rest → count + length (digits_of radix rest) ≡ all → count + 1 + length (digits_of radix (rest / radix)) ≡ all

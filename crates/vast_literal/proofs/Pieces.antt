@@ -9,7 +9,7 @@ use Rattle.vast_literal.specs.LiteralToken.{is_number}
 use Rattle.vast_literal.specs.Plain.{is_identifier}
 use Rattle.vast_literal.proofs.ExprTokens.{wrapped_tokens}
 use Rattle.vast_literal.proofs.TokenReads.{stops, opens, Free, Divides, Reads}
-use Rattle.vast_literal.proofs.ScanLaws.{add_tokens-append, scan_word, scan_word_cast, scan_number, scan_number_cast, scan_operator, scan_not, scan_and, scan_or, scan_colon}
+use Rattle.vast_literal.proofs.ScanLaws.{add_tokens-append, scan_word, scan_word_cast, scan_number, scan_number_cast, scan_operator, scan_not, scan_and, scan_or, scan_colon, by_test}
 
 -- A text in parentheses where `wrapped`.
 abbrev pub paren : (wrapped : Bool) → List ℕ → List ℕ
@@ -147,14 +147,9 @@ one_free : (a : List ℕ) (ts : List Token) (t : Token) → Reads a ts →
     Free (a ++ (39 ∷ 40 ∷ [])) (ts ++ (Mark Apostrophe ∷ Mark OpenParen ∷ []))
 one_free a ts t f g k = record { at = λ rest. rw (append_assoc, tokens_of a ts t f g) (k rest) }
 
-bare_free : (a : List ℕ) (ts : List Token) (n p : Bool) → Reads a ts → is_number a ≡ n → is_identifier a ≡ p → not (n || p) ≡ false → Free (a ++ (39 ∷ 40 ∷ [])) (ts ++ (Mark Apostrophe ∷ Mark OpenParen ∷ []))
-bare_free a ts true p f en ep h = one_free a ts (Number a) f (λ rest. scan_number a rest en) (λ rest. scan_number_cast a rest en)
-bare_free a ts false true f en ep h = one_free a ts (word_token a) f (λ rest. scan_word a rest ep) (λ rest. scan_word_cast a rest ep)
-bare_free a ts false false f en ep h = cc
-
-head_cases : (a : List ℕ) (ts : List Token) (b : Bool) → Reads a ts → head_wrapped a ≡ b → Free (paren b a ++ (39 ∷ 40 ∷ [])) (wrapped_tokens b ts ++ (Mark Apostrophe ∷ Mark OpenParen ∷ []))
-head_cases a ts true f e = free_free (enclosed open_paren f close_paren).free cast_open
-head_cases a ts false f e = bare_free a ts (is_number a) (is_identifier a) f refl refl e
+bare_free : (a : List ℕ) (ts : List Token) → Reads a ts → head_wrapped a ≡ false → Free (a ++ (39 ∷ 40 ∷ [])) (ts ++ (Mark Apostrophe ∷ Mark OpenParen ∷ []))
+bare_free a ts f h = by_test (is_number a) (λ n. one_free a ts (Number a) f (λ rest. scan_number a rest n) (λ rest. scan_number_cast a rest n))
+    (λ n. by_test (is_identifier a) (λ p. one_free a ts (word_token a) f (λ rest. scan_word a rest p) (λ rest. scan_word_cast a rest p)) (λ p. absurd (cc (rw (n, p) at h))))
 
 pub head_free : (a : List ℕ) {ts : List Token} → Reads a ts → Free (paren (head_wrapped a) a ++ (39 ∷ 40 ∷ [])) (wrapped_tokens (head_wrapped a) ts ++ (Mark Apostrophe ∷ Mark OpenParen ∷ []))
-head_free a {ts} f = head_cases a ts (head_wrapped a) f refl
+head_free a {ts} f = by_test (head_wrapped a) (λ e. rw e (free_free (enclosed open_paren f close_paren).free cast_open)) (λ e. rw e (bare_free a ts f e))

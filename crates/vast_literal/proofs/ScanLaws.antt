@@ -7,6 +7,7 @@ use Rattle.vast_literal.specs.Scan.{is_letter, is_digit, is_word_byte, is_based_
 use Rattle.vast_literal.specs.Tokens.{op_text}
 use Rattle.vast_literal.specs.LiteralToken.{every, is_number, is_done, is_string_rest, is_string_text}
 use Rattle.vast_literal.specs.Plain.{is_identifier, is_plain_name}
+pub use Rattle.std.proofs.lemmas.Bool.{not-true as not_true}
 use Rattle.vast_literal.proofs.TokenReads.{stop, stops, opens}
 
 pub add_tokens-append : (ts us : List Token) (r : Option (List Token)) → add_tokens (ts ++ us) r ≡ add_tokens ts (add_tokens us r)
@@ -30,10 +31,6 @@ not_or_right true b e = cc
 not_or_right false true e = sym e
 not_or_right false false e = refl
 
-pub not_true : (a : Bool) → not a ≡ true → a ≡ false
-not_true true e = sym e
-not_true false e = refl
-
 pub or_left : (a b : Bool) → (a || b) ≡ false → a ≡ false
 or_left true b e = e
 or_left false b e = refl
@@ -41,6 +38,11 @@ or_left false b e = refl
 pub or_right : (a b : Bool) → (a || b) ≡ false → b ≡ false
 or_right true b e = cc
 or_right false b e = e
+
+-- what follows from a test that holds, and from one that does not
+pub by_test : {P : Type 0} (b : Bool) → (b ≡ true → P) → (b ≡ false → P) → P
+by_test true h k = h refl
+by_test false h k = k refl
 
 pub join_after : (t : Token) (o r : Option (List Token)) → join_tokens (join_tokens (Some (t ∷ [])) o) r ≡ cons_token t (join_tokens o r)
 join_after t None r = refl
@@ -134,14 +136,6 @@ unfolding scan
 scan_based d r x v rest hd hr hx hv k =
     size_on d (r ∷ x ∷ (v ++ rest)) hd ∙ rw hr (based_on (d ++ (39 ∷ r ∷ [])) x v rest hx hv k ∙ ap (λ y. cons_token (Based y) (scan Gap rest)) (append_assoc d (39 ∷ r ∷ []) (x ∷ v)))
 
-string_step : (w t rest : List ℕ) (c : ℕ) →
-    (is_string_rest true t ≡ true → scan (InEscape w) (t ++ rest) ≡ cons_token (Quoted (w ++ (92 ∷ t))) (scan Gap rest)) →
-    (is_string_rest false t ≡ true → scan (InString (w ++ (c ∷ []))) (t ++ rest) ≡ cons_token (Quoted ((w ++ (c ∷ [])) ++ t)) (scan Gap rest)) →
-    (b : Bool) → eqb c 92 ≡ b → is_string_rest b t ≡ true →
-    join_tokens (cond b (keep (InEscape w)) (keep (InString (w ++ (c ∷ []))))).out (scan (cond b (keep (InEscape w)) (keep (InString (w ++ (c ∷ []))))).state (t ++ rest)) ≡ cons_token (Quoted (w ++ (c ∷ t))) (scan Gap rest)
-string_step w t rest c yes_case no_case true e k = rw (eqb-true c 92 e) (yes_case k)
-string_step w t rest c yes_case no_case false e k = no_case k ∙ ap (λ y. cons_token (Quoted y) (scan Gap rest)) (append_assoc w (c ∷ []) t)
-
 -- a quote that ends the string, or another byte
 quote_step : (w t rest : List ℕ) (c : ℕ) (b : Bool) → eqb c 34 ≡ b → cond b (is_done t) (not (eqb c 10) && is_string_rest (eqb c 92) t) ≡ true →
     ((not (eqb c 10) && is_string_rest (eqb c 92) t) ≡ true → eqb c 34 ≡ false → scan (InString w) (c ∷ (t ++ rest)) ≡ cons_token (Quoted (w ++ (c ∷ t))) (scan Gap rest)) →
@@ -159,8 +153,9 @@ scan_string_rest false w [] rest h = cc
 scan_string_rest true w (c ∷ t) rest h =
     rw (not_true (eqb c 10) (and_left _ _ h)) (scan_string_rest false (w ++ (92 ∷ c ∷ [])) t rest (and_right _ _ h) ∙ ap (λ y. cons_token (Quoted y) (scan Gap rest)) (append_assoc w (92 ∷ c ∷ []) t))
 scan_string_rest false w (c ∷ t) rest h = quote_step w t rest c (eqb c 34) refl h (λ k e.
-    rw (e, not_true (eqb c 10) (and_left _ _ k))
-    (string_step w t rest c (λ m. scan_string_rest true w t rest m) (λ m. scan_string_rest false (w ++ (c ∷ [])) t rest m) (eqb c 92) refl (and_right _ _ k)))
+    let m = and_right (not (eqb c 10)) (is_string_rest (eqb c 92) t) k in rw (e, not_true (eqb c 10) (and_left _ _ k))
+    (by_test (eqb c 92) (λ s. rw (s, eqb-true c 92 s) (scan_string_rest true w t rest (rw s at m)))
+    (λ s. rw s (scan_string_rest false (w ++ (c ∷ [])) t rest (rw s at m) ∙ ap (λ y. cons_token (Quoted y) (scan Gap rest)) (append_assoc w (c ∷ []) t)))))
 
 pub scan_string : (t rest : List ℕ) → is_string_text t ≡ true → scan Gap (t ++ rest) ≡ cons_token (Quoted t) (scan Gap rest)
 unfolding scan

@@ -1,17 +1,17 @@
 -- The tokens of an expression's text spell its normal expression.
-use Rattle.std.proofs.Common.{◌≡◌, ℕ, suc, ◌≤◌, List, [], ◌∷◌, ◌++◌, Bool, true, false, cond, not, ◌&&◌, eqb, IsTrue, refl, sym, subst, append_assoc, append-nil, arith}
+use Rattle.std.proofs.Common.{◌≡◌, ℕ, suc, ◌≤◌, List, [], ◌∷◌, ◌++◌, Bool, true, false, cond, not, ◌&&◌, eqb, IsTrue, refl, append_assoc, append-nil, arith}
 use Rattle.std.specs.Fmt.{signed_decimal}
-use Rattle.vast_literal.specs.Tokens.{Minus, level, is_unary, OpenParen, CloseParen, Key, LogicKey, SignedKey, UnsignedKey, IntegerKey, IntKey, Token, Word, SystemWord, Number, Based, Operator, Mark}
+use Rattle.vast_literal.specs.Tokens.{Minus, level, is_unary, OpenParen, CloseParen, Key, LogicKey, SignedKey, UnsignedKey, IntegerKey, IntKey, Token, Word, Number, Mark}
 use Rattle.vast_literal.specs.Tree.{UnaryOp, NegateOp, ExprTree, NameTree, LiteralTree, StringTree, UnaryTree, BinaryTree, TernaryTree, IndexTree, SliceTree, PartSelectTree, ConcatTree, PatternTree, WidthCastTree, TypeCastTree, PosEdgeTree, NegEdgeTree, MacroTree, CallTree, MissingExpr, TypeTree, ScalarTree, VectorTree, IntegerTree, IntTree, ExternalTree, PackageTree, NoExpr, SomeExpr, Exprs, NoExprs, MoreExprs, NoArguments, SomeArguments}
 use Rattle.vast_literal.specs.Shape.{is_scalar_name, is_zero, is_elided_index, is_elided_slice, unary_wraps, left_child_wraps, right_child_wraps, ternary_wraps, select_wraps}
-use Rattle.vast_literal.specs.NormalExpr.{NormalExpr, Name, Literal, Unary, Call, Cast, NormalExprs, NoNormals, MoreNormals, unary_operator_token, binary_operator_token, normal_literal, signing_key, normal_word_cast, scalar_sign, integer_sign, normal, normal_cast, normals}
+use Rattle.vast_literal.specs.NormalExpr.{NormalExpr, Name, Literal, Call, Cast, NormalExprs, NoNormals, MoreNormals, unary_operator_token, binary_operator_token, normal_literal, signing_key, normal_word_cast, scalar_sign, integer_sign, normal, normal_cast, normals}
 use Rattle.vast_literal.specs.Grammar.{is_cast_word, Spells, ternary, binary, unary, index, slice, part_select, name, number, based, quoted, paren, call, system_call, concat, replicated, array_pattern, macro_alone, macro_call, number_cast, name_cast, package_cast, paren_cast, word_cast, SpellsList, none, some, SpellsJoined, last, next}
 use Rattle.vast_literal.specs.LiteralToken.{is_number}
 use Rattle.vast_literal.proofs.LiteralToken.{bare_token, literal_tokens}
 use Rattle.vast_literal.specs.Plain.{is_plain, is_plain_type, are_plain, is_plain_name, is_called_name}
 use Rattle.vast_literal.proofs.ExprTokens.{is_bare_head, wrapped_tokens, cast_operand, comma_tail_tokens, comma_tokens, called_token, word_cast_tokens, expr_tokens, cast_tokens, each_tokens}
 use Rattle.vast_literal.specs.WellFormed.{is_positive, is_cast_type, is_well_formed, is_well_formed_type, are_well_formed}
-use Rattle.vast_literal.proofs.ScanLaws.{and_left, and_right}
+use Rattle.vast_literal.proofs.ScanLaws.{and_left, and_right, by_test}
 use Rattle.vast_literal.proofs.NumberLaws.{no_minus}
 use Rattle.vast_literal.proofs.Levels.{level_small, lower}
 use Rattle.vast_literal.proofs.Precedence.{literal_level, spelled_level, positive, level_bound, left_bound, right_bound, operand_bound, subject_bound, ternary_bound}
@@ -23,20 +23,13 @@ wrapped_spells false m k ts t small low f e = lower m k ts t (f refl) small e
 -- literals
 
 bare_spells : (text : List ℕ) → Spells 14 (bare_token text ∷ []) (Literal text)
-bare_spells text = go (is_number text)
-  where
-    go : (b : Bool) → Spells 14 (cond b (Number text) (Based text) ∷ []) (Literal text)
-    go true = number text
-    go false = based text
+bare_spells text = by_test (is_number text) (λ e. rw e (number text)) (λ e. rw e (based text))
 
 pub literal_spells : (text : List ℕ) → Spells (literal_level text) (literal_tokens text) (normal_literal text)
 unfolding normal_literal is_unary
 literal_spells [] = lower 14 13 _ _ (omega arith) (omega arith) (based [])
-literal_spells (c ∷ cs) = go (eqb c 45)
-  where
-    go : (b : Bool) → Spells (cond b 12 13) (cond b (Operator Minus ∷ bare_token cs ∷ []) (bare_token (c ∷ cs) ∷ [])) (cond b (Unary Minus (Literal cs)) (Literal (c ∷ cs)))
-    go true = unary Minus refl (lower 14 12 _ _ (omega arith) (omega arith) (bare_spells cs))
-    go false = lower 14 13 _ _ (omega arith) (omega arith) (bare_spells (c ∷ cs))
+literal_spells (c ∷ cs) = by_test (eqb c 45) (λ e. rw e (unary Minus refl (lower 14 12 _ _ (omega arith) (omega arith) (bare_spells cs))))
+    (λ e. rw e (lower 14 13 _ _ (omega arith) (omega arith) (bare_spells (c ∷ cs))))
 
 -- lists
 
@@ -54,11 +47,7 @@ list_spells (more_parts e more) = some (joined_spells e more)
 
 called_spells : (name : List ℕ) {ts : List Token} {xs : NormalExprs} → SpellsList ts xs → Spells 14 (called_token name ∷ (Mark OpenParen ∷ (ts ++ (Mark CloseParen ∷ [])))) (Call name xs)
 called_spells [] es = call [] es
-called_spells (c ∷ cs) {ts = ts} {xs = xs} es = go (eqb c 36)
-  where
-    go : (b : Bool) → Spells 14 (cond b (SystemWord (c ∷ cs)) (Word (c ∷ cs)) ∷ (Mark OpenParen ∷ (ts ++ (Mark CloseParen ∷ [])))) (Call (c ∷ cs) xs)
-    go true = system_call (c ∷ cs) es
-    go false = call (c ∷ cs) es
+called_spells (c ∷ cs) es = by_test (eqb c 36) (λ e. rw e (system_call (c ∷ cs) es)) (λ e. rw e (call (c ∷ cs) es))
 
 -- elided selects
 
@@ -86,20 +75,14 @@ pub data BareHead : List Token → NormalExpr → Type 0 where
 number_literal : (text : List ℕ) → is_number text ≡ true → BareHead (literal_tokens text) (normal_literal text)
 unfolding normal_literal
 number_literal [] h = absurd (cc h)
-number_literal (c ∷ cs) h = let e = no_minus c (and_left _ _ h) in
-    subst (λ (b : Bool). BareHead (cond b (Operator Minus ∷ bare_token cs ∷ []) (bare_token (c ∷ cs) ∷ [])) (cond b (Unary Minus (Literal cs)) (Literal (c ∷ cs)))) (sym e)
-    (subst (λ (b : Bool). BareHead (cond b (Number (c ∷ cs)) (Based (c ∷ cs)) ∷ []) (Literal (c ∷ cs))) (sym h) (number_head (c ∷ cs)))
-
-elided_head : (b : Bool) (s : ExprTree) (ts : List Token) (t : NormalExpr) → b ≡ true → BareHead (expr_tokens s) (normal s) → BareHead (cond b (expr_tokens s) ts) (cond b (normal s) t)
-elided_head true s ts t e f = f
-elided_head false s ts t e f = absurd (cc e)
+number_literal (c ∷ cs) h = rw (no_minus c (and_left _ _ h), h) (number_head (c ∷ cs))
 
 bare_head : (w : ExprTree) → is_bare_head w ≡ true → BareHead (expr_tokens w) (normal w)
 unfolding is_bare_head expr_tokens normal
 bare_head (NameTree n type) h = word_head n
 bare_head (LiteralTree text value) h = number_literal text h
-bare_head (IndexTree s i) h = elided_head (is_elided_index s i) s _ _ (and_left (is_elided_index s i) (is_bare_head s) h) (bare_head s (and_right (is_elided_index s i) (is_bare_head s) h))
-bare_head (SliceTree s a b) h = elided_head (is_elided_slice s a b) s _ _ (and_left (is_elided_slice s a b) (is_bare_head s) h) (bare_head s (and_right (is_elided_slice s a b) (is_bare_head s) h))
+bare_head (IndexTree s i) h = rw (and_left (is_elided_index s i) (is_bare_head s) h) (bare_head s (and_right (is_elided_index s i) (is_bare_head s) h))
+bare_head (SliceTree s a b) h = rw (and_left (is_elided_slice s a b) (is_bare_head s) h) (bare_head s (and_right (is_elided_slice s a b) (is_bare_head s) h))
 bare_head _ h = absurd (cc h)
 
 head_spells : {hs ts : List Token} {h x : NormalExpr} → BareHead hs h → Spells 0 ts x → Spells 14 (hs ++ cast_operand ts) (Cast h x)
@@ -108,11 +91,7 @@ head_spells (number_head w) e = number_cast w e
 
 width_spells : (w : ExprTree) (m : ℕ) {ts : List Token} {x : NormalExpr} → m ≤ 14 → Spells m (expr_tokens w) (normal w) → Spells 0 ts x →
     Spells 14 (wrapped_tokens (not (is_bare_head w)) (expr_tokens w) ++ cast_operand ts) (Cast (normal w) x)
-width_spells w m {ts = ts} {x = x} small f e = go (is_bare_head w) refl
-  where
-    go : (b : Bool) → is_bare_head w ≡ b → Spells 14 (wrapped_tokens (not b) (expr_tokens w) ++ cast_operand ts) (Cast (normal w) x)
-    go true h = head_spells (bare_head w h) e
-    go false h = simp append_assoc (paren_cast (lower m 0 _ _ (omega arith) small f) e)
+width_spells w m small f e = by_test (is_bare_head w) (λ h. rw h (head_spells (bare_head w h) e)) (λ h. rw h (simp append_assoc (paren_cast (lower m 0 _ _ (omega arith) small f) e)))
 
 scalar_spells_cast : (signed : Bool) {ts : List Token} {x : NormalExpr} → Spells 0 ts x → Spells 14 (word_cast_tokens (scalar_sign signed) LogicKey ts) (normal_word_cast (scalar_sign signed) LogicKey x)
 unfolding scalar_sign normal_word_cast is_cast_word

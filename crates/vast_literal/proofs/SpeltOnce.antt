@@ -1,6 +1,5 @@
 -- No other text spells the same number in the same format.
-use Rattle.std.proofs.Common.{◌≡◌, ◌≢◌, ℕ, ◌+◌, ◌*◌, ◌%◌, ◌^◌, ◌<◌, ◌≤◌, List, [], ◌∷◌, ◌++◌, Bool, true, false, cond, not, refl, sym, ap, ◌∙◌, length, arith, subst, length-append, lit<, lit≤}
-use Rattle.std.specs.Prelude.{◌||◌}
+use Rattle.std.proofs.Common.{◌≡◌, ◌≢◌, ℕ, ◌+◌, ◌*◌, ◌%◌, ◌^◌, ◌<◌, ◌≤◌, List, [], ◌∷◌, ◌++◌, Bool, true, false, refl, sym, ap, ◌∙◌, length, arith, subst, length-append, lit<, lit≤}
 use Rattle.std.specs.List.{list_all}
 use Rattle.std.specs.Char.{digit_value, digit_char, is_digit}
 use Rattle.std.proofs.lemmas.Bool.{ltb-true, cases_lt, and_parts}
@@ -14,9 +13,10 @@ use Rattle.vast_literal.specs.Denotes.{IsModulo}
 use Rattle.vast_literal.specs.Spells.{is_no_capital, IsWritten, AreFours, IsGrouped, IsSeparated, Spells, has_format_minus, format_head, format_radix, format_count, groups_digits, minus_text}
 use Rattle.vast_literal.specs.Spells.AreFours.{NoGroup, OneGroup}
 use Rattle.vast_literal.proofs.Accepted.{opposite_is}
+use Rattle.vast_literal.proofs.ScanLaws.{by_test}
 
 -- lists that are joined, cut at equal lengths
-split_same : (a b c d : List ℕ) → length a ≡ length c → a ++ b ≡ c ++ d → (a ≡ c) × (b ≡ d)
+pub split_same : (a b c d : List ℕ) → length a ≡ length c → a ++ b ≡ c ++ d → (a ≡ c) × (b ≡ d)
 split_same [] b [] d l e = (refl, e)
 split_same [] b (y ∷ c) d l e = absurd (omega arith)
 split_same (x ∷ a) b [] d l e = absurd (omega arith)
@@ -59,27 +59,19 @@ same_digits radix (x ∷ cs) (y ∷ es) k g h l e =
     (λ i. first i ∷ rest i)
 
 -- the digits of a written text
-digit_left : (radix c : ℕ) (cs : List ℕ) (gap digit : Bool) → (gap || digit) ≡ true → digit ≡ is_digit c radix → list_all (λ x. is_digit x radix) cs ≡ true → list_all (λ x. is_digit x radix) (cond (not gap) (c ∷ cs) cs) ≡ true
-digit_left radix c cs true digit h e k = k
-digit_left radix c cs false digit h e k = rw (sym e ∙ h) k
-
 digits_left : (radix : ℕ) (t : List ℕ) → list_all (is_digit_or_gap radix) t ≡ true → list_all (λ x. is_digit x radix) (digits_in t) ≡ true
 unfolding digits_in
 digits_left radix [] h = refl
 digits_left radix (c ∷ t) h =
     let p = and_parts (is_digit_or_gap radix c) (list_all (is_digit_or_gap radix) t) h in
-    digit_left radix c (digits_in t) (is_gap c) (is_digit c radix) p.0 refl (digits_left radix t p.1)
-
-lower_left : (t : List ℕ) (c : ℕ) (gap : Bool) (cs : List ℕ) → is_no_capital c ≡ true → list_all is_no_capital cs ≡ true → list_all is_no_capital (cond (not gap) (c ∷ cs) cs) ≡ true
-lower_left t c true cs h k = k
-lower_left t c false cs h k = rw h k
+    by_test (is_gap c) (λ e. rw e (digits_left radix t p.1)) (λ e. rw (e, rw e at p.0) (digits_left radix t p.1))
 
 lowers_left : (t : List ℕ) → list_all is_no_capital t ≡ true → list_all is_no_capital (digits_in t) ≡ true
 unfolding digits_in
 lowers_left [] h = refl
 lowers_left (c ∷ t) h =
     let p = and_parts (is_no_capital c) (list_all is_no_capital t) h in
-    lower_left t c (is_gap c) (digits_in t) p.0 (lowers_left t p.1)
+    by_test (is_gap c) (λ e. rw e (lowers_left t p.1)) (λ e. rw (e, p.0) (lowers_left t p.1))
 
 written_digits : (radix count number : ℕ) (t : List ℕ) → IsWritten radix count number t → AreDigits radix (digits_in t)
 unfolding is_numeral
@@ -91,14 +83,10 @@ written_once radix count number s t k a b =
     same_digits radix (digits_in s) (digits_in t) k (written_digits radix count number s a) (written_digits radix count number t b) (a.so_many ∙ sym b.so_many) (a.value ∙ sym b.value)
 
 -- the groups
-append_step : (c : ℕ) (a b : List ℕ) (keep : Bool) (ab : List ℕ) → ab ≡ a ++ b → cond keep (c ∷ ab) ab ≡ cond keep (c ∷ a) a ++ b
-append_step c a b true ab e = ap (λ t. c ∷ t) e
-append_step c a b false ab e = e
-
 digits_in-append : (a b : List ℕ) → digits_in (a ++ b) ≡ digits_in a ++ digits_in b
 unfolding digits_in
 digits_in-append [] b = refl
-digits_in-append (c ∷ a) b = append_step c (digits_in a) (digits_in b) (not (is_gap c)) (digits_in (a ++ b)) (digits_in-append a b)
+digits_in-append (c ∷ a) b = by_test (is_gap c) (λ e. rw e (digits_in-append a b)) (λ e. rw e (ap (λ t. c ∷ t) (digits_in-append a b)))
 
 group_digits : (group rest : List ℕ) → digits_in group ≡ group → digits_in (95 ∷ (group ++ rest)) ≡ group ++ digits_in rest
 unfolding digits_in

@@ -1,5 +1,5 @@
 -- The tokens of a statement's page spell its normal form.
-use Rattle.std.proofs.Common.{◌≡◌, List, ◌∷◌, ◌++◌, Bool, true, false, cond, ◌&&◌, refl, append_assoc, append-nil}
+use Rattle.std.proofs.Common.{◌≡◌, List, ◌∷◌, ◌++◌, Bool, true, false, cond, ◌&&◌, append_assoc, append-nil}
 use Rattle.vast_literal.specs.Tokens.{OpenParen, CloseParen, Colon, IfKey, BeginKey, Token, Reserved, Mark}
 use Rattle.vast_literal.specs.Tree.{MaybeExpr, NoExpr, SomeExpr, AssignForm, Blocking, Nonblocking, Continuous, CaseWord, CaseExact, CaseZ, CaseX, StatementTree, AssignTree, CommentTree, BlankTree, InlineTree, ConditionalTree, CaseTree, Statements, NoStatements, MoreStatements, Alternates, NoElse, ElseIf, Else, CaseArms, NoCaseArms, CaseArm}
 use Rattle.vast_literal.specs.NormalExpr.{NormalExpr}
@@ -12,7 +12,7 @@ use Rattle.vast_literal.specs.Shape.{is_one_assignment, is_bare_arm, is_one_case
 use Rattle.vast_literal.proofs.FileTokens.{assignment_tokens, ended, block_tokens, unique_tokens, label_tokens, statement_tokens, statements_tokens, alternates_tokens, arms_tokens, body_tokens}
 use Rattle.vast_literal.specs.PlainFile.{is_plain_maybe, is_left_side, is_plain_assignment, is_plain_statement, are_plain_statements, are_plain_alternates, are_plain_arms}
 use Rattle.vast_literal.specs.WellFormedFile.{is_well_formed_maybe, is_well_formed_statement, are_well_formed_statements, are_well_formed_alternates, are_well_formed_arms}
-use Rattle.vast_literal.proofs.ScanLaws.{and_left, and_right}
+use Rattle.vast_literal.proofs.ScanLaws.{and_left, and_right, by_test}
 use Rattle.vast_literal.proofs.DeclarationSpelled.{value_spelled, left_spelled}
 use Rattle.vast_literal.specs.Plain.{is_plain}
 
@@ -61,11 +61,7 @@ bare_spelled CaseX block e p w = absurd (cc e)
 
 arm_body_spelled : (word : CaseWord) (block : Statements) → IsStatements (ended (statements_tokens block)) (normal_statements block) → are_plain_statements block ≡ true → are_well_formed_statements block ≡ true →
     IsBody (has_bare_arms word) (cond (is_bare_arm word block) (statements_tokens block) (block_tokens (statements_tokens block))) (normal_statements block)
-arm_body_spelled word block h p w = go (is_bare_arm word block) refl
-  where
-    go : (b : Bool) → is_bare_arm word block ≡ b → IsBody (has_bare_arms word) (cond b (statements_tokens block) (block_tokens (statements_tokens block))) (normal_statements block)
-    go true e = bare_spelled word block e p w
-    go false e = body h
+arm_body_spelled word block h p w = by_test (is_bare_arm word block) (λ e. rw e (bare_spelled word block e p w)) (λ e. rw e (body h))
 
 label_spelled : (word : CaseWord) (label : MaybeExpr) {bs ys : List Token} {b : NormalStatements} {a : Labels} → is_plain_maybe label ≡ true → is_well_formed_maybe label ≡ true → IsBody (has_bare_arms word) bs b → IsLabels (has_bare_arms word) ys a →
     IsLabels (has_bare_arms word) (label_tokens label ++ (Mark Colon ∷ (bs ++ ys))) (Label (normal_label label) b a)
@@ -128,8 +124,4 @@ casez_spelled _ h p w = absurd (cc h)
 
 pub function_body_spelled : (b : Statements) → are_plain_statements b ≡ true → are_well_formed_statements b ≡ true → IsFunctionBody (body_tokens b) (normal_statements b)
 unfolding body_tokens
-function_body_spelled b p w = go (is_one_casez b) refl
-  where
-    go : (c : Bool) → is_one_casez b ≡ c → IsFunctionBody (cond c (statements_tokens b) (block_tokens (statements_tokens b))) (normal_statements b)
-    go true e = casez_spelled b e p w
-    go false e = block_body (statements_spelled b p w)
+function_body_spelled b p w = by_test (is_one_casez b) (λ e. rw e (casez_spelled b e p w)) (λ e. rw e (block_body (statements_spelled b p w)))

@@ -1,12 +1,9 @@
 -- The text of a literal in any format is an optional minus and one literal token, so is a pattern's; a quoted text is one string token.
-use Rattle.std.proofs.Common.{◌≡◌, ℕ, ◌-◌, ◌^◌, ◌<◌, ◌≤◌, List, [], ◌∷◌, ◌++◌, Bool, true, false, cond, eqb, eqb-true, leb, ltb, refl, sym, ap, ◌∙◌, length, arith, append_assoc, lit≤}
+use Rattle.std.proofs.Common.{◌≡◌, ℕ, ◌-◌, ◌^◌, ◌<◌, ◌≤◌, List, [], ◌∷◌, ◌++◌, Bool, true, false, cond, eqb, eqb-true, leb, ltb, refl, sym, ap, ◌∙◌, length, arith, append_assoc, lit≤, ◌⊎◌, inr}
 use Rattle.std.specs.Prelude.{◌||◌, ◌&&◌}
 use Rattle.std.specs.List.{list_all}
 use Rattle.std.specs.Char.{digit_char}
 use Rattle.std.specs.Fmt.{decimal}
-use Rattle.std.specs.Int.{IsInRange}
-use Rattle.std.specs.Str.Parse.{AllDigits}
-use Rattle.std.proofs.lemmas.Str.Parse.{digit_from_value}
 use Rattle.std.proofs.lemmas.Fmt.{decimal_is_IsNumeral_wide}
 use Rattle.std.proofs.lemmas.Bool.{leb-true, and_parts}
 use Rattle.std.proofs.lemmas.Bool.Decides.{nat_tests}
@@ -16,15 +13,17 @@ use Rattle.vast_literal.specs.declared.literal.LiteralFormat.{LiteralFormat}
 use Rattle.vast_literal.specs.declared.literal.LiteralFormat.TheVariants.{Binary, Hex, SignedDecimal, UnsignedDecimal, UnsizedBinary, UnsizedDecimal, UnsizedHex}
 use Rattle.vast_literal.specs.Scan.{is_digit, is_based_digit}
 use Rattle.vast_literal.specs.LiteralToken.{every, is_number, is_based_number, is_based_tail, is_based, is_bare_literal, is_literal_text}
-use Rattle.vast_literal.specs.Digits.{lowest_digits, digit_count, characters, grouped}
+use Rattle.vast_literal.specs.Digits.{lowest_digits, digit_count, characters, grouped, separator}
 use Rattle.vast_literal.specs.LiteralText.{padded_count, is_below_half, sized, signed_text, format_text}
 use Rattle.vast_literal.specs.Pattern.{is_pattern_digit, is_pattern}
-use Rattle.vast_literal.proofs.NumberLaws.{no_minus, number_text}
+use Rattle.vast_literal.proofs.NumberLaws.{no_minus, number_text, decimal_number, every_number}
 use Rattle.vast_literal.proofs.Numbers.{length-lowest_digits}
 use Rattle.vast_literal.proofs.Widths.{positive_from_high, narrow_from_high}
-use Rattle.vast_literal.proofs.Spelt.{lowest_below, all_grouped, all_characters}
+use Rattle.vast_literal.proofs.Spelt.{lowest_below, separator_cases, all_written}
 use Rattle.vast_literal.proofs.Decimals.{digit_count-some}
-use Rattle.vast_literal.proofs.Formats.{padded_some, padded_some_4}
+use Rattle.vast_literal.proofs.Formats.{padded_some}
+use Rattle.vast_literal.proofs.ScanLaws.{by_test}
+use Rattle.std.specs.Int.{div_ceil}
 
 every_is : (p : ℕ → Bool) (cs : List ℕ) → every p cs ≡ list_all p cs
 every_is p [] = refl
@@ -35,41 +34,18 @@ or_true true = refl
 or_true false = refl
 
 -- decimal digits
-digit_in : (c : ℕ) → IsInRange 48 57 c → is_digit c ≡ true
-digit_in c h = grind (arith, nat_tests)
-
-every_digit : (cs : List ℕ) → AllDigits 10 cs → every is_digit cs ≡ true
-every_digit [] h = refl
-every_digit (c ∷ cs) h = rw (digit_in c (digit_from_value c h.0)) (every_digit cs h.1)
-
-decimal_digits : (n : ℕ) → n < 2 ^ 128 → every is_digit (decimal n) ≡ true
-decimal_digits n s =
-    let wide : 2 ^ 128 ≤ 10 ^ 64 = lit≤ tt in
-    every_digit (decimal n) (decimal_is_IsNumeral_wide n (omega arith)).0.1
-
-some_number : (cs : List ℕ) → 0 < length cs → every is_digit cs ≡ true → is_number cs ≡ true
-some_number [] p h = absurd (omega arith)
-some_number (c ∷ cs) p h = h
-
-decimal_number : (n : ℕ) → n < 2 ^ 128 → is_number (decimal n) ≡ true
-decimal_number n s =
-    let wide : 2 ^ 128 ≤ 10 ^ 64 = lit≤ tt in
-    some_number (decimal n) (decimal_is_IsNumeral_wide n (omega arith)).0.0 (decimal_digits n s)
-
 pub no_tick : (c : ℕ) → is_digit c ≡ true → eqb c 39 ≡ false
 no_tick c h = grind (arith, nat_tests)
 
 -- literal tokens
-based_first : (c : ℕ) (cs : List ℕ) (b : Bool) → eqb c 39 ≡ b → cond b (is_based_tail cs) (is_digit c && is_based cs) ≡ true → eqb c 45 ≡ false
-based_first c cs true e h = rw (eqb-true c 39 e)
-based_first c cs false e h = no_minus c (and_parts (is_digit c) (is_based cs) h).0
-
 bare_from_based : (t : List ℕ) → is_based t ≡ true → is_bare_literal t ≡ true
 bare_from_based t h = rw h (or_true (is_number t))
 
 literal_from_based : (t : List ℕ) → is_based t ≡ true → is_literal_text t ≡ true
 literal_from_based [] h = cc
-literal_from_based (c ∷ cs) h = rw (based_first c cs (eqb c 39) refl h) (bare_from_based (c ∷ cs) h)
+literal_from_based (c ∷ cs) h =
+    let k : eqb c 45 ≡ false = by_test (eqb c 39) (λ e. rw (eqb-true c 39 e) refl) (λ e. no_minus c (and_parts (is_digit c) (is_based cs) (rw e at h)).0) in
+    rw k (bare_from_based (c ∷ cs) h)
 
 pub based_sized : (size tail : List ℕ) → every is_digit size ≡ true → is_based_tail tail ≡ true → is_based (size ++ (39 ∷ tail)) ≡ true
 based_sized [] tail h k = k
@@ -95,34 +71,28 @@ all_weaker p q (c ∷ cs) f h = let k = and_parts (p c) (list_all p cs) h in rw 
 below_16 : (k count n : ℕ) → k ≤ 4 → (p : ℕ → Bool) → ((d : ℕ) → d < 16 → p (digit_char d) ≡ true) → (d : ℕ) → d < 2 ^ k → p (digit_char d) ≡ true
 below_16 k count n h p f d l = let m = pow_mono {i = k} {j = 4} h in f d (omega arith)
 
-grouped_some : (ds : List ℕ) → 0 < length ds → 0 < length (grouped ds)
-grouped_some [] p = p
-grouped_some (d ∷ ds) p = omega arith
-
-characters_some : (ds : List ℕ) → 0 < length ds → 0 < length (characters ds)
-characters_some [] p = p
-characters_some (d ∷ ds) p = omega arith
+written_based : (w : List ℕ → List ℕ) (between : ℕ → List ℕ) → w [] ≡ [] → ((d : ℕ) (ds : List ℕ) → w (d ∷ ds) ≡ digit_char d ∷ (between (length ds) ++ w ds)) → ((n : ℕ) → (between n ≡ 95 ∷ []) ⊎ (between n ≡ [])) →
+    (k count n : ℕ) → k ≤ 4 → 0 < count → is_based_number (w (lowest_digits (2 ^ k) count n)) ≡ true
+written_based w between none more gaps k count n h p =
+    let ds = lowest_digits (2 ^ k) count n in
+    let some : 0 < length ds = rw (length-lowest_digits (2 ^ k) count n) p in
+    some_based (w ds) (written_some ds some) (all_written w between none more gaps is_based_digit (2 ^ k) ds refl (below_16 k count n h is_based_digit based_char) (lowest_below (2 ^ k) count n (pow_pos k)))
+  where
+    written_some : (ds : List ℕ) → 0 < length ds → 0 < length (w ds)
+    written_some [] p = absurd (omega arith)
+    written_some (d ∷ ds) p = rw (more d ds) (omega arith)
 
 grouped_based : (k count n : ℕ) → k ≤ 4 → 0 < count → is_based_number (grouped (lowest_digits (2 ^ k) count n)) ≡ true
-grouped_based k count n h p =
-    let ds = lowest_digits (2 ^ k) count n in
-    let some : 0 < length ds = rw (length-lowest_digits (2 ^ k) count n) p in
-    some_based (grouped ds) (grouped_some ds some) (all_grouped is_based_digit (2 ^ k) ds refl (below_16 k count n h is_based_digit based_char) (lowest_below (2 ^ k) count n (pow_pos k)))
-
-characters_based : (k count n : ℕ) → k ≤ 4 → 0 < count → is_based_number (characters (lowest_digits (2 ^ k) count n)) ≡ true
-characters_based k count n h p =
-    let ds = lowest_digits (2 ^ k) count n in
-    let some : 0 < length ds = rw (length-lowest_digits (2 ^ k) count n) p in
-    some_based (characters ds) (characters_some ds some) (all_characters is_based_digit (2 ^ k) ds (below_16 k count n h is_based_digit based_char) (lowest_below (2 ^ k) count n (pow_pos k)))
+grouped_based = written_based grouped separator refl (λ d ds. refl) separator_cases
 
 decimal_based : (n : ℕ) → n < 2 ^ 128 → is_based_number (decimal n) ≡ true
 decimal_based n s =
     let wide : 2 ^ 128 ≤ 10 ^ 64 = lit≤ tt in
-    let d = sym (every_is is_digit (decimal n)) ∙ decimal_digits n s in
+    let d = sym (every_is is_digit (decimal n)) ∙ every_number (decimal n) (decimal_number n) in
     some_based (decimal n) (decimal_is_IsNumeral_wide n (omega arith)).0.0 (all_weaker is_digit is_based_digit (decimal n) based_digit d)
 
 sized_based : (n : ℕ) (base digits : List ℕ) → n < 2 ^ 128 → is_based_tail (base ++ digits) ≡ true → is_based (sized n (39 ∷ base) digits) ≡ true
-sized_based n base digits s h = rw (append_assoc (decimal n) (39 ∷ base) digits) (based_sized (decimal n) (base ++ digits) (decimal_digits n s) h)
+sized_based n base digits s h = rw (append_assoc (decimal n) (39 ∷ base) digits) (based_sized (decimal n) (base ++ digits) (every_number (decimal n) (decimal_number n)) h)
 
 signed_literal : (n v : ℕ) (b : Bool) → n < 2 ^ 128 → v < 2 ^ 128 → is_below_half n v ≡ b → v < 2 ^ n → is_literal_text (cond b (sized n (39 ∷ 115 ∷ 100 ∷ []) (decimal v)) (45 ∷ sized n (39 ∷ 115 ∷ 100 ∷ []) (decimal (2 ^ n - v)))) ≡ true
 signed_literal n v true m s e h = literal_from_based (sized n (39 ∷ 115 ∷ 100 ∷ []) (decimal v)) (sized_based n (115 ∷ 100 ∷ []) (decimal v) m (decimal_based v s))
@@ -135,12 +105,12 @@ signed_literal n v false m s e h =
 -- The text of a number v of n bits in any format is the text of a literal.
 pub spelled_literal : (format : LiteralFormat) (n v : ℕ) → 1 ≤ n → n ≤ 1048576 → v < 2 ^ n → v < 2 ^ 128 → is_literal_text (format_text format n v) ≡ true
 unfolding format_text signed_text
-spelled_literal Binary n v p q h s = literal_from_based (format_text Binary n v) (sized_based n (98 ∷ []) _ (omega arith) (grouped_based 1 (padded_count 1 n v) v (lit≤ tt) (padded_some n v (eqb v 0 && ltb 1024 n) p)))
-spelled_literal Hex n v p q h s = literal_from_based (format_text Hex n v) (sized_based n (104 ∷ []) _ (omega arith) (grouped_based 4 (padded_count 4 n v) v (lit≤ tt) (padded_some_4 n v (eqb v 0 && ltb 1024 n) p)))
+spelled_literal Binary n v p q h s = literal_from_based (format_text Binary n v) (sized_based n (98 ∷ []) _ (omega arith) (grouped_based 1 (padded_count 1 n v) v (lit≤ tt) (padded_some (eqb v 0 && ltb 1024 n) (div_ceil n 1) (omega arith))))
+spelled_literal Hex n v p q h s = literal_from_based (format_text Hex n v) (sized_based n (104 ∷ []) _ (omega arith) (grouped_based 4 (padded_count 4 n v) v (lit≤ tt) (padded_some (eqb v 0 && ltb 1024 n) (div_ceil n 4) (omega arith))))
 spelled_literal SignedDecimal n v p q h s = signed_literal n v (is_below_half n v) (omega arith) s refl h
 spelled_literal UnsignedDecimal n v p q h s = literal_from_based (format_text UnsignedDecimal n v) (sized_based n (100 ∷ []) _ (omega arith) (decimal_based v s))
-spelled_literal UnsizedBinary n v p q h s = literal_from_based (format_text UnsizedBinary n v) (characters_based 1 (digit_count 2 v) v (lit≤ tt) (digit_count-some 2 v))
-spelled_literal UnsizedDecimal n v p q h s = number_text (decimal v) (decimal_number v s)
+spelled_literal UnsizedBinary n v p q h s = literal_from_based (format_text UnsizedBinary n v) (written_based characters (λ n. []) refl (λ d ds. refl) (λ n. inr refl) 1 (digit_count 2 v) v (lit≤ tt) (digit_count-some 2 v))
+spelled_literal UnsizedDecimal n v p q h s = number_text (decimal v) (decimal_number v)
 spelled_literal UnsizedHex n v p q h s = literal_from_based (format_text UnsizedHex n v) (grouped_based 4 (digit_count 16 v) v (lit≤ tt) (digit_count-some 16 v))
 
 -- So is the text of a pattern.

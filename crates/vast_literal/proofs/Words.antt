@@ -1,12 +1,12 @@
 -- Names, numbers, keywords and what stands at the apostrophe of a cast, as pieces of text.
-use Rattle.std.proofs.Common.{◌≡◌, ℕ, List, [], ◌∷◌, ◌++◌, Bool, true, false, cond, eqb, eqb-true, refl, ◌∙◌, append_assoc}
-use Rattle.vast_literal.specs.Tokens.{Key, key_text, Reserved, Word, SystemWord, MacroWord, Number, Quoted, Mark, OpenParen, OpenBrace, Apostrophe, DoubleColon, PlusColon}
+use Rattle.std.proofs.Common.{◌≡◌, ℕ, List, [], ◌∷◌, ◌++◌, true, eqb, eqb-true, refl, ◌∙◌, append_assoc}
+use Rattle.vast_literal.specs.Tokens.{Key, key_text, Reserved, Word, MacroWord, Number, Quoted, Mark, OpenParen, OpenBrace, Apostrophe, DoubleColon, PlusColon}
 use Rattle.vast_literal.specs.Scan.{scan}
 use Rattle.vast_literal.specs.LiteralToken.{is_number, is_string_text}
-use Rattle.vast_literal.specs.Plain.{is_identifier, is_plain_name, is_called_name}
+use Rattle.vast_literal.specs.Plain.{is_plain_name, is_called_name}
 use Rattle.vast_literal.proofs.ExprTokens.{called_token}
 use Rattle.vast_literal.proofs.TokenReads.{Free, Divides, Reads}
-use Rattle.vast_literal.proofs.ScanLaws.{and_left, scan_name, scan_number, scan_system, scan_macro, scan_string, scan_key, scan_word_cast, key_token, key_identifier, plain_token}
+use Rattle.vast_literal.proofs.ScanLaws.{and_left, scan_name, scan_number, scan_system, scan_macro, scan_string, scan_key, scan_word_cast, key_token, key_identifier, plain_token, by_test}
 
 pub name_reads : (w : List ℕ) → is_plain_name w ≡ true → Reads w (Word w ∷ [])
 name_reads w h = record { at = λ rest k. scan_name w rest h k }
@@ -26,11 +26,8 @@ macro_reads w h = record { at = λ rest k. scan_macro w rest (and_left _ _ h) k 
 -- the name of a function: a plain name, or `$` and an identifier
 pub called_reads : (w : List ℕ) → is_called_name w ≡ true → Reads w (called_token w ∷ [])
 called_reads [] h = cc
-called_reads (c ∷ w) h = go (eqb c 36) refl h
-  where
-    go : (b : Bool) → eqb c 36 ≡ b → cond b (is_identifier w) (is_plain_name (c ∷ w)) ≡ true → Reads (c ∷ w) (cond b (SystemWord (c ∷ w)) (Word (c ∷ w)) ∷ [])
-    go true e k = rw (eqb-true c 36 e) (record { at = λ rest m. scan_system w rest k m })
-    go false e k = name_reads (c ∷ w) k
+called_reads (c ∷ w) h = by_test (eqb c 36) (λ e. rw (eqb-true c 36 e) (record { at = λ rest m. scan_system w rest (rw e at h) m }))
+    (λ e. rw e (name_reads (c ∷ w) (rw e at h)))
 
 -- a name or a keyword with the apostrophe and the parenthesis of a cast
 pub name_cast_free : (w : List ℕ) → is_plain_name w ≡ true → Free (w ++ (39 ∷ 40 ∷ [])) (Word w ∷ Mark Apostrophe ∷ Mark OpenParen ∷ [])

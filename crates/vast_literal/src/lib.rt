@@ -13,7 +13,7 @@ mod refusal;
 mod token;
 
 pub use error::{VastError, VastFault};
-pub use keyword::{is_system_verilog_keyword, system_verilog_keywords};
+pub use keyword::{is_system_verilog_keyword, system_verilog_keys, system_verilog_keywords};
 pub use kind::{AlwaysKind, AssignmentForm, CaseKind, DataKind, ModulePortDirection, VastFileType};
 pub use literal::{Literal, LiteralFormat};
 pub use operator::{BinaryOperator, UnaryOperator};

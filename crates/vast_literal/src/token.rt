@@ -3,7 +3,7 @@
 
 ghost use Rattle.std.specs.Prelude.{◌≡◌, ◌≤◌};
 ghost use Rattle.vast_literal.specs.Grammar.{is_cast_word};
-ghost use Rattle.vast_literal.specs.Tokens.{is_unary, key_text, level, op_text};
+ghost use Rattle.vast_literal.specs.Tokens.{is_unary, level, op_text};
 
 /// The sign of an operator; some stand between two operands, some before one, some in both places.
 #[derive(Clone, Copy, Debug, PartialEq, Eq, Hash)]
@@ -165,51 +165,6 @@ impl Sign {
 }
 
 impl Key {
-    /// How it is written.
-    #[tactic(auto, unfolding(crate::specs::Tokens::key_text))]
-    pub fn as_str(&self) -> &'static str
-        ensures { result.now ≡ key_text self.now }
-    {
-        match self {
-            Key::If => "if",
-            Key::Else => "else",
-            Key::Case => "case",
-            Key::Casez => "casez",
-            Key::Casex => "casex",
-            Key::EndCase => "endcase",
-            Key::Default => "default",
-            Key::Unique => "unique",
-            Key::Begin => "begin",
-            Key::End => "end",
-            Key::Assign => "assign",
-            Key::Wire => "wire",
-            Key::Reg => "reg",
-            Key::Logic => "logic",
-            Key::Integer => "integer",
-            Key::Int => "int",
-            Key::Genvar => "genvar",
-            Key::Signed => "signed",
-            Key::Unsigned => "unsigned",
-            Key::Module => "module",
-            Key::EndModule => "endmodule",
-            Key::Parameter => "parameter",
-            Key::Localparam => "localparam",
-            Key::AlwaysComb => "always_comb",
-            Key::AlwaysFF => "always_ff",
-            Key::Always => "always",
-            Key::Posedge => "posedge",
-            Key::Negedge => "negedge",
-            Key::Or => "or",
-            Key::Function => "function",
-            Key::Automatic => "automatic",
-            Key::EndFunction => "endfunction",
-            Key::Input => "input",
-            Key::Output => "output",
-            Key::InOut => "inout",
-            Key::For => "for",
-        }
-    }
-
     /// Whether it heads a cast.
     #[tactic(auto, unfolding(crate::specs::Grammar::is_cast_word))]
     pub fn is_cast_word(self) -> bool

@@ -1,5 +1,4 @@
 pub mod Tests
 pub mod Lists
 pub mod Values
-pub mod Statements
 pub mod Members

@@ -35,6 +35,7 @@ fn is_plain_item(ast: &Ast, item: &FileItem) -> Result<bool, AllocError>
 ///
 /// # Errors
 /// `AllocError` where memory was refused.
+#[tactic(auto, using(crate::proofs::Lists::items))]
 pub fn is_plain_file(ast: &Ast) -> Result<bool, AllocError>
     ensures { IfOk result (λ is_plain. is_plain ≡ is_plain_file (tree (bench ast.now))) }
 {

@@ -66,6 +66,7 @@ fn is_plain_statement(ast: &Ast, statement: &Statement) -> Result<bool, AllocErr
 
 /// Whether all arms of the conditional are plain.
 #[cycle(statements)]
+#[tactic(auto, using(std::proofs::lemmas::List::drop_more))]
 pub(crate) fn is_plain_conditional(ast: &Ast, c: Conditional) -> Result<bool, AllocError>
     requires { OwnsConditional (bench ast.now) c }
     ensures { Answers
@@ -101,6 +102,7 @@ fn is_plain_arm(ast: &Ast, condition: Expr, b: VastStatementBlock) -> Result<boo
 
 /// Whether the selector and all arms of the case statement are plain.
 #[cycle(statements)]
+#[tactic(auto, using(std::proofs::lemmas::List::drop_more))]
 fn is_plain_case(ast: &Ast, c: CaseStatement) -> Result<bool, AllocError>
     requires { OwnsCase (bench ast.now) c }
     ensures { Answers

@@ -1,13 +1,11 @@
 -- Laws of writing what the arena holds.
-use Rattle.std.proofs.Common.{◌≡◌, ◌<◌, ◌≤◌, ℕ, zero, suc, ◌+◌, List, [], ◌∷◌, length, get_or, map, drop, refl, sym, ◌∙◌, ap, codes, arith, add-one, Option, Some, None, Err, subst}
-use Rattle.std.proofs.lemmas.List.{drop_all}
+use Rattle.std.proofs.Common.{◌≡◌, ◌<◌, ℕ, suc, ◌+◌, List, [], ◌∷◌, length, map, refl, sym, ◌∙◌, ap, codes, arith, Option, Some, None, Err, subst}
 use Rattle.vast_literal.specs.declared.error.VastFault.{VastFault}
 use Rattle.vast_literal.specs.declared.error.VastFault.TheVariants.{Refused as RefusedBy, Memory as NoMemory}
 use Rattle.vast_literal.specs.Tree.{PortTree, ParameterPortTree, Connection as ConnectionTree}
 use Rattle.vast_literal.specs.declared.kind.VastFileType.{VastFileType as Dialect}
 use Rattle.vast_core.specs.declared.node.Member.{Member}
 use Rattle.vast_core.specs.declared.node.Connection.{Connection}
-use Rattle.vast_core.specs.declared.node.FileItem.{FileItem}
 use Rattle.vast_core.specs.Bench.{Bench}
 use Rattle.vast_core.specs.FileTree.{member_tree, members_tree, connection_tree, item_tree, tree}
 use Rattle.vast_print.specs.Printed.{Printed, plain_text}
@@ -20,13 +18,15 @@ use Rattle.vast_print.specs.Internal.Emits.{Faults}
 use Rattle.vast_print.specs.declared.refusal.Refusal.{Refusal}
 use Rattle.vast_print.specs.declared.refusal.PrintFault.{PrintFault}
 use Rattle.vast_print.specs.declared.refusal.PrintFault.TheVariants.{Refused, Memory}
-use Rattle.vast_print.specs.Members.{member_page, members_page, entries_page, connection_text, connections_page, instance_head_page}
+use Rattle.vast_print.specs.Members.{members_page, entries_page, connection_text, connections_page, instance_head_page}
 use Rattle.vast_print.specs.Layout.{body_page, header_page, ports_page, parameter_ports_page, items_page, layout}
 use Rattle.vast_print.proofs.OutputLaws.{inline-then, inline-word, indented-stopped, inline-stopped, whole-page, whole-fault, line-text, line-fault}
 use Rattle.vast_print.proofs.Lines.{word-stopped, next-stopped}
 use Rattle.vast_print.proofs.DeclarationLaws.{inline-declaration, inline-port, inline-untyped-parameter, inline-typed-parameter}
 use Rattle.vast_print.proofs.MemberLaws.{indented-members-none, indented-members, indented-declaration, indented-macro, indented-parameter, inline-plain-parameter, inline-int-parameter, indented-instance, indented-instance-head, indented-instance-parameters, indented-no-connections, indented-connections, inline-connection, inline-open-connection}
-use Rattle.vast_print.proofs.ModuleLaws.{indented-body-none, indented-body, indented-header-bare, indented-header-ports, indented-header-parameters, indented-header-both, indented-module, indented-include, indented-comment-item, indented-blank-item}
+use Rattle.vast_print.proofs.ModuleLaws.{indented-body-none, indented-body, indented-header-bare, indented-header-ports, indented-header-parameters, indented-header-both, indented-module, indented-include, indented-comment-item, indented-blank-item, indented-items, indented-items-none, ports-are-entries, parameters-are-entries}
+use Rattle.vast_print.proofs.ListLaws.{indented-no-entries, indented-entries, more-left}
+use Rattle.vast_print.proofs.Left.{left}
 
 -- a refusal stays
 
@@ -36,15 +36,15 @@ pub ruleset declarations = (inline-declaration, inline-port, inline-untyped-para
 
 -- modules
 
-pub members-end : (dialect : Dialect) (b : Bench) (d : ℕ) (k : Output) (ms : List Member) (i : ℕ) → length ms ≤ i → indented d k (members_page dialect (members_tree b (drop i ms))) ≡ k
-members-end dialect b d k ms i h = ap (λ x. indented d k (members_page dialect (members_tree b x))) (drop_all i ms h) ∙ indented-members-none d k dialect
+-- members and items, one below the other
 
-pub members-step :
-    (dialect : Dialect) (b : Bench) (d : ℕ) (k : Output) (ms : List Member) (i : ℕ) (m : Member) → i < length ms → m ≡ get_or ms i m →
-    indented d k (members_page dialect (members_tree b (drop i ms))) ≡ indented d (indented d k (member_page dialect (member_tree b m))) (members_page dialect (members_tree b (drop (i + 1) ms)))
-members-step dialect b d k [] i m h e = absurd (omega arith)
-members-step dialect b d k (x ∷ ms) zero m h e = rw e (indented-members d k dialect (member_tree b x) (members_tree b ms))
-members-step dialect b d k (x ∷ ms) (suc i) m h e = rw add-one (rw add-one at (members-step dialect b d k ms i m (omega arith) e))
+pub items-laid-out : (b : Bench) → layout (tree b) ≡ items_page b.file_type (map (item_tree b) b.items)
+unfolding layout tree
+items-laid-out b = refl
+
+pub ruleset listed = (indented-members-none, indented-members, indented-items-none, indented-items, items-laid-out, left, stops)
+
+pub ruleset entries = (indented-no-entries, indented-entries, more-left, ports-are-entries, parameters-are-entries, left, stops)
 
 pub indented-body-some : (dialect : Dialect) (b : Bench) (d : ℕ) (k : Output) (ms : List Member) → 0 < length ms → indented d k (body_page dialect (members_tree b ms)) ≡ indented (d + 1) k (members_page dialect (members_tree b ms))
 indented-body-some dialect b d k [] h = absurd (omega arith)
@@ -129,10 +129,6 @@ pub ruleset instances = (indented-instance, indented-head-bare, indented-head-pa
 -- files
 
 pub ruleset items = (indented-include, indented-comment-item, indented-blank-item, stops)
-
-pub layout-items : (b : Bench) (items : List FileItem) → b.items ≡ items → layout (tree b) ≡ items_page b.file_type (map (item_tree b) items)
-unfolding layout tree
-layout-items b items e = ap (λ xs. items_page b.file_type (map (item_tree b) xs)) e
 
 -- what a call returns that prints
 

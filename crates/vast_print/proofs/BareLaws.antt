@@ -1,14 +1,14 @@
 -- Which expressions stand bare before the apostrophe of a cast.
-use Rattle.std.proofs.Common.{◌≡◌, ℕ, Bool, true, false, not, ◌&&◌, ◌||◌, List, [], ◌∷◌, ◌++◌, refl, ◌∙◌, ap, codes}
-use Rattle.std.specs.Prelude.{if◌then◌else◌, ◌==◌, nat_lt, length}
-use Rattle.std.specs.Char.{is_ascii_digit, is_ascii_uppercase, is_ascii_lowercase}
+use Rattle.std.proofs.Common.{◌≡◌, ℕ, Bool, true, false, not, ◌&&◌, List, [], ◌∷◌, ◌++◌, refl, ◌∙◌, ap, codes, arith}
+use Rattle.std.specs.Prelude.{if◌then◌else◌, nat_lt, length}
+use Rattle.std.specs.Char.{is_ascii_digit}
 use Rattle.std.specs.List.{list_all}
 use Rattle.std.proofs.lemmas.Bool.{and_from, and_parts, and_right, or_from, false_from_ne_true}
 use Rattle.std.proofs.lemmas.List.Folds.{list_all-append}
 use Rattle.vast_literal.specs.declared.operator.UnaryOperator.{UnaryOperator as UnaryOp}
 use Rattle.vast_literal.specs.declared.operator.UnaryOperator.TheVariants.{Negate as NegateOp}
 use Rattle.vast_literal.specs.declared.operator.BinaryOperator.{BinaryOperator as BinaryOp}
-use Rattle.vast_literal.specs.Tree.{ExprTree, NameTree, LiteralTree, StringTree, UnaryTree, BinaryTree, TernaryTree, IndexTree, SliceTree, PartSelectTree, ConcatTree, PatternTree, WidthCastTree, TypeCastTree, PosEdgeTree, NegEdgeTree, MacroTree, CallTree, MissingExpr, TypeTree, ScalarTree, VectorTree, IntegerTree, IntTree, ExternalTree, PackageTree, PackedTree, UnpackedTree, MissingType}
+use Rattle.vast_literal.specs.Tree.{ExprTree, NameTree, LiteralTree, StringTree, UnaryTree, BinaryTree, TernaryTree, IndexTree, SliceTree, PartSelectTree, ConcatTree, PatternTree, WidthCastTree, TypeCastTree, PosEdgeTree, NegEdgeTree, MacroTree, CallTree, MissingExpr, TypeTree, ScalarTree, IntegerTree, IntTree}
 use Rattle.vast_literal.specs.Shape.{is_scalar_name, is_zero}
 use Rattle.vast_literal.specs.Literal.{is_decimal}
 use Rattle.vast_print.specs.declared.refusal.Refusal.{Refusal}
@@ -20,25 +20,15 @@ use Rattle.vast_print.specs.Internal.Bare.{is_bare_head}
 use Rattle.vast_print.specs.Text.{elided, cast_to, width_cast, expr_text, type_cast}
 use Rattle.vast_print.proofs.FaultLaws.{elided_text}
 use Rattle.vast_literal.specs.NormalExpr.{unary_operator_token}
+use Rattle.std.proofs.lemmas.Bool.Decides.{nat_tests}
 
 -- a text with a byte that no word has isn't bare
 
 pub record Broken (w : List ℕ) : Type 0 where
   pub broken : list_all continues_word w ≡ false
 
-digit-continues : (d u l x y : Bool) → d ≡ true → (((d || u) || l) || (x || y)) ≡ true
-digit-continues true u l x y h = refl
-digit-continues false u l x y h = absurd (cc (h))
-
-begin-continues : (d u l x y : Bool) → ((u || l) || x) ≡ true → (((d || u) || l) || (x || y)) ≡ true
-begin-continues true u l x y h = refl
-begin-continues false true l x y h = refl
-begin-continues false false true x y h = refl
-begin-continues false false false true y h = refl
-begin-continues false false false false y h = absurd (cc (h))
-
 digit-word : (c : ℕ) → is_ascii_digit c ≡ true → continues_word c ≡ true
-digit-word c h = digit-continues (is_ascii_digit c) (is_ascii_uppercase c) (is_ascii_lowercase c) (c == 95) (c == 36) h
+digit-word c h = grind (arith, nat_tests)
 
 digits-words : (w : List ℕ) → list_all is_ascii_digit w ≡ true → list_all continues_word w ≡ true
 digits-words [] h = refl
@@ -47,12 +37,12 @@ digits-words (c ∷ w) h =
     (digit-word c (and_parts (is_ascii_digit c) (list_all is_ascii_digit w) h).0)
     (digits-words w (and_parts (is_ascii_digit c) (list_all is_ascii_digit w) h).1)
 
+begin-continues : (c : ℕ) → begins_word c ≡ true → continues_word c ≡ true
+begin-continues c h = grind (arith, nat_tests)
+
 word-words : (w : List ℕ) → is_word w ≡ true → list_all continues_word w ≡ true
 word-words [] h = refl
-word-words (c ∷ w) h =
-    and_from (continues_word c) (list_all continues_word w)
-    (begin-continues (is_ascii_digit c) (is_ascii_uppercase c) (is_ascii_lowercase c) (c == 95) (c == 36) ((and_parts (begins_word c) (list_all continues_word w) h).0))
-    ((and_parts (begins_word c) (list_all continues_word w) h).1)
+word-words (c ∷ w) h = let p = and_parts (begins_word c) (list_all continues_word w) h in and_from (continues_word c) (list_all continues_word w) (begin-continues c p.0) p.1
 
 number-words : (w : List ℕ) → is_decimal w ≡ true → list_all continues_word w ≡ true
 unfolding is_decimal
@@ -100,17 +90,9 @@ broken-binary o = record { broken = refl }
 broken-type-cast : (t : TypeTree) (p : Printed) → Broken (type_cast t p).text
 unfolding type_cast
 broken-type-cast (ScalarTree true) p = broken-cast _ _
-broken-type-cast (ScalarTree false) p = broken-cast _ _
-broken-type-cast (VectorTree w v signed) p = broken-cast _ _
 broken-type-cast (IntegerTree true) p = broken-cast _ _
-broken-type-cast (IntegerTree false) p = broken-cast _ _
 broken-type-cast (IntTree true) p = broken-cast _ _
-broken-type-cast (IntTree false) p = broken-cast _ _
-broken-type-cast (ExternalTree name) p = broken-cast _ _
-broken-type-cast (PackageTree scope name) p = broken-cast _ _
-broken-type-cast (PackedTree t ds) p = broken-cast _ _
-broken-type-cast (UnpackedTree t ds) p = broken-cast _ _
-broken-type-cast MissingType p = broken-cast _ _
+broken-type-cast _ p = broken-cast _ _
 
 -- a select: an elided one has its name's text
 

@@ -10,7 +10,7 @@ use Rattle.vast_literal.specs.declared.operator.BinaryOperator.{BinaryOperator a
 use Rattle.vast_literal.specs.declared.operator.BinaryOperator.TheVariants.{Add as AddOp}
 use Rattle.vast_literal.specs.Tree.{ExprTree, NameTree, LiteralTree, StringTree, IndexTree, SliceTree, UnaryTree, BinaryTree, TernaryTree}
 use Rattle.vast_literal.specs.Scan.{is_letter, is_digit, is_word_byte}
-use Rattle.vast_literal.specs.LiteralToken.{every, is_number, is_bare_literal, is_literal_text, is_string_text}
+use Rattle.vast_literal.specs.LiteralToken.{every, is_number, is_literal_text, is_string_text}
 use Rattle.vast_literal.specs.Plain.{is_identifier, is_plain_name}
 use Rattle.vast_literal.proofs.ExprTokens as Tokens
 use Rattle.vast_literal.specs.WellFormed.{is_well_formed, is_positive}
@@ -29,6 +29,7 @@ use Rattle.vast_print.proofs.BareLaws.{bare-head}
 use Rattle.vast_print.proofs.TestLaws.{bare_same}
 use Rattle.vast_print.proofs.FaultLaws.{halves, elided_fine, elided_text}
 use Rattle.vast_print.proofs.ExprOpens.{is_tight, literal_first}
+use Rattle.vast_literal.proofs.ScanLaws.{by_test}
 
 -- operators
 
@@ -67,11 +68,8 @@ no_letter c h = grind (arith, nat_tests)
 
 pub literal_no_word : (w : List ℕ) → is_literal_text w ≡ true → is_identifier w ≡ false
 literal_no_word [] h = refl
-literal_no_word (c ∷ cs) h = go (eqb c 45) refl h
-  where
-    go : (b : Bool) → eqb c 45 ≡ b → cond b (is_bare_literal cs) (is_bare_literal (c ∷ cs)) ≡ true → is_identifier (c ∷ cs) ≡ false
-    go true e k = rw (eqb-true c 45 e) refl
-    go false e k = false_and (is_letter c) (every is_word_byte cs) (no_letter c (literal_first c cs k))
+literal_no_word (c ∷ cs) h = by_test (eqb c 45) (λ e. rw (eqb-true c 45 e) refl)
+    (λ e. false_and (is_letter c) (every is_word_byte cs) (no_letter c (literal_first c cs (rw e at h))))
 
 pub string_no_head : (w : List ℕ) → is_string_text w ≡ true → (is_number w || is_identifier w) ≡ false
 string_no_head [] h = absurd (cc h)

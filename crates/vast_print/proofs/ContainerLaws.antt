@@ -1,41 +1,36 @@
 -- Laws of writing the containers, functions and always blocks of the arena, and what they hold.
-use Rattle.std.proofs.Common.{◌≡◌, ◌<◌, ◌≤◌, ℕ, zero, suc, ◌+◌, Bool, true, false, List, [], ◌∷◌, length, get_or, map, drop, refl, sym, ◌∙◌, codes, arith, Option, Some, None, slice_get, All}
-use Rattle.vast_literal.specs.Tree.{ExprTree, NoExpr, SomeExpr, Statements, NoStatements, MoreStatements, StatementTree, AssignTree, CommentTree, BlankTree, InlineTree, ConditionalTree, CaseTree, Alternates, CaseArms, Members, AssignMember, LoopMember}
+use Rattle.std.proofs.Common.{◌≡◌, ◌<◌, ℕ, zero, suc, ◌+◌, Bool, true, false, List, [], ◌∷◌, length, refl, sym, ◌∙◌, codes, arith, Option, Some, None, slice_get, All}
+use Rattle.vast_literal.specs.Tree.{ExprTree, NoExpr, SomeExpr, NoStatements, MoreStatements, StatementTree, AssignTree, AssignMember}
 use Rattle.vast_literal.specs.declared.kind.VastFileType.{VastFileType as Dialect}
 use Rattle.vast_literal.specs.declared.kind.AssignmentForm.TheVariants.{Blocking, Nonblocking, Continuous}
 use Rattle.vast_literal.specs.declared.kind.CaseKind.{CaseKind as CaseWord}
 use Rattle.vast_literal.specs.declared.kind.CaseKind.TheVariants.{Case as CaseExact, CaseZ, CaseX}
 use Rattle.vast_literal.specs.Shape.{is_bare_arm, is_one_assignment, is_one_casez}
-use Rattle.vast_core.specs.declared.handle.Expr.{Expr}
 use Rattle.vast_core.specs.declared.handle.VastStatement.{VastStatement}
-use Rattle.vast_core.specs.declared.handle.VastStatementBlock.{VastStatementBlock}
 use Rattle.vast_core.specs.declared.node.Assignment.{Assignment}
 use Rattle.vast_core.specs.declared.node.Statement.{Statement}
-use Rattle.vast_core.specs.declared.node.ElseIf.{ElseIf}
-use Rattle.vast_core.specs.declared.node.CaseArm.{CaseArm}
-use Rattle.vast_core.specs.declared.node.FunctionVariable.{FunctionVariable}
 use Rattle.vast_core.specs.Sound.{StatementSound}
 use Rattle.vast_core.proofs.Lists.{below-of}
-use Rattle.vast_core.specs.Bench.{Bench, OwnsStatement, tree_of, maybe_tree_of, trees_of}
-use Rattle.vast_core.specs.Nests.{NestRecord, BlockRecord, ConditionalNestRecord, CaseNestRecord, LoopNestRecord}
+use Rattle.vast_core.specs.Bench.{Bench, OwnsStatement, tree_of}
+use Rattle.vast_core.specs.Nests.{NestRecord, BlockRecord}
 use Rattle.vast_core.specs.declared.node.Statement.TheVariants.{Assignment as AssignStatement, Continuous as ContinuousStatement, Conditional as ConditionalStatement, Case as CasesStatement}
-use Rattle.vast_core.specs.FileTree.{Family, BlockFamily, ConditionalFamily, CaseFamily, LoopFamily, family, unfolded, families, conditional_statement, case_statement, conditional_member, loop_member, form_of, assigned_tree, continuous_tree, statement_in, statements_tree, block_tree, alternates_tree, case_arms_tree, variable_tree}
+use Rattle.vast_core.specs.FileTree.{Family, BlockFamily, family, unfolded, families, conditional_statement, case_statement, conditional_member, form_of, assigned_tree, continuous_tree, statement_in, statements_tree}
 use Rattle.vast_print.specs.Internal.Bodies.{assignment_of, bare_assignment}
 use Rattle.vast_print.specs.Printed.{plain_text, ◌⊕◌}
 use Rattle.vast_print.specs.Page.{written}
 use Rattle.vast_print.specs.Output.{Output, word, next, indented, inline}
 use Rattle.vast_print.specs.Text.{expr_text}
-use Rattle.vast_print.specs.Internal.Words.{separator}
-use Rattle.vast_print.specs.Statements.{assignment_operator, unique_word, case_word, label_text, statement_page, statements_page, block_page, alternates_page, arms_page}
-use Rattle.vast_print.specs.Internal.Statements.{arm_page, arm_body_page}
-use Rattle.vast_print.specs.Members.{input_text, local_page, locals_page, loop_text, member_page, members_page}
+use Rattle.vast_print.specs.Statements.{assignment_operator, label_text, statement_page, statements_page, block_page}
+use Rattle.vast_print.specs.Internal.Statements.{arm_body_page}
+use Rattle.vast_print.specs.Members.{member_page}
 use Rattle.vast_print.proofs.Lines.{word-nothing, word-word}
 use Rattle.vast_print.proofs.OutputLaws.{inline-word, indented-blank, indented-written, inline-line, inline-then, inline-above-none}
-use Rattle.vast_print.proofs.StatementLaws.{indented-assign, inline-assign, indented-arm, indented-comment, indented-blank-statement, indented-inline, indented-conditional, indented-case, inline-no-else, inline-else, inline-block-none, inline-block, inline-arm-block}
-use Rattle.vast_print.proofs.ListLaws.{statements-end, statements-step, locals-end, locals-step, alternates-end, alternates-step, arms-end, arms-step}
-use Rattle.vast_print.proofs.SeparatedLaws.{rest_events, events-end, events-step, rest_inputs, inputs-end, inputs-step}
+use Rattle.vast_print.proofs.StatementLaws.{indented-assign, inline-assign, indented-arm, indented-comment, indented-blank-statement, indented-inline, indented-conditional, indented-case, inline-no-else, inline-else, inline-block-none, inline-block, inline-arm-block, inline-else-if-arm, indented-arms, indented-arms-none}
+use Rattle.vast_print.proofs.ListLaws.{indented-no-statements, indented-statements, indented-no-locals, indented-locals}
+use Rattle.vast_print.proofs.SeparatedLaws.{inline-no-inputs, inline-inputs, inline-no-events, inline-events}
 use Rattle.vast_print.proofs.MemberLaws.{indented-always, inline-always-ff, inline-always-at, inline-always-comb, indented-declaration, indented-comment-member, indented-blank-member, indented-inline-member, indented-macro, indented-local, indented-function, indented-function-member, indented-body-block, indented-body-casez, indented-loop, inline-loop, inline-label-text, inline-no-label, inline-input-text}
-use Rattle.vast_print.proofs.ArenaLaws.{stops, declarations}
+use Rattle.vast_print.proofs.ArenaLaws.{stops, declarations, listed}
+use Rattle.vast_print.proofs.Left.{left}
 
 -- assignments
 
@@ -73,42 +68,13 @@ pub ruleset blocks = (inline-block-empty, inline-block-full, stops)
 pub ruleset statements = (indented-assigned, indented-comment, indented-blank-statement, indented-inline, stops)
 
 -- what is left of a block
-pub block-step : (b : Bench) (d : ℕ) (k : Output) (xs : List Statement) (i : ℕ) (x : Statement) → i < length xs → x ≡ get_or xs i x →
-    indented d k (statements_page (statements_tree b (drop i xs)))
-    ≡ indented d (indented d k (statement_page (statement_in b (families b) x))) (statements_page (statements_tree b (drop (i + 1) xs)))
-block-step b d k xs i x h e = statements-step (statements_tree b) (statement_in b (families b)) (λ y ys. refl) d k xs i x h e
-
-pub block-end : (b : Bench) (d : ℕ) (k : Output) (xs : List Statement) (i : ℕ) → length xs ≤ i → indented d k (statements_page (statements_tree b (drop i xs))) ≡ k
-block-end b d k xs i h = statements-end (statements_tree b) refl d k xs i h
+pub ruleset below = (indented-no-statements, indented-statements, left, stops)
 
 -- conditionals
 
-pub else-ifs-step : (b : Bench) (otherwise : Option VastStatementBlock) (d : ℕ) (k : Output) (xs : List ElseIf) (i : ℕ) (x : ElseIf) → i < length xs → x ≡ get_or xs i x →
-    inline d k (alternates_page (alternates_tree b (drop i xs) otherwise))
-    ≡ inline d (inline d (word (inline d (word k (codes " else if (")) (written (expr_text (tree_of b x.condition)))) (codes ") ")) (block_page (block_tree b x.block))) (alternates_page (alternates_tree b (drop (i + 1) xs) otherwise))
-else-ifs-step b otherwise d k xs i x h e =
-    alternates-step (λ ys. alternates_tree b ys otherwise) (λ y. tree_of b y.condition) (λ y. block_tree b y.block) (λ y ys. refl) d k xs i x h e
-
-pub else-ifs-end : (b : Bench) (otherwise : Option VastStatementBlock) (d : ℕ) (k : Output) (xs : List ElseIf) (i : ℕ) → length xs ≤ i →
-    inline d k (alternates_page (alternates_tree b (drop i xs) otherwise)) ≡ inline d k (alternates_page (alternates_tree b [] otherwise))
-else-ifs-end b otherwise d k xs i h = alternates-end (λ ys. alternates_tree b ys otherwise) d k xs i h
-
-pub indented-held-conditional : (b : Bench) (d : ℕ) (k : Output) (i : ℕ) (c : ExprTree) (s : Statements) (rest : Alternates) → families b i ≡ ConditionalFamily c s rest →
-    indented d k (statement_page (conditional_statement (families b i)))
-    ≡ inline d (inline d (word (inline d (word (next d k) (codes "if (")) (written (expr_text c))) (codes ") ")) (block_page s)) (alternates_page rest)
-indented-held-conditional b d k i c s rest e = rw e (indented-conditional d k c s rest)
-
-pub ruleset conditionals = (inline-no-else, inline-else, stops)
+pub ruleset conditionals = (indented-conditional, inline-else-if-arm, inline-no-else, inline-else, left, stops)
 
 -- cases
-
-pub arms-left : (b : Bench) (w : CaseWord) (d : ℕ) (k : Output) (xs : List CaseArm) (i : ℕ) (x : CaseArm) → i < length xs → x ≡ get_or xs i x →
-    indented d k (arms_page w (case_arms_tree b (drop i xs)))
-    ≡ indented d (indented d k (arm_page w (maybe_tree_of b x.label) (block_tree b x.block))) (arms_page w (case_arms_tree b (drop (i + 1) xs)))
-arms-left b w d k xs i x h e = arms-step w (λ ys. case_arms_tree b ys) (λ y. maybe_tree_of b y.label) (λ y. block_tree b y.block) (λ y ys. refl) d k xs i x h e
-
-pub no-arms-left : (b : Bench) (w : CaseWord) (d : ℕ) (k : Output) (xs : List CaseArm) (i : ℕ) → length xs ≤ i → indented d k (arms_page w (case_arms_tree b (drop i xs))) ≡ k
-no-arms-left b w d k xs i h = arms-end w (λ ys. case_arms_tree b ys) refl d k xs i h
 
 pub inline-label : (d : ℕ) (k : Output) (e : ExprTree) → inline d k (written (label_text (SomeExpr e) ⊕ plain_text (codes ": "))) ≡ word (inline d k (written (expr_text e))) (codes ": ")
 inline-label d k e = simp (inline-then, inline-word)
@@ -117,11 +83,6 @@ pub inline-default : (d : ℕ) (k : Output) → inline d k (written (label_text 
 inline-default d k = simp (inline-then, inline-word, word-word)
 
 pub ruleset labels = (inline-label, inline-default, stops)
-
-pub indented-held-case : (b : Bench) (d : ℕ) (k : Output) (i : ℕ) (unique : Bool) (w : CaseWord) (e : ExprTree) (arms : CaseArms) → families b i ≡ CaseFamily (CaseTree unique w e arms) →
-    indented d k (statement_page (case_statement (families b i)))
-    ≡ word (next d (indented (d + 1) (word (inline d (word (word (next d k) (unique_word unique)) (case_word w)) (written (expr_text e))) (codes ")")) (arms_page w arms))) (codes "endcase")
-indented-held-case b d k i unique w e arms h = rw h (indented-case d k unique w e arms)
 
 -- arms of one assignment
 
@@ -172,11 +133,8 @@ other-conditional (BlockFamily held) = refl
 other-conditional _ = refl
 
 other-case-record : (b : Bench) (f : ℕ → Family) (o : Option NestRecord) → IsOther (case_statement (family b f o))
-other-case-record b f None = refl
 other-case-record b f (Some (BlockRecord statements)) = refl
-other-case-record b f (Some (ConditionalNestRecord c)) = refl
-other-case-record b f (Some (CaseNestRecord c)) = refl
-other-case-record b f (Some (LoopNestRecord l)) = refl
+other-case-record b f _ = refl
 
 other-unfolded : (b : Bench) (n i : ℕ) → IsOther (case_statement (unfolded b n i))
 other-unfolded b zero i = refl
@@ -201,55 +159,25 @@ not-bare b CaseZ (e ∷ g ∷ es) h = more (statement_in b (families b) e)
   where
     more : (t : StatementTree) → is_one_assignment (MoreStatements t (MoreStatements (statement_in b (families b) g) (statements_tree b es))) ≡ false
     more (AssignTree Blocking l r) = refl
-    more (AssignTree Nonblocking l r) = refl
-    more (AssignTree Continuous l r) = refl
-    more (CommentTree text) = refl
-    more BlankTree = refl
-    more (InlineTree text) = refl
-    more (ConditionalTree c s rest) = refl
-    more (CaseTree unique u x arms) = refl
+    more _ = refl
 not-bare b CaseX es h = refl
 
 pub inline-arm-full : (b : Bench) (d : ℕ) (k : Output) (w : CaseWord) (xs : List Statement) → None ≡ bare_assignment w xs →
     inline d k (arm_body_page w (statements_tree b xs)) ≡ inline d k (block_page (statements_tree b xs))
 inline-arm-full b d k w xs h = inline-arm-block d k w (statements_tree b xs) (not-bare b w xs h)
 
-pub ruleset cases = (indented-arm, stops)
+pub ruleset cases = (indented-case, indented-arms-none, indented-arms, indented-arm, left, stops)
 
 -- always blocks
-
-pub events-left : (b : Bench) (d : ℕ) (k : Output) (xs : List Expr) (i : ℕ) (x : Expr) → i < length xs → x ≡ get_or xs i x →
-    inline d k (written (rest_events i (trees_of b (drop i xs)))) ≡ inline d (inline d (word k (separator i (codes " or "))) (written (expr_text (tree_of b x)))) (written (rest_events (i + 1) (trees_of b (drop (i + 1) xs))))
-events-left b d k xs i x h e = events-step (trees_of b) (tree_of b) (λ y ys. refl) d k xs i x h e
-
-pub no-events-left : (b : Bench) (d : ℕ) (k : Output) (xs : List Expr) (i : ℕ) → length xs ≤ i → inline d k (written (rest_events i (trees_of b (drop i xs)))) ≡ k
-no-events-left b d k xs i h = events-end (trees_of b) refl d k xs i h
 
 pub ruleset always = (indented-always, inline-always-ff, inline-always-at, inline-always-comb, stops)
 
 -- functions
 
-pub variables-step :
-    (dialect : Dialect) (b : Bench) (d : ℕ) (k : Output) (xs : List FunctionVariable) (i : ℕ) (x : FunctionVariable) → i < length xs → x ≡ get_or xs i x →
-    inline d k (written (rest_inputs i dialect (map (variable_tree b) (drop i xs))))
-    ≡ inline d (inline d (word k (separator i (codes ", "))) (written (input_text dialect (variable_tree b x)))) (written (rest_inputs (i + 1) dialect (map (variable_tree b) (drop (i + 1) xs))))
-variables-step dialect b d k xs i x h e = inputs-step dialect (variable_tree b) d k xs i x h e
+-- inputs and events
+pub ruleset separated = (inline-no-inputs, inline-inputs, inline-no-events, inline-events, left, stops)
 
-pub variables-end :
-    (dialect : Dialect) (b : Bench) (d : ℕ) (k : Output) (xs : List FunctionVariable) (i : ℕ) → length xs ≤ i →
-    inline d k (written (rest_inputs i dialect (map (variable_tree b) (drop i xs)))) ≡ k
-variables-end dialect b d k xs i h = inputs-end dialect (variable_tree b) d k xs i h
-
-pub locals-left :
-    (dialect : Dialect) (b : Bench) (d : ℕ) (k : Output) (xs : List FunctionVariable) (i : ℕ) (x : FunctionVariable) → i < length xs → x ≡ get_or xs i x →
-    indented d k (locals_page dialect (map (variable_tree b) (drop i xs)))
-    ≡ indented d (indented d k (local_page dialect (variable_tree b x))) (locals_page dialect (map (variable_tree b) (drop (i + 1) xs)))
-locals-left dialect b d k xs i x h e = locals-step dialect (variable_tree b) d k xs i x h e
-
-pub no-locals-left :
-    (dialect : Dialect) (b : Bench) (d : ℕ) (k : Output) (xs : List FunctionVariable) (i : ℕ) → length xs ≤ i →
-    indented d k (locals_page dialect (map (variable_tree b) (drop i xs))) ≡ k
-no-locals-left dialect b d k xs i h = locals-end dialect (variable_tree b) d k xs i h
+pub ruleset locals = (indented-no-locals, indented-locals, left, stops)
 
 -- blocks that are one casez
 
@@ -264,10 +192,7 @@ pub ruleset functions = (indented-function-member, indented-function, indented-l
 
 pub ruleset headers = (inline-loop, inline-label-text, inline-no-label, stops)
 
-pub indented-held-loop : (b : Bench) (d : ℕ) (k : Output) (dialect : Dialect) (i : ℕ) (genvar : List ℕ) (start end : ExprTree) (label : Option (List ℕ)) (ms : Members) → families b i ≡ LoopFamily (LoopMember genvar start end label ms) →
-    indented d k (member_page dialect (loop_member (families b i)))
-    ≡ word (next d (indented (d + 1) (inline d (next d k) (written (loop_text genvar start end label))) (members_page dialect ms))) (codes "end")
-indented-held-loop b d k dialect i genvar start end label ms e = rw e (indented-loop d k dialect genvar start end label ms)
+pub ruleset loops = (indented-loop, listed)
 
 -- members
 

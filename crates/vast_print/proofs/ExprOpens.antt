@@ -1,5 +1,5 @@
 -- With which bytes the text of an expression begins.
-use Rattle.std.proofs.Common.{◌≡◌, ℕ, List, [], ◌∷◌, Bool, true, false, cond, not, ◌&&◌, ◌||◌, eqb, eqb-true, nat_lt, refl, codes}
+use Rattle.std.proofs.Common.{◌≡◌, ℕ, List, [], ◌∷◌, Bool, true, false, not, ◌&&◌, ◌||◌, eqb, eqb-true, nat_lt, refl, codes}
 use Rattle.std.specs.Prelude.{if◌then◌else◌}
 use Rattle.vast_literal.specs.declared.operator.UnaryOperator.{UnaryOperator as UnaryOp}
 use Rattle.vast_literal.specs.declared.operator.UnaryOperator.TheVariants.{Negate as NegateOp}
@@ -7,10 +7,10 @@ use Rattle.vast_literal.specs.declared.operator.BinaryOperator.{BinaryOperator a
 use Rattle.vast_literal.specs.declared.operator.BinaryOperator.TheVariants.{Add as AddOp}
 use Rattle.vast_literal.specs.Tree.{ExprTree, NameTree, LiteralTree, StringTree, UnaryTree, BinaryTree, TernaryTree, IndexTree, SliceTree, PartSelectTree, ConcatTree, PatternTree, WidthCastTree, TypeCastTree, PosEdgeTree, NegEdgeTree, MacroTree, CallTree, MissingExpr, TypeTree, ScalarTree, VectorTree, IntegerTree, IntTree, ExternalTree, PackageTree, PackedTree, UnpackedTree, MissingType}
 use Rattle.vast_literal.specs.Scan.{is_letter, is_digit, is_word_byte}
-use Rattle.vast_literal.specs.LiteralToken.{every, is_number, is_based, is_filled, is_based_tail, is_bare_literal, is_literal_text, is_string_text}
+use Rattle.vast_literal.specs.LiteralToken.{every, is_number, is_based, is_filled, is_bare_literal, is_literal_text, is_string_text}
 use Rattle.vast_literal.specs.Plain.{is_identifier, is_plain_name, is_called_name, is_plain, is_plain_type}
 use Rattle.vast_literal.specs.WellFormed.{is_well_formed, is_cast_type}
-use Rattle.vast_literal.proofs.ScanLaws.{and_left, opens_letter, opens_digit}
+use Rattle.vast_literal.proofs.ScanLaws.{and_left, opens_letter, opens_digit, by_test, not_true}
 use Rattle.vast_literal.proofs.Pieces.{opens-append}
 use Rattle.vast_literal.proofs.TokenReads.{opens}
 use Rattle.vast_literal.specs.Shape.{is_scalar_name, is_zero, left_child_wraps, select_wraps, starts_with_minus, ternary_wraps, binary_precedence}
@@ -23,6 +23,7 @@ use Rattle.vast_print.specs.Text.{elided, cast_to, width_cast, package_text, exp
 use Rattle.vast_print.proofs.FaultLaws.{halves, elided_text}
 use Rattle.vast_print.proofs.TestLaws.{bare_same}
 use Rattle.vast_literal.specs.NormalExpr.{unary_operator_token}
+use Rattle.std.proofs.lemmas.Bool.{not-false}
 
 -- an expression that may stand bare after a unary operator
 abbrev pub is_tight : ExprTree → Bool
@@ -53,54 +54,34 @@ opens_either false (c ∷ cs) h = rw (and_left (not (eqb c 61 || eqb c 58)) _ h)
 
 called_opens : (tight : Bool) (w : List ℕ) → is_called_name w ≡ true → opens tight w ≡ true
 called_opens tight [] h = absurd (cc h)
-called_opens tight (c ∷ cs) h = go (eqb c 36) refl h
-  where
-    go : (b : Bool) → eqb c 36 ≡ b → cond b (is_identifier cs) (is_plain_name (c ∷ cs)) ≡ true → opens tight (c ∷ cs) ≡ true
-    go true e k = rw (eqb-true c 36 e) (opens_either tight (36 ∷ cs) refl)
-    go false e k = name_opens tight (c ∷ cs) k
+called_opens tight (c ∷ cs) h = by_test (eqb c 36) (λ e. rw (eqb-true c 36 e) (opens_either tight (36 ∷ cs) refl)) (λ e. name_opens tight (c ∷ cs) (rw e at h))
 
 -- the first byte of a literal
-based_first : (c : ℕ) (cs : List ℕ) (b : Bool) → eqb c 39 ≡ b → cond b (is_based_tail cs) (is_digit c && is_based cs) ≡ true → (is_digit c || eqb c 39) ≡ true
-based_first c cs true e h = rw (eqb-true c 39 e) refl
-based_first c cs false e h = let d = and_left (is_digit c) (is_based cs) h in rw d refl
-
 filled_first : (c : ℕ) (cs : List ℕ) → is_filled (c ∷ cs) ≡ true → (is_digit c || eqb c 39) ≡ true
 filled_first c [] h = absurd (cc h)
 filled_first c (d ∷ []) h = rw (eqb-true c 39 (search halves)) refl
 filled_first c (d ∷ x ∷ v) h = absurd (cc h)
 
-bare_first : (c : ℕ) (cs : List ℕ) (n b f : Bool) → is_number (c ∷ cs) ≡ n → is_based (c ∷ cs) ≡ b → is_filled (c ∷ cs) ≡ f → (n || (b || f)) ≡ true → (is_digit c || eqb c 39) ≡ true
-bare_first c cs true b f en eb ef h = let d = and_left (is_digit c) (every is_digit cs) en in rw d refl
-bare_first c cs false true f en eb ef h = based_first c cs (eqb c 39) refl eb
-bare_first c cs false false true en eb ef h = filled_first c cs ef
-bare_first c cs false false false en eb ef h = absurd (cc h)
-
 pub literal_first : (c : ℕ) (cs : List ℕ) → is_bare_literal (c ∷ cs) ≡ true → (is_digit c || eqb c 39) ≡ true
-literal_first c cs h = bare_first c cs (is_number (c ∷ cs)) (is_based (c ∷ cs)) (is_filled (c ∷ cs)) refl refl refl h
+literal_first c cs h = by_test (is_number (c ∷ cs)) (λ n. rw (and_left (is_digit c) (every is_digit cs) n) refl)
+    (λ n. by_test (is_based (c ∷ cs))
+    (λ b. by_test (eqb c 39) (λ e. rw (eqb-true c 39 e) refl) (λ e. rw (and_left (is_digit c) (is_based cs) (rw e at b)) refl))
+    (λ b. filled_first c cs (rw (n, b) at h)))
 
-first_opens : (tight : Bool) (c : ℕ) (cs : List ℕ) (d : Bool) → is_digit c ≡ d → (d || eqb c 39) ≡ true → opens tight (c ∷ cs) ≡ true
-first_opens tight c cs true e h = opens_digit tight c cs e
-first_opens tight c cs false e h = rw (eqb-true c 39 h) (opens_either tight (39 ∷ cs) refl)
+first_opens : (tight : Bool) (c : ℕ) (cs : List ℕ) → (is_digit c || eqb c 39) ≡ true → opens tight (c ∷ cs) ≡ true
+first_opens tight c cs h = by_test (is_digit c) (λ e. opens_digit tight c cs e) (λ e. rw (eqb-true c 39 (rw e at h)) (opens_either tight (39 ∷ cs) refl))
 
 pub literal_opens : (tight : Bool) (w : List ℕ) → is_literal_text w ≡ true → (tight ≡ true → starts_with_minus w ≡ false) → opens tight w ≡ true
 literal_opens tight [] h f = absurd (cc h)
-literal_opens tight (c ∷ cs) h f = go (eqb c 45) refl h
+literal_opens tight (c ∷ cs) h f = by_test (eqb c 45) (λ e. rw (eqb-true c 45 e) (minus tight f e)) (λ e. first_opens tight c cs (literal_first c cs (rw e at h)))
   where
     minus : (t : Bool) → (t ≡ true → eqb c 45 ≡ false) → eqb c 45 ≡ true → opens t (45 ∷ cs) ≡ true
     minus true g e = let x = g refl in absurd (cc (x, e))
     minus false g e = refl
 
-    go : (b : Bool) → eqb c 45 ≡ b → cond b (is_bare_literal cs) (is_bare_literal (c ∷ cs)) ≡ true → opens tight (c ∷ cs) ≡ true
-    go true e k = let x = eqb-true c 45 e in rw x (minus tight f e)
-    go false e k = first_opens tight c cs (is_digit c) refl (literal_first c cs k)
-
 string_opens : (tight : Bool) (w : List ℕ) → is_string_text w ≡ true → opens tight w ≡ true
 string_opens tight [] h = absurd (cc h)
 string_opens tight (c ∷ cs) h = rw (eqb-true c 34 (search halves)) (opens_either tight (34 ∷ cs) refl)
-
-not_negative : (b : Bool) → not (nat_lt 13 13 || b) ≡ true → b ≡ false
-not_negative true h = absurd (cc h)
-not_negative false h = refl
 
 low : (o : BinaryOp) → not (nat_lt (binary_precedence o) 13 || false) ≡ false
 low AddOp = refl
@@ -124,19 +105,13 @@ pick_opens tight true z r s rest f g = rw (elided_text z r s) (f refl)
 pick_opens tight false z r s rest f g = g refl
 
 -- the head of a width cast: in parentheses, a number or a word
-bare_opens : (tight : Bool) (a : List ℕ) (n p : Bool) → is_number a ≡ n → is_identifier a ≡ p → (n || p) ≡ true → opens tight a ≡ true
-bare_opens tight [] n p en ep h = absurd (cc (en, ep, h))
-bare_opens tight (c ∷ cs) true p en ep h = opens_digit tight c cs (and_left (is_digit c) (every is_digit cs) en)
-bare_opens tight (c ∷ cs) false true en ep h = identifier_opens tight (c ∷ cs) ep
-bare_opens tight (c ∷ cs) false false en ep h = absurd (cc h)
-
-not_not : (b : Bool) → not b ≡ false → b ≡ true
-not_not true h = refl
-not_not false h = absurd (cc h)
+bare_opens : (tight : Bool) (a : List ℕ) → (is_number a || is_identifier a) ≡ true → opens tight a ≡ true
+bare_opens tight [] h = absurd (cc h)
+bare_opens tight (c ∷ cs) h = by_test (is_number (c ∷ cs)) (λ n. opens_digit tight c cs (and_left (is_digit c) (every is_digit cs) n)) (λ n. identifier_opens tight (c ∷ cs) (rw n at h))
 
 head_opens : (tight : Bool) (w : Printed) → opens tight (wrapped (not (is_bare w.text)) w).text ≡ true
-head_opens tight w = wrapped_opens tight (not (is_bare w.text)) w (λ h. let a = not_not (is_bare w.text) h in let b = bare_same w.text in
-    bare_opens tight w.text (is_number w.text) (is_identifier w.text) refl refl (cc (a, b)))
+head_opens tight w = wrapped_opens tight (not (is_bare w.text)) w (λ h. let a = not-false (is_bare w.text) h in let b = bare_same w.text in
+    bare_opens tight w.text (cc (a, b)))
 
 cast_opens : (tight : Bool) (h p : Printed) → opens tight h.text ≡ true → opens tight (cast_to h p).text ≡ true
 unfolding cast_to
@@ -174,7 +149,7 @@ type_opens tight MissingType p h c = absurd (cc c)
 pub opens_text : (tight : Bool) (e : ExprTree) → is_plain e ≡ true → is_well_formed e ≡ true → (tight ≡ true → is_tight e ≡ true) → opens tight (expr_text e).text ≡ true
 unfolding expr_text plain_text
 opens_text tight (NameTree n type) h w l = name_opens tight n h
-opens_text tight (LiteralTree t v) h w l = literal_opens tight t w (λ e. not_negative (starts_with_minus t) (l e))
+opens_text tight (LiteralTree t v) h w l = literal_opens tight t w (λ e. not_true (starts_with_minus t) (l e))
 opens_text tight (StringTree t) h w l = string_opens tight t w
 opens_text true (UnaryTree o e) h w l = let x = l refl in absurd (cc x)
 opens_text false (UnaryTree o e) h w l = sign_opens o _

@@ -1,5 +1,5 @@
 -- Functions have the tokens that the grammar reads.
-use Rattle.std.proofs.Common.{◌≡◌, List, [], ◌∷◌, ◌++◌, Bool, true, false, cond, refl, sym, ap, append_assoc, append-nil, codes}
+use Rattle.std.proofs.Common.{◌≡◌, List, [], ◌∷◌, ◌++◌, true, refl, sym, ap, append_assoc, append-nil, codes}
 use Rattle.vast_literal.specs.Tokens.{Token, key_text, Reserved, Mark}
 use Rattle.vast_literal.specs.declared.token.Mark.TheVariants.{Comma}
 use Rattle.vast_literal.specs.declared.token.Key.TheVariants.{Function as FunctionKey, Automatic as AutomaticKey, EndFunction as EndFunctionKey, Input as InputKey}
@@ -8,14 +8,14 @@ use Rattle.vast_literal.specs.declared.kind.VastFileType.{VastFileType as Dialec
 use Rattle.vast_literal.specs.PlainFile.{is_plain_declared, is_plain_function}
 use Rattle.vast_literal.specs.WellFormed.{is_well_formed_type}
 use Rattle.vast_literal.specs.WellFormedFile.{are_well_formed_inputs, are_well_formed_locals, is_well_formed_function}
-use Rattle.vast_literal.proofs.FileTokens.{declared_tokens, port_declaration_tokens, block_tokens, statements_tokens, separated, each_input, local_tokens, body_tokens, function_tokens}
+use Rattle.vast_literal.proofs.FileTokens.{declared_tokens, port_declaration_tokens, statements_tokens, separated, each_input, local_tokens, body_tokens, function_tokens}
 use Rattle.vast_literal.proofs.TokenReads.{Free, Reads}
 use Rattle.vast_print.proofs.FaultLaws.{halves}
 use Rattle.vast_literal.proofs.Pieces.{free_free, comma}
 use Rattle.vast_literal.proofs.Words.{key_reads}
 use Rattle.vast_literal.specs.Shape.{port_kind, result_kind, is_one_casez}
 use Rattle.vast_print.specs.Declaration.{declared_text, port_declaration_text}
-use Rattle.vast_print.specs.Statements.{statements_page, block_page}
+use Rattle.vast_print.specs.Statements.{statements_page}
 use Rattle.vast_print.specs.Members.{input_text, more_inputs_text, inputs_text, local_page, locals_page, function_body_page, function_page}
 use Rattle.vast_print.proofs.TextReads.{Prints, nothing_reads, Rest, regrouped, leftward, stands, rest_none, after, closed, enclosing, goes_on, rest_more}
 use Rattle.vast_print.proofs.DeclarationReads.{declaration_reads}
@@ -23,6 +23,7 @@ use Rattle.vast_print.proofs.StatementReads.{statements_whole, block_open}
 use Rattle.vast_print.proofs.PageReads.{Whole, page_regrouped, whole_above, whole_inner, whole_none, whole, whole_line, whole_written, space_open, semicolon, key_space}
 use Rattle.vast_print.proofs.EntryReads.{close_semicolon}
 use Rattle.vast_literal.specs.LiteralToken.{every}
+use Rattle.vast_literal.proofs.ScanLaws.{by_test}
 
 pub declared_reads : (dialect : Dialect) (d : Declaration) → is_plain_declared d ≡ true → is_well_formed_type d.type ≡ true → Prints Reads (declared_text dialect d) (declared_tokens dialect d)
 unfolding declared_tokens
@@ -72,11 +73,7 @@ locals_whole dialect (d ∷ ds) p w = whole_above
 
 body_whole : (b : Statements) → Whole (statements_page b) (statements_tokens b) → Whole (function_body_page b) (body_tokens b)
 unfolding function_body_page body_tokens
-body_whole b h = go (is_one_casez b)
-  where
-    go : (c : Bool) → Whole (cond c (statements_page b) (block_page b)) (cond c (statements_tokens b) (block_tokens (statements_tokens b)))
-    go true = h
-    go false = whole (block_open b h)
+body_whole b h = by_test (is_one_casez b) (λ e. rw e h) (λ e. rw e (whole (block_open b h)))
 
 -- functions
 

@@ -4,6 +4,7 @@ pub mod NumberLaws
 pub mod TextLaws
 pub mod DeclarationLaws
 pub mod StatementLaws
+pub mod Left
 pub mod ListLaws
 pub mod SeparatedLaws
 pub mod PieceLaws

@@ -8,6 +8,8 @@ use Rattle.vast_print.specs.Printed.{first_fault}
 use Rattle.vast_print.specs.Page.{Line, print_lines, indent, one_line, inner_lines, lead_lines, beside_lines, written_lines, note, commented_lines}
 use Rattle.vast_print.specs.Draft.{Draft, whole}
 use Rattle.vast_print.specs.Output.{Output, Unstopped, Stopped, margin, word, next, stop, indented_lines, inline_lines}
+use Rattle.std.proofs.lemmas.Bool.{cond_both}
+use Rattle.vast_literal.proofs.ScanLaws.{by_test}
 
 pub word-word : (k : Output) (a b : List ℕ) → word (word k a) b ≡ word k (a ++ b)
 unfolding word
@@ -123,11 +125,7 @@ Flush-beside w (m ∷ p) = flush (w ++ m.bytes) p
 pub Flush-written : (w : List ℕ) → Flush (written_lines w)
 unfolding written_lines
 Flush-written [] = flush [] []
-Flush-written (c ∷ w) = go (eqb c 10)
-  where
-    go : (b : Bool) → Flush (cond b (one_line [] ++ written_lines w) (beside_lines (one_line (c ∷ [])) (written_lines w)))
-    go true = flush [] (written_lines w)
-    go false = Flush-beside (c ∷ []) (written_lines w)
+Flush-written (c ∷ w) = cond_both (eqb c 10) _ _ Flush (λ _. flush [] (written_lines w)) (λ _. Flush-beside (c ∷ []) (written_lines w))
 
 pub indented-flush : (d : ℕ) (k : Output) (p : List Line) → Flush p → indented_lines d k p ≡ inline_lines d (next d k) p
 unfolding indented_lines inline_lines
@@ -159,14 +157,8 @@ beside-empty _ (flush w p) = refl
 pub written-append : (a b : List ℕ) → written_lines (a ++ b) ≡ beside_lines (written_lines a) (written_lines b)
 unfolding written_lines
 written-append [] b = beside-empty (written_lines b) (Flush-written b)
-written-append (c ∷ w) b = rw (written-append w b) (go (eqb c 10))
-  where
-    go :
-        (t : Bool) →
-        cond t (one_line [] ++ beside_lines (written_lines w) (written_lines b)) (beside_lines (one_line (c ∷ [])) (beside_lines (written_lines w) (written_lines b)))
-        ≡ beside_lines (cond t (one_line [] ++ written_lines w) (beside_lines (one_line (c ∷ [])) (written_lines w))) (written_lines b)
-    go true = sym (beside-break (written_lines w) (written_lines b) (Flush-written w))
-    go false = sym (beside-cons c (written_lines w) (written_lines b) (Flush-written w))
+written-append (c ∷ w) b = rw (written-append w b) (by_test (eqb c 10) (λ e. rw e (sym (beside-break (written_lines w) (written_lines b) (Flush-written w))))
+    (λ e. rw e (sym (beside-cons c (written_lines w) (written_lines b) (Flush-written w)))))
 
 -- no line break stands in the text
 pub record Unbroken (w : List ℕ) : Type 0 where
@@ -267,19 +259,12 @@ no-margin t false = refl
 pub inline-flat : (t : List ℕ) (f : Bool) (w : List ℕ) → (g : Bool) × (inline_lines 0 (Unstopped (flat t f)) (written_lines w) ≡ Unstopped (flat (t ++ w) g))
 unfolding inline_lines written_lines indented_lines word next
 inline-flat t f [] = (f, ap (λ x. Unstopped (flat x f)) (sym (append-nil t)))
-inline-flat t f (c ∷ w) = go (eqb c 10) refl (λ s h. inline-flat s h w)
-  where
-    go :
-        (b : Bool) → eqb c 10 ≡ b →
-        ((s : List ℕ) (h : Bool) → (g : Bool) × (inline_lines 0 (Unstopped (flat s h)) (written_lines w) ≡ Unstopped (flat (s ++ w) g))) →
-        (g : Bool) × (inline_lines 0 (Unstopped (flat t f)) (cond b (one_line [] ++ written_lines w) (beside_lines (one_line (c ∷ [])) (written_lines w))) ≡ Unstopped (flat (t ++ (c ∷ w)) g))
-    go true e ih =
-        let h = ih (t ++ (10 ∷ [])) true in
-        let c10 : 10 ≡ c = sym (eqb-true c 10 e) in
-        let s : (t ++ (10 ∷ [])) ++ w ≡ t ++ (c ∷ w) = append_assoc t (10 ∷ []) w ∙ ap (λ x. t ++ (x ∷ w)) c10 in
-        (h.0, indented-flush 0 (Unstopped (flat t f)) (written_lines w) (Flush-written w) ∙ (h.1 ∙ ap (λ x. Unstopped (flat x h.0)) s))
-    go false e ih =
-        let h = ih (t ++ (c ∷ [])) false in
-        let s : (t ++ (c ∷ [])) ++ w ≡ t ++ (c ∷ w) = append_assoc t (c ∷ []) w in
-        let m : word (Unstopped (flat t f)) (c ∷ []) ≡ Unstopped (flat (t ++ (c ∷ [])) false) = ap (λ x. Unstopped (flat (t ++ (x ++ (c ∷ []))) false)) (no-margin t f) in
-        (h.0, inline-lines-beside 0 (Unstopped (flat t f)) (one_line (c ∷ [])) (written_lines w) ∙ (ap (λ x. inline_lines 0 x (written_lines w)) m ∙ (h.1 ∙ ap (λ x. Unstopped (flat x h.0)) s)))
+inline-flat t f (c ∷ w) = by_test (eqb c 10)
+    (λ e. let h = inline-flat (t ++ (10 ∷ [])) true w in
+    let c10 : 10 ≡ c = sym (eqb-true c 10 e) in
+    let s : (t ++ (10 ∷ [])) ++ w ≡ t ++ (c ∷ w) = append_assoc t (10 ∷ []) w ∙ ap (λ x. t ++ (x ∷ w)) c10 in
+    rw e (h.0, indented-flush 0 (Unstopped (flat t f)) (written_lines w) (Flush-written w) ∙ (h.1 ∙ ap (λ x. Unstopped (flat x h.0)) s)))
+    (λ e. let h = inline-flat (t ++ (c ∷ [])) false w in
+    let s : (t ++ (c ∷ [])) ++ w ≡ t ++ (c ∷ w) = append_assoc t (c ∷ []) w in
+    let m : word (Unstopped (flat t f)) (c ∷ []) ≡ Unstopped (flat (t ++ (c ∷ [])) false) = ap (λ x. Unstopped (flat (t ++ (x ++ (c ∷ []))) false)) (no-margin t f) in
+    rw e (h.0, inline-lines-beside 0 (Unstopped (flat t f)) (one_line (c ∷ [])) (written_lines w) ∙ (ap (λ x. inline_lines 0 x (written_lines w)) m ∙ (h.1 ∙ ap (λ x. Unstopped (flat x h.0)) s))))

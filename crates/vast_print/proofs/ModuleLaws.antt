@@ -1,15 +1,12 @@
 -- Laws of writing files and modules.
-use Rattle.std.proofs.Common.{◌≡◌, ◌<◌, ◌≤◌, ℕ, zero, suc, ◌+◌, ltb, List, [], ◌∷◌, length, get_or, map, drop, refl, ◌∙◌, ap, codes, arith, add-one}
-use Rattle.std.proofs.lemmas.List.{drop_all}
+use Rattle.std.proofs.Common.{◌≡◌, ◌<◌, ℕ, ◌+◌, List, [], ◌∷◌, length, map, refl, ◌∙◌, codes, arith}
 use Rattle.vast_literal.specs.Tree.{Members, NoMembers, MoreMembers, MemberTree, PortTree, ParameterPortTree, ModuleTree, FileItemTree, IncludeItem, CommentItem, BlankItem}
 use Rattle.vast_literal.specs.declared.kind.VastFileType.{VastFileType as Dialect}
 use Rattle.vast_print.specs.Printed.{plain_text}
 use Rattle.vast_print.specs.Page.{written, commented}
 use Rattle.vast_print.specs.Output.{Output, word, next, indented, inline}
-use Rattle.vast_print.specs.Internal.Words.{comma}
-use Rattle.vast_print.specs.Members.{members_page}
+use Rattle.vast_print.specs.Members.{members_page, entries_page}
 use Rattle.vast_print.specs.Layout.{port_text, parameter_port_text, ports_page, parameter_ports_page, opening_page, header_page, body_page, module_page, item_page, items_page}
-use Rattle.vast_print.proofs.ListLaws.{entries-end, entries-step}
 use Rattle.vast_print.proofs.OutputLaws.{inline-word, indented-line, indented-none, indented-blank, indented-above, indented-inner, indented-written, inline-then}
 
 -- items of a file and members, one below the other
@@ -21,16 +18,6 @@ indented-items d k dialect i items = indented-above d k (item_page dialect i) (i
 pub indented-items-none : (d : ℕ) (k : Output) (dialect : Dialect) → indented d k (items_page dialect []) ≡ k
 unfolding items_page
 indented-items-none d k dialect = indented-none d k
-
-pub items-end : {A : Type 0} (dialect : Dialect) (v : A → FileItemTree) (d : ℕ) (k : Output) (xs : List A) (i : ℕ) → length xs ≤ i → indented d k (items_page dialect (map v (drop i xs))) ≡ k
-items-end dialect v d k xs i h = ap (λ x. indented d k (items_page dialect (map v x))) (drop_all i xs h) ∙ indented-items-none d k dialect
-
-pub items-step :
-    {A : Type 0} (dialect : Dialect) (v : A → FileItemTree) (d : ℕ) (k : Output) (xs : List A) (i : ℕ) (x : A) → i < length xs → x ≡ get_or xs i x →
-    indented d k (items_page dialect (map v (drop i xs))) ≡ indented d (indented d k (item_page dialect (v x))) (items_page dialect (map v (drop (i + 1) xs)))
-items-step dialect v d k [] i x h e = absurd (omega arith)
-items-step dialect v d k (y ∷ xs) zero x h e = rw e (indented-items d k dialect (v y) (map v xs))
-items-step dialect v d k (y ∷ xs) (suc i) x h e = rw add-one (rw add-one at (items-step dialect v d k xs i x (omega arith) e))
 
 pub indented-include : (d : ℕ) (k : Output) (dialect : Dialect) (path : List ℕ) →
     indented d k (item_page dialect (IncludeItem path)) ≡ word (inline d (word (next d k) (codes "`include \"")) (written (plain_text path))) (codes "\"")
@@ -93,24 +80,10 @@ indented-header-both d k dialect name [] qs h i = absurd (omega arith)
 indented-header-both d k dialect name (p ∷ ps) [] h i = absurd (omega arith)
 indented-header-both d k dialect name (p ∷ ps) (q ∷ qs) h i = simp (indented-above, indented-opening, indented-line, inline-word)
 
-pub ports-end : {A : Type 0} (dialect : Dialect) (v : A → PortTree) (d : ℕ) (k : Output) (xs : List A) (i : ℕ) → length xs ≤ i → indented d k (ports_page dialect (map v (drop i xs))) ≡ k
+pub ports-are-entries : (dialect : Dialect) (ps : List PortTree) → ports_page dialect ps ≡ entries_page (map (port_text dialect) ps)
 unfolding ports_page
-ports-end dialect v d k xs i h = entries-end (port_text dialect) v d k xs i h
+ports-are-entries dialect ps = refl
 
-pub ports-step :
-    {A : Type 0} (dialect : Dialect) (v : A → PortTree) (d : ℕ) (k : Output) (xs : List A) (i : ℕ) (x : A) → i < length xs → x ≡ get_or xs i x →
-    indented d k (ports_page dialect (map v (drop i xs)))
-    ≡ indented d (word (inline d (next (d + 1) k) (written (port_text dialect (v x)))) (comma (ltb (i + 1) (length xs)))) (ports_page dialect (map v (drop (i + 1) xs)))
-unfolding ports_page
-ports-step dialect v d k xs i x h e = entries-step (port_text dialect) v d k xs i x h e
-
-pub parameters-end : {A : Type 0} (dialect : Dialect) (v : A → ParameterPortTree) (d : ℕ) (k : Output) (xs : List A) (i : ℕ) → length xs ≤ i → indented d k (parameter_ports_page dialect (map v (drop i xs))) ≡ k
+pub parameters-are-entries : (dialect : Dialect) (ps : List ParameterPortTree) → parameter_ports_page dialect ps ≡ entries_page (map (parameter_port_text dialect) ps)
 unfolding parameter_ports_page
-parameters-end dialect v d k xs i h = entries-end (parameter_port_text dialect) v d k xs i h
-
-pub parameters-step :
-    {A : Type 0} (dialect : Dialect) (v : A → ParameterPortTree) (d : ℕ) (k : Output) (xs : List A) (i : ℕ) (x : A) → i < length xs → x ≡ get_or xs i x →
-    indented d k (parameter_ports_page dialect (map v (drop i xs)))
-    ≡ indented d (word (inline d (next (d + 1) k) (written (parameter_port_text dialect (v x)))) (comma (ltb (i + 1) (length xs)))) (parameter_ports_page dialect (map v (drop (i + 1) xs)))
-unfolding parameter_ports_page
-parameters-step dialect v d k xs i x h e = entries-step (parameter_port_text dialect) v d k xs i x h e
+parameters-are-entries dialect ps = refl

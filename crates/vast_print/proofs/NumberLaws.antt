@@ -1,37 +1,29 @@
 -- A written number has no line break, and one of two digits is written digit by digit.
-use Rattle.std.proofs.Common.{◌≡◌, ℕ, zero, suc, ◌+◌, ◌/◌, ◌%◌, ◌<◌, ◌≤◌, ℤ, pos, negsuc, Bool, true, false, eqb, cond, sym, append_assoc, append-nil, List, [], ◌∷◌, ◌++◌, refl, ◌∙◌, ap, arith}
-use Rattle.std.specs.Prelude.{nat_lt, ◌==◌, if◌then◌else◌}
-use Rattle.std.specs.Fmt.{digits, digits_onto, digit_glyph, decimal, signed_decimal}
+use Rattle.std.proofs.Common.{◌≡◌, ℕ, suc, ◌+◌, ◌/◌, ◌%◌, ◌<◌, ◌≤◌, ℤ, pos, negsuc, true, false, eqb, sym, append_assoc, append-nil, List, [], ◌∷◌, ◌++◌, refl, ◌∙◌, ap, arith}
+use Rattle.std.specs.Fmt.{decimal, signed_decimal}
 use Rattle.std.proofs.lemmas.Fmt.{decimal_digit, decimal_step}
 use Rattle.vast_print.specs.Printed.{plain_text}
 use Rattle.vast_print.specs.Page.{written}
 use Rattle.vast_print.specs.Draft.{Draft}
 use Rattle.vast_print.specs.Output.{Output, Unstopped, word, inline, append_word, margin}
 use Rattle.vast_print.specs.Internal.Words.{has_text}
-use Rattle.vast_print.proofs.Lines.{unbroken, eqb-false}
+use Rattle.vast_print.proofs.Lines.{unbroken}
 use Rattle.vast_print.proofs.OutputLaws.{inline-word}
+use Rattle.vast_literal.proofs.NumberLaws.{decimal_number, every_number}
+use Rattle.vast_literal.proofs.ScanLaws.{and_left, and_right}
+use Rattle.vast_literal.specs.LiteralToken.{every, is_number}
+use Rattle.vast_literal.specs.Scan.{is_digit}
+use Rattle.std.proofs.lemmas.Bool.Decides.{nat_tests}
 
-glyph-unbroken : (m : ℕ) (acc : List ℕ) → unbroken acc ≡ true → unbroken (digit_glyph false m ∷ acc) ≡ true
-glyph-unbroken m acc h = go (nat_lt m 10)
+digits-unbroken : (w : List ℕ) → every is_digit w ≡ true → unbroken w ≡ true
+digits-unbroken [] h = refl
+digits-unbroken (c ∷ w) h = rw (no-break c (and_left (is_digit c) (every is_digit w) h)) (digits-unbroken w (and_right (is_digit c) (every is_digit w) h))
   where
-    go : (b : Bool) → cond (eqb (if b then 48 + m else 87 + m) 10) false (unbroken acc) ≡ true
-    go true = rw (eqb-false (48 + m) (λ e. omega arith)) h
-    go false = rw (eqb-false (87 + m) (λ e. omega arith)) h
-
-digits-unbroken : (k n : ℕ) (acc : List ℕ) → unbroken acc ≡ true → unbroken (digits_onto k 10 false n acc) ≡ true
-digits-unbroken zero n acc h = h
-digits-unbroken (suc k) n acc h =
-    go (n / 10 == 0) (glyph-unbroken (n % 10) acc h) (digits-unbroken k (n / 10) (digit_glyph false (n % 10) ∷ acc) (glyph-unbroken (n % 10) acc h))
-  where
-    go :
-        (b : Bool) → unbroken (digit_glyph false (n % 10) ∷ acc) ≡ true → unbroken (digits_onto k 10 false (n / 10) (digit_glyph false (n % 10) ∷ acc)) ≡ true →
-        unbroken (if b then digit_glyph false (n % 10) ∷ acc else digits_onto k 10 false (n / 10) (digit_glyph false (n % 10) ∷ acc)) ≡ true
-    go true a b = a
-    go false a b = b
+    no-break : (c : ℕ) → is_digit c ≡ true → eqb c 10 ≡ false
+    no-break c h = grind (arith, nat_tests)
 
 decimal-unbroken : (n : ℕ) → unbroken (decimal n) ≡ true
-unfolding digits
-decimal-unbroken n = digits-unbroken 64 n [] refl
+decimal-unbroken n = digits-unbroken (decimal n) (every_number (decimal n) (decimal_number n))
 
 signed-unbroken : (z : ℤ) → unbroken (signed_decimal z) ≡ true
 signed-unbroken (pos n) = decimal-unbroken n
@@ -39,25 +31,12 @@ signed-unbroken (negsuc n) = decimal-unbroken (suc n)
 
 -- a number is written with at least one digit
 
-digits-some : (k n c : ℕ) (acc : List ℕ) → has_text (digits_onto k 10 false n (c ∷ acc)) ≡ true
-digits-some zero n c acc = refl
-digits-some (suc k) n c acc = go (n / 10 == 0) (digits-some k (n / 10) (digit_glyph false (n % 10)) (c ∷ acc))
-  where
-    go :
-        (b : Bool) → has_text (digits_onto k 10 false (n / 10) (digit_glyph false (n % 10) ∷ c ∷ acc)) ≡ true →
-        has_text (if b then digit_glyph false (n % 10) ∷ c ∷ acc else digits_onto k 10 false (n / 10) (digit_glyph false (n % 10) ∷ c ∷ acc)) ≡ true
-    go true h = refl
-    go false h = h
+number-some : (w : List ℕ) → is_number w ≡ true → has_text w ≡ true
+number-some [] h = cc
+number-some (c ∷ w) h = refl
 
 decimal-some : (n : ℕ) → has_text (decimal n) ≡ true
-unfolding digits
-decimal-some n = go (n / 10 == 0) (digits-some 63 (n / 10) (digit_glyph false (n % 10)) [])
-  where
-    go :
-        (b : Bool) → has_text (digits_onto 63 10 false (n / 10) (digit_glyph false (n % 10) ∷ [])) ≡ true →
-        has_text (if b then digit_glyph false (n % 10) ∷ [] else digits_onto 63 10 false (n / 10) (digit_glyph false (n % 10) ∷ [])) ≡ true
-    go true h = refl
-    go false h = h
+decimal-some n = number-some (decimal n) (decimal_number n)
 
 signed-some : (z : ℤ) → has_text (signed_decimal z) ≡ true
 signed-some (pos n) = decimal-some n

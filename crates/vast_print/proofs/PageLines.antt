@@ -1,14 +1,15 @@
 -- Laws of pages: what is printed, and its tokens.
-use Rattle.std.proofs.Common.{◌≡◌, ℕ, zero, suc, ◌*◌, List, [], ◌∷◌, ◌++◌, Bool, true, false, not, eqb, eqb-true, cond, Some, replicate, refl, sym, ◌∙◌, ap, append_assoc, append-nil}
+use Rattle.std.proofs.Common.{◌≡◌, ℕ, zero, suc, ◌*◌, List, [], ◌∷◌, ◌++◌, Bool, true, false, not, eqb, eqb-true, Some, replicate, refl, sym, ◌∙◌, ap, append_assoc, append-nil}
 use Rattle.vast_literal.specs.Tokens.{Token, Mark, Operator}
 use Rattle.vast_literal.specs.declared.token.Sign.TheVariants.{Plus}
 use Rattle.vast_literal.specs.declared.token.Mark.TheVariants.{Colon}
 use Rattle.vast_literal.specs.Scan.{State, scan, tokens, join_tokens, step, Gap, InSystemWord, InMacroWord, Pending, InComment}
 use Rattle.vast_literal.specs.LiteralToken.{every}
 use Rattle.vast_literal.proofs.TokenReads.{Free, Divides, Reads}
-use Rattle.vast_literal.proofs.ScanLaws.{not_true, and_left, and_right}
+use Rattle.vast_literal.proofs.ScanLaws.{not_true, and_left, and_right, by_test}
 use Rattle.vast_literal.proofs.Pieces.{add_tokens-nil, free_reads, free_free, reads_end, reads_sep}
 use Rattle.vast_print.specs.Page.{Line, indent, print_lines, one_line, inner_lines, beside_lines, written_lines, lead_lines}
+use Rattle.std.proofs.lemmas.Bool.{cond_both}
 
 -- the lines without their depths
 unfoldable pub flat : List Line → List ℕ
@@ -70,15 +71,9 @@ spaces_scan (suc n) rest = spaces_scan n rest
 -- after a one_line break nothing is pending
 break_gap : (s : State) → (step s 10).state ≡ Gap
 break_gap (InSystemWord []) = refl
-break_gap (InSystemWord (c ∷ w)) = refl
 break_gap (InMacroWord []) = refl
-break_gap (InMacroWord (c ∷ w)) = refl
 break_gap (Pending (Mark Colon)) = refl
-break_gap (Pending (Mark _)) = refl
 break_gap (Pending (Operator Plus)) = refl
-break_gap (Pending (Operator _)) = refl
-break_gap (Pending _) = refl
-break_gap Gap = refl
 break_gap _ = refl
 
 -- a text and a one_line break, then more: what follows the break is scanned afresh
@@ -166,11 +161,7 @@ comment_lines w h = record { at = record { at = λ rest. rw append_assoc (commen
 pub filled-written : (w : List ℕ) → filled (written_lines w) ≡ true
 unfolding written_lines
 filled-written [] = refl
-filled-written (c ∷ w) = go (eqb c 10)
-  where
-    go : (b : Bool) → filled (cond b (one_line [] ++ written_lines w) (beside_lines (one_line (c ∷ [])) (written_lines w))) ≡ true
-    go true = refl
-    go false = filled-beside (one_line (c ∷ [])) (written_lines w) refl
+filled-written (c ∷ w) = cond_both (eqb c 10) _ _ (λ p. filled p ≡ true) (λ _. refl) (λ _. filled-beside (one_line (c ∷ [])) (written_lines w) refl)
 
 body-break : (p : List Line) → filled p ≡ true → body (one_line [] ++ p) ≡ 10 ∷ body p
 unfolding body
@@ -180,11 +171,9 @@ body-break (l ∷ p) h = refl
 pub body-written : (w : List ℕ) → body (written_lines w) ≡ w
 unfolding written_lines body
 body-written [] = refl
-body-written (c ∷ w) = go (eqb c 10) refl (body-written w)
-  where
-    go : (b : Bool) → eqb c 10 ≡ b → body (written_lines w) ≡ w → body (cond b (one_line [] ++ written_lines w) (beside_lines (one_line (c ∷ [])) (written_lines w))) ≡ c ∷ w
-    go true e h = rw (eqb-true c 10 e) (body-break (written_lines w) (filled-written w) ∙ ap (λ x. 10 ∷ x) h)
-    go false e h = body-beside (one_line (c ∷ [])) (written_lines w) ∙ ap (λ x. c ∷ x) h
+body-written (c ∷ w) = by_test (eqb c 10)
+    (λ e. rw (e, eqb-true c 10 e) (body-break (written_lines w) (filled-written w) ∙ ap (λ x. 10 ∷ x) (body-written w)))
+    (λ e. rw e (body-beside (one_line (c ∷ [])) (written_lines w) ∙ ap (λ x. c ∷ x) (body-written w)))
 
 pub written_is_indented : {w : List ℕ} {ts : List Token} → Reads w ts → Hangs (written_lines w) ts
 written_is_indented {w} f = record { some = filled-written w; at = rw (body-written w) f }

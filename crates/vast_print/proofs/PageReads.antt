@@ -1,5 +1,5 @@
 -- Pages and their words, over what their parts bring.
-use Rattle.std.proofs.Common.{◌≡◌, ℕ, List, [], ◌∷◌, ◌++◌, Bool, true, false, cond, eqb, None, refl, sym, subst, not, append_assoc, codes}
+use Rattle.std.proofs.Common.{◌≡◌, ℕ, List, [], ◌∷◌, ◌++◌, true, false, eqb, None, refl, sym, subst, not, append_assoc, codes}
 use Rattle.vast_literal.specs.Tokens.{Token, key_text, Reserved, Mark}
 use Rattle.vast_literal.specs.declared.token.Mark.TheVariants.{OpenParen, CloseParen, Semicolon, Assign, Colon}
 use Rattle.vast_literal.specs.declared.token.Key.{Key}
@@ -16,6 +16,7 @@ use Rattle.vast_print.specs.Statements.{begin_end}
 use Rattle.vast_print.proofs.FaultLaws.{first_none}
 use Rattle.vast_print.proofs.TextReads.{Prints, nothing_reads}
 use Rattle.vast_print.proofs.PageLines.{flat, body, Lines, Hangs, Behind, above_lines, inner_whole, lead_whole, no_lines_free, lines_are_indented, line_is_indented, written_is_indented, above_is_indented, behind_none, free_is_indented, behind_divides, behind_is_indented, filled-written, body-written, comment_lines}
+use Rattle.std.proofs.lemmas.Bool.{cond_both}
 
 -- Unless it is refused, the page brings the tokens so.
 pub record Lays (Brings : List Line → List Token → Type 0) (p : Page) (ts : List Token) : Type 0 where
@@ -118,11 +119,7 @@ glued c (l ∷ p) e (more_lines h u) = more_lines (rw e h) u
 unbroken : (w : List ℕ) → Unbroken (written_lines w)
 unfolding written_lines
 unbroken [] = more_lines refl no_line
-unbroken (c ∷ w) = go (eqb c 10) refl (unbroken w)
-  where
-    go : (b : Bool) → eqb c 10 ≡ b → Unbroken (written_lines w) → Unbroken (cond b (one_line [] ++ written_lines w) (beside_lines (one_line (c ∷ [])) (written_lines w)))
-    go true e u = more_lines refl u
-    go false e u = glued c (written_lines w) e u
+unbroken (c ∷ w) = cond_both (eqb c 10) _ _ Unbroken (λ _. more_lines refl (unbroken w)) (λ e. glued c (written_lines w) e (unbroken w))
 
 note_lines : (d : ℕ) (w : List ℕ) → every (λ c. not (eqb c 10)) w ≡ true → Lines (record { depth = d; bytes = note w } ∷ []) []
 unfolding flat

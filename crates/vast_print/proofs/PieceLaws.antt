@@ -3,9 +3,8 @@ use Rattle.std.proofs.Common.{◌≡◌, ◌<◌, ◌≤◌, ℕ, zero, suc, ◌
 use Rattle.std.specs.Prelude.{◌&&◌}
 use Rattle.std.specs.Fmt.{signed_decimal}
 use Rattle.std.proofs.lemmas.List.{drop_all}
-use Rattle.vast_literal.specs.Tree.{ExprTree, BinaryTree, SliceTree, PartSelectTree, TypeTree, ExternalTree, PackedTree, UnpackedTree}
-use Rattle.vast_literal.specs.declared.operator.BinaryOperator.{BinaryOperator as BinaryOp}
-use Rattle.vast_literal.specs.Shape.{is_scalar_name, is_zero, left_child_wraps, right_child_wraps, select_wraps}
+use Rattle.vast_literal.specs.Tree.{ExprTree, SliceTree, PartSelectTree, TypeTree, ExternalTree, PackedTree, UnpackedTree}
+use Rattle.vast_literal.specs.Shape.{is_scalar_name, is_zero, select_wraps}
 use Rattle.vast_core.specs.declared.handle.Expr.{Expr}
 use Rattle.vast_core.specs.Bench.{Bench, tree_of, trees_of}
 use Rattle.vast_print.specs.declared.pieces.Piece.{Piece}
@@ -13,12 +12,11 @@ use Rattle.vast_print.specs.declared.refusal.Refusal.{Refusal}
 use Rattle.vast_print.specs.Printed.{Printed, first_fault, plain_text, ◌⊕◌, wrapped}
 use Rattle.vast_print.specs.Page.{written}
 use Rattle.vast_print.specs.Output.{Output, word, inline}
-use Rattle.vast_print.specs.Levels.{binary_operator_text}
 use Rattle.vast_print.specs.Text.{expr_text, list_text, more_text, type_cast}
 use Rattle.vast_print.specs.Internal.Words.{separator, scalar_cast_closing, number_cast_closing}
 use Rattle.vast_print.specs.Internal.Pieces.{piece_text, piece_weight, PieceOwned, pieces_text, pieces_weight, PiecesOwned, exprs_weight, expr_weight}
-use Rattle.vast_print.proofs.OutputLaws.{inline-then, inline-empty, inline-word, inline-stopped}
-use Rattle.vast_print.proofs.TextLaws.{inline-wrapped, inline-bare, inline-name, inline-literal, inline-string, inline-unary, inline-ternary, inline-index, inline-scalar-index, inline-scalar-slice, inline-refused-index, inline-refused-slice, inline-concat, inline-parts, inline-replicated, inline-pattern-list, inline-macro, inline-no-arguments, inline-arguments, inline-call, inline-rising, inline-falling, inline-type-cast, inline-width-cast, inline-scalar-cast, inline-vector-cast, inline-integer-cast, inline-int-cast, inline-external-cast, inline-package-cast}
+use Rattle.vast_print.proofs.OutputLaws.{inline-then, inline-empty, inline-word, inline-refused, inline-stopped}
+use Rattle.vast_print.proofs.TextLaws.{inline-wrapped, inline-bare, inline-name, inline-unary-sign, inline-scalar-slice, inline-refused-slice, inline-type-cast, inline-width-cast, inline-scalar-cast, inline-vector-cast, inline-integer-cast, inline-int-cast, inline-external-cast, inline-package-cast}
 use Rattle.vast_print.proofs.NumberLaws.{inline-number}
 use Rattle.vast_print.proofs.SeparatedLaws.{rest_text}
 use Rattle.vast_print.proofs.Lines.{word-stopped}
@@ -85,12 +83,6 @@ no-pieces-owned b = tt
 pub ruleset pushes = (text-push, weight-push, owned-push, owned-pop, no-pieces-text, no-pieces-weight, no-pieces-owned)
 
 -- operators, and words that are put on the list
-
-pub inline-operands : (d : ℕ) (k : Output) (o : BinaryOp) (l r : ExprTree) →
-    inline d k (written (expr_text (BinaryTree o l r)))
-    ≡ inline d (inline d (inline d k (written (wrapped (left_child_wraps o l) (expr_text l)))) (written (plain_text (binary_operator_text o)))) (written (wrapped (right_child_wraps o r) (expr_text r)))
-unfolding expr_text
-inline-operands d k o l r = simp inline-then
 
 pub inline-double-close : (d : ℕ) (k : Output) → inline d k (written (plain_text (codes "))"))) ≡ word k (codes "))")
 inline-double-close d k = inline-word d k (codes "))") refl
@@ -166,21 +158,19 @@ bare-part p = refl
 
 pub ruleset list_parts = (list-none, weight-none, then-empty, bare-part)
 
-pub ruleset begins = (inline-then, inline-bare, inline-unary, inline-operands, inline-ternary, inline-word, inline-rising, inline-falling)
+pub ruleset begins = (inline-then, inline-bare, inline-unary-sign, inline-word)
 
-pub ruleset indexes = (inline-then, inline-bare, inline-index, inline-scalar-index, inline-refused-index, inline-word)
+pub ruleset indexes = (inline-then, inline-bare, inline-refused, inline-word)
 
 pub ruleset slices = (slice-then, scalar-slice-then, inline-refused-slice)
 
 pub ruleset part_selects = (part-select-then)
 
-pub ruleset lists = (inline-then, inline-bare, inline-concat, inline-parts, inline-replicated, inline-pattern-list, inline-macro, inline-no-arguments, inline-arguments, inline-call, inline-word)
+pub ruleset lists = (inline-then, inline-bare, inline-word, inline-empty)
 
 pub ruleset cast_parts = (inline-then, inline-bare, inline-type-cast, inline-width-cast, inline-scalar-cast, inline-vector-cast, inline-integer-cast, inline-int-cast, inline-external-cast, inline-package-cast, inline-word, inline-double-close, inline-scalar-closing, inline-number-closing)
 
 pub ruleset begun_casts = (cast_parts, inline-packed-cast, inline-unpacked-cast)
-
-pub ruleset leaves = (inline-name, inline-literal, inline-string)
 
 pub ruleset parts = (inline-then, inline-wrapped, inline-bare, inline-word, word-stopped)
 

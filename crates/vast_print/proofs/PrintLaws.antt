@@ -12,7 +12,8 @@ use Rattle.vast_print.proofs.OutputLaws.{inline-word, inline-then, inline-empty,
 use Rattle.vast_print.proofs.Lines.{word-word, word-stopped}
 use Rattle.vast_print.proofs.NumberLaws.{inline-number}
 use Rattle.vast_print.proofs.DeclarationLaws.{inline-with-dimensions, spaced-then, spaced-package, package_then, inline-signed-word, inline-unsigned-word, inline-spaced, inline-spaced-none, inline-highest-value, inline-highest-index}
-use Rattle.vast_print.proofs.TypeLaws.{no-packed, packed-append, no-unpacked, unpacked-append, inline-append, inline-verilog-range, inline-system-range}
+use Rattle.vast_print.proofs.TypeLaws.{no-packed, packed-append, no-unpacked, unpacked-append, inline-append, inline-verilog-range, inline-system-range, inline-packed, inline-unpacked}
+use Rattle.vast_print.proofs.Left.{left}
 
 -- packed dimensions are there or not
 
@@ -87,7 +88,7 @@ pub ruleset packed = (no-packed, packed-append, has-packed-some, has-packed-none
 
 pub ruleset unpacked = (no-unpacked, unpacked-append, inline-append, inline-empty, inline-stopped)
 
-pub ruleset ranges = (word-stopped, inline-stopped)
+pub ruleset ranges = (no-packed, inline-packed, no-unpacked, inline-unpacked, inline-empty, left, word-stopped, inline-stopped)
 
 pub ruleset range_parts = (inline-verilog-range, inline-system-range, word-stopped)
 

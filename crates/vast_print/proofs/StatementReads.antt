@@ -25,6 +25,7 @@ use Rattle.vast_print.specs.Statements.{assign_text, case_word, unique_word, lab
 use Rattle.vast_print.proofs.ExprReads.{expr_reads}
 use Rattle.vast_print.proofs.TextReads.{Prints, printed_assoc, leftward, stands, nothing, after, after_free, ended_by, closed, enclosing}
 use Rattle.vast_print.proofs.PageReads.{Whole, Open, Follows, page_regrouped, whole_above, whole_inner, whole_none, whole, whole_line, open_written, whole_written, open_free, open_follows, follows_none, follows_written, follows_line, whole_blank, whole_comment, equals, semicolon, close_space, label_colon, key_space, key_open, else_divides, else_if_divides, condition_divides, open_empty, open_block}
+use Rattle.vast_literal.proofs.ScanLaws.{by_test}
 
 less_equal : Divides (32 ∷ 60 ∷ 61 ∷ 32 ∷ []) (Operator LessEqual ∷ [])
 less_equal = operator_divides LessEqual
@@ -91,11 +92,7 @@ is_bare CaseX b h = absurd (cc h)
 
 arm_body_open : (word : CaseWord) (b : Statements) → are_plain_statements b ≡ true → are_well_formed_statements b ≡ true → Whole (statements_page b) (statements_tokens b) →
     Open (cond (is_bare_arm word b) (statements_page b) (block_page b)) (cond (is_bare_arm word b) (statements_tokens b) (block_tokens (statements_tokens b)))
-arm_body_open word b p w h = go (is_bare_arm word b) refl
-  where
-    go : (c : Bool) → is_bare_arm word b ≡ c → Open (cond c (statements_page b) (block_page b)) (cond c (statements_tokens b) (block_tokens (statements_tokens b)))
-    go true e = single_open b (is_bare word b e) p w
-    go false e = block_open b h
+arm_body_open word b p w h = by_test (is_bare_arm word b) (λ e. rw e (single_open b (is_bare word b e) p w)) (λ e. rw e (block_open b h))
 
 mutual
   unfolding statement_page statement_tokens open_arms key_text

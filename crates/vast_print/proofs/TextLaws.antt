@@ -3,9 +3,9 @@ use Rattle.std.proofs.Common.{◌≡◌, ℕ, ℤ, Bool, true, false, not, List,
 use Rattle.std.specs.Prelude.{◌&&◌}
 use Rattle.vast_literal.specs.declared.operator.UnaryOperator.{UnaryOperator as UnaryOp}
 use Rattle.vast_literal.specs.declared.operator.UnaryOperator.TheVariants.{Negate as NegateOp, BitwiseNot as BitwiseNotOp, LogicalNot as LogicalNotOp, AndReduce as AndReduceOp, OrReduce as OrReduceOp, XorReduce as XorReduceOp}
-use Rattle.vast_literal.specs.Tree.{ExprTree, NameTree, LiteralTree, StringTree, UnaryTree, TernaryTree, IndexTree, SliceTree, ConcatTree, PatternTree, WidthCastTree, TypeCastTree, PosEdgeTree, NegEdgeTree, MacroTree, CallTree, TypeTree, ScalarTree, VectorTree, IntegerTree, IntTree, ExternalTree, PackageTree, MaybeType, MaybeExpr, NoExpr, SomeExpr, Exprs, MaybeExprs, NoArguments, SomeArguments}
-use Rattle.vast_literal.specs.Shape.{is_scalar_name, is_zero, select_wraps, ternary_wraps, unary_wraps}
-use Rattle.vast_print.specs.declared.refusal.Refusal.TheVariants.{ScalarIndex, ScalarSlice}
+use Rattle.vast_literal.specs.Tree.{ExprTree, NameTree, SliceTree, WidthCastTree, TypeCastTree, TypeTree, ScalarTree, VectorTree, IntegerTree, IntTree, ExternalTree, PackageTree, MaybeType}
+use Rattle.vast_literal.specs.Shape.{is_scalar_name, is_zero}
+use Rattle.vast_print.specs.declared.refusal.Refusal.TheVariants.{ScalarSlice}
 use Rattle.vast_print.specs.Printed.{Printed, plain_text, wrapped}
 use Rattle.vast_print.specs.Page.{written}
 use Rattle.vast_print.specs.Draft.{Draft}
@@ -13,9 +13,9 @@ use Rattle.vast_print.specs.Output.{Output, Unstopped, Stopped, word, inline}
 use Rattle.vast_print.specs.Levels.{unary_operator_text}
 use Rattle.vast_print.specs.Bare.{is_bare}
 use Rattle.vast_print.specs.Internal.Bare.{is_bare_head}
-use Rattle.vast_print.specs.Text.{elided, cast_to, width_cast, package_text, expr_text, arguments_text, replicated, list_text, type_cast}
+use Rattle.vast_print.specs.Text.{elided, cast_to, width_cast, package_text, expr_text, type_cast}
 use Rattle.vast_print.specs.Internal.Words.{cast_sign_word, scalar_cast_opening, scalar_cast_closing, number_cast_opening, number_cast_closing}
-use Rattle.vast_print.proofs.OutputLaws.{inline-then, inline-empty, inline-word, inline-refused}
+use Rattle.vast_print.proofs.OutputLaws.{inline-then, inline-word, inline-refused}
 use Rattle.vast_print.proofs.Lines.{word-word}
 use Rattle.vast_print.proofs.BareLaws.{bare-head}
 use Rattle.vast_literal.specs.NormalExpr.{unary_operator_token}
@@ -30,23 +30,15 @@ pub inline-bare : (d : ℕ) (k : Output) (p : Printed) → inline d k (written (
 unfolding wrapped
 inline-bare d k p = refl
 
--- names, literals, strings
+-- names
 
 pub inline-name : (d : ℕ) (k : Output) (name : List ℕ) (type : MaybeType) → inline d k (written (expr_text (NameTree name type))) ≡ inline d k (written (plain_text name))
 unfolding expr_text
 inline-name d k name type = refl
 
-pub inline-literal : (d : ℕ) (k : Output) (text : List ℕ) (value : Option ℤ) → inline d k (written (expr_text (LiteralTree text value))) ≡ inline d k (written (plain_text text))
-unfolding expr_text
-inline-literal d k text value = refl
-
-pub inline-string : (d : ℕ) (k : Output) (text : List ℕ) → inline d k (written (expr_text (StringTree text))) ≡ inline d k (written (plain_text text))
-unfolding expr_text
-inline-string d k text = refl
-
 -- operators
 
-inline-unary-sign : (d : ℕ) (k : Output) (o : UnaryOp) → inline d k (written (plain_text (unary_operator_text o))) ≡ word k (unary_operator_text o)
+pub inline-unary-sign : (d : ℕ) (k : Output) (o : UnaryOp) → inline d k (written (plain_text (unary_operator_text o))) ≡ word k (unary_operator_text o)
 unfolding unary_operator_token
 inline-unary-sign d k NegateOp = inline-word d k (codes "-") refl
 inline-unary-sign d k BitwiseNotOp = inline-word d k (codes "~") refl
@@ -55,90 +47,15 @@ inline-unary-sign d k AndReduceOp = inline-word d k (codes "&") refl
 inline-unary-sign d k OrReduceOp = inline-word d k (codes "|") refl
 inline-unary-sign d k XorReduceOp = inline-word d k (codes "^") refl
 
-pub inline-unary : (d : ℕ) (k : Output) (o : UnaryOp) (e : ExprTree) →
-    inline d k (written (expr_text (UnaryTree o e))) ≡ inline d (word k (unary_operator_text o)) (written (wrapped (unary_wraps e) (expr_text e)))
-unfolding expr_text
-inline-unary d k o e =
-    inline-then d k (plain_text (unary_operator_text o)) (wrapped (unary_wraps e) (expr_text e))
-    ∙ ap (λ j. inline d j (written (wrapped (unary_wraps e) (expr_text e)))) (inline-unary-sign d k o)
-
-pub inline-ternary : (d : ℕ) (k : Output) (c l r : ExprTree) →
-    inline d k (written (expr_text (TernaryTree c l r)))
-    ≡ inline d (word (inline d (word (inline d k (written (wrapped (ternary_wraps c) (expr_text c)))) (codes " ? ")) (written (wrapped (ternary_wraps l) (expr_text l)))) (codes " : ")) (written (wrapped (ternary_wraps r) (expr_text r)))
-unfolding expr_text
-inline-ternary d k c l r = simp (inline-then, inline-word)
-
 -- selects
-
-pub inline-index : (d : ℕ) (k : Output) (s i : ExprTree) → is_scalar_name s ≡ false →
-    inline d k (written (expr_text (IndexTree s i)))
-    ≡ word (inline d (word (inline d k (written (wrapped (select_wraps s) (expr_text s)))) (codes "[")) (written (expr_text i))) (codes "]")
-unfolding expr_text
-inline-index d k s i h = rw h (simp (inline-then, inline-word))
-
-pub inline-scalar-index : (d : ℕ) (k : Output) (s i : ExprTree) → is_scalar_name s ≡ true → is_zero i ≡ true → inline d k (written (expr_text (IndexTree s i))) ≡ inline d k (written (expr_text s))
-unfolding expr_text elided
-inline-scalar-index d k s i h z = rw h (rw z refl)
 
 pub inline-scalar-slice : (d : ℕ) (k : Output) (s h l : ExprTree) → is_scalar_name s ≡ true → (is_zero h && is_zero l) ≡ true → inline d k (written (expr_text (SliceTree s h l))) ≡ inline d k (written (expr_text s))
 unfolding expr_text elided
 inline-scalar-slice d k s h l e z = rw e (rw z refl)
 
-pub inline-refused-index : (d : ℕ) (k : Draft) (s i : ExprTree) → is_scalar_name s ≡ true → is_zero i ≡ false → inline d (Unstopped k) (written (expr_text (IndexTree s i))) ≡ Stopped ScalarIndex
-unfolding expr_text elided
-inline-refused-index d k s i h z = rw h (rw z (inline-refused d k ScalarIndex (expr_text s)))
-
 pub inline-refused-slice : (d : ℕ) (k : Draft) (s h l : ExprTree) → is_scalar_name s ≡ true → (is_zero h && is_zero l) ≡ false → inline d (Unstopped k) (written (expr_text (SliceTree s h l))) ≡ Stopped ScalarSlice
 unfolding expr_text elided
 inline-refused-slice d k s h l e z = rw e (rw z (inline-refused d k ScalarSlice (expr_text s)))
-
--- lists
-
-pub inline-concat : (d : ℕ) (k : Output) (n : MaybeExpr) (es : Exprs) →
-    inline d k (written (expr_text (ConcatTree n es))) ≡ word (inline d (word k (codes "{")) (written (replicated n (list_text es)))) (codes "}")
-unfolding expr_text
-inline-concat d k n es = simp (inline-then, inline-word)
-
-pub inline-parts : (d : ℕ) (k : Output) (p : Printed) → inline d k (written (replicated NoExpr p)) ≡ inline d k (written p)
-unfolding replicated
-inline-parts d k p = refl
-
-pub inline-replicated : (d : ℕ) (k : Output) (n : ExprTree) (p : Printed) →
-    inline d k (written (replicated (SomeExpr n) p)) ≡ word (inline d (word (inline d k (written (expr_text n))) (codes "{")) (written p)) (codes "}")
-unfolding replicated expr_text
-inline-replicated d k n p = simp (inline-then, inline-word)
-
-pub inline-pattern-list : (d : ℕ) (k : Output) (es : Exprs) → inline d k (written (expr_text (PatternTree es))) ≡ word (inline d (word k (codes "'{")) (written (list_text es))) (codes "}")
-unfolding expr_text
-inline-pattern-list d k es = simp (inline-then, inline-word)
-
-pub inline-macro : (d : ℕ) (k : Output) (name : List ℕ) (es : MaybeExprs) →
-    inline d k (written (expr_text (MacroTree name es))) ≡ inline d (inline d (word k (codes "`")) (written (plain_text name))) (written (arguments_text es))
-unfolding expr_text
-inline-macro d k name es = simp (inline-then, inline-word)
-
-pub inline-no-arguments : (d : ℕ) (k : Output) → inline d k (written (arguments_text NoArguments)) ≡ k
-unfolding arguments_text
-inline-no-arguments d k = inline-empty d k
-
-pub inline-arguments : (d : ℕ) (k : Output) (es : Exprs) → inline d k (written (arguments_text (SomeArguments es))) ≡ word (inline d (word k (codes "(")) (written (list_text es))) (codes ")")
-unfolding arguments_text
-inline-arguments d k es = simp (inline-then, inline-word)
-
-pub inline-call : (d : ℕ) (k : Output) (name : List ℕ) (es : Exprs) →
-    inline d k (written (expr_text (CallTree name es))) ≡ word (inline d (word (inline d k (written (plain_text name))) (codes "(")) (written (list_text es))) (codes ")")
-unfolding expr_text
-inline-call d k name es = simp (inline-then, inline-word)
-
--- edges
-
-pub inline-rising : (d : ℕ) (k : Output) (e : ExprTree) → inline d k (written (expr_text (PosEdgeTree e))) ≡ inline d (word k (codes "posedge ")) (written (expr_text e))
-unfolding expr_text
-inline-rising d k e = simp (inline-then, inline-word)
-
-pub inline-falling : (d : ℕ) (k : Output) (e : ExprTree) → inline d k (written (expr_text (NegEdgeTree e))) ≡ inline d (word k (codes "negedge ")) (written (expr_text e))
-unfolding expr_text
-inline-falling d k e = simp (inline-then, inline-word)
 
 -- casts
 

@@ -1,15 +1,14 @@
 -- Laws of the dimensions of arrays.
-use Rattle.std.proofs.Common.{◌≡◌, ◌<◌, ◌≤◌, ℕ, zero, suc, ◌+◌, ℤ, pos, true, List, [], ◌∷◌, ◌++◌, length, get_or, drop, refl, ◌∙◌, ap, codes, arith, add-one, append_assoc}
+use Rattle.std.proofs.Common.{◌≡◌, ℕ, ◌+◌, ℤ, pos, true, List, [], ◌∷◌, ◌++◌, refl, ◌∙◌, ap, codes, append_assoc}
 use Rattle.std.specs.Prelude.{◌-ℤ◌}
 use Rattle.std.specs.Fmt.{signed_decimal}
-use Rattle.std.proofs.lemmas.List.{drop_all}
 use Rattle.vast_literal.specs.declared.kind.VastFileType.{VastFileType as Dialect}
 use Rattle.vast_literal.specs.declared.kind.VastFileType.TheVariants.{Verilog as VerilogDialect, SystemVerilog as SystemVerilogDialect}
 use Rattle.vast_print.specs.Printed.{plain_text}
 use Rattle.vast_print.specs.Page.{written}
 use Rattle.vast_print.specs.Output.{Output, word, inline}
 use Rattle.vast_print.specs.Declaration.{packed_range, packed_text, unpacked_range, unpacked_text}
-use Rattle.vast_print.proofs.OutputLaws.{inline-then, inline-empty, inline-word}
+use Rattle.vast_print.proofs.OutputLaws.{inline-then, inline-word}
 use Rattle.vast_print.proofs.Lines.{unbroken}
 use Rattle.vast_print.proofs.NumberLaws.{inline-number}
 use Rattle.vast_print.proofs.DeclarationLaws.{plain-append}
@@ -49,32 +48,15 @@ inline-range d k a b z h i =
 
 -- the dimensions of an array
 
-pub packed-end : (d : ℕ) (k : Output) (xs : List ℤ) (i : ℕ) → length xs ≤ i → inline d k (written (plain_text (packed_text (drop i xs)))) ≡ k
+pub inline-packed : (d : ℕ) (k : Output) (x : ℤ) (xs : List ℤ) →
+    inline d k (written (plain_text (packed_text (x ∷ xs)))) ≡ inline d (word (word (word k (codes "[")) (signed_decimal (x -ℤ pos 1))) (codes ":0]")) (written (plain_text (packed_text xs)))
 unfolding packed_text
-packed-end d k xs i h = ap (λ x. inline d k (written (plain_text (packed_text x)))) (drop_all i xs h) ∙ inline-empty d k
+inline-packed d k x xs = inline-append d k (packed_range x) (packed_text xs) ∙ ap (λ j. inline d j (written (plain_text (packed_text xs)))) (inline-range d k (codes "[") (codes ":0]") (x -ℤ pos 1) refl refl)
 
-pub packed-step : (d : ℕ) (k : Output) (xs : List ℤ) (i : ℕ) (x : ℤ) → i < length xs → x ≡ get_or xs i x →
-    inline d k (written (plain_text (packed_text (drop i xs))))
-    ≡ inline d (word (word (word k (codes "[")) (signed_decimal (x -ℤ pos 1))) (codes ":0]")) (written (plain_text (packed_text (drop (i + 1) xs))))
-unfolding packed_text
-packed-step d k [] i x h g = absurd (omega arith)
-packed-step d k (y ∷ xs) zero x h g =
-    rw g
-    (inline-append d k (packed_range y) (packed_text xs)
-    ∙ ap (λ j. inline d j (written (plain_text (packed_text xs)))) (inline-range d k (codes "[") (codes ":0]") (y -ℤ pos 1) refl refl))
-packed-step d k (y ∷ xs) (suc i) x h g = rw (add-one (suc i)) (rw (add-one i) at (packed-step d k xs i x (omega arith) g))
-
-pub unpacked-end : (dialect : Dialect) (d : ℕ) (k : Output) (xs : List ℤ) (i : ℕ) → length xs ≤ i → inline d k (written (plain_text (unpacked_text dialect (drop i xs)))) ≡ k
+pub inline-unpacked : (d : ℕ) (k : Output) (dialect : Dialect) (x : ℤ) (xs : List ℤ) →
+    inline d k (written (plain_text (unpacked_text dialect (x ∷ xs)))) ≡ inline d (inline d k (written (plain_text (unpacked_range dialect x)))) (written (plain_text (unpacked_text dialect xs)))
 unfolding unpacked_text
-unpacked-end dialect d k xs i h = ap (λ x. inline d k (written (plain_text (unpacked_text dialect x)))) (drop_all i xs h) ∙ inline-empty d k
-
-pub unpacked-step : (dialect : Dialect) (d : ℕ) (k : Output) (xs : List ℤ) (i : ℕ) (x : ℤ) → i < length xs → x ≡ get_or xs i x →
-    inline d k (written (plain_text (unpacked_text dialect (drop i xs))))
-    ≡ inline d (inline d k (written (plain_text (unpacked_range dialect x)))) (written (plain_text (unpacked_text dialect (drop (i + 1) xs))))
-unfolding unpacked_text
-unpacked-step dialect d k [] i x h g = absurd (omega arith)
-unpacked-step dialect d k (y ∷ xs) zero x h g = rw g (inline-append d k (unpacked_range dialect y) (unpacked_text dialect xs))
-unpacked-step dialect d k (y ∷ xs) (suc i) x h g = rw (add-one (suc i)) (rw (add-one i) at (unpacked-step dialect d k xs i x (omega arith) g))
+inline-unpacked d k dialect x xs = inline-append d k (unpacked_range dialect x) (unpacked_text dialect xs)
 
 pub inline-verilog-range : (d : ℕ) (k : Output) (x : ℤ) →
     inline d k (written (plain_text (unpacked_range VerilogDialect x))) ≡ word (word (word k (codes "[0:")) (signed_decimal (x -ℤ pos 1))) (codes "]")

@@ -16,6 +16,7 @@ use crate::writer::Writer;
 use vast_core::{AlwaysBlock, AlwaysKind, Ast, Expr, VastAlwaysBase};
 
 /// Writes events after the last line.
+#[tactic(auto, using(crate::proofs::ContainerLaws::separated))]
 fn print_events(ast: &Ast, events: &[Expr], out: &mut Writer) -> Result<(), PrintFault>
     requires { All (EventSound (bench ast.now)) events.now }
     ensures { WritesText out.old out.new result

@@ -106,7 +106,7 @@ fn begin_part(
 }
 
 /// Writes the first words of an expression, and puts what is left of it on the list.
-#[tactic(auto, using(crate::proofs::PieceLaws::leaves))]
+#[tactic(auto, unfolding(crate::specs::Text::expr_text))]
 fn begin(ast: &Ast, e: Expr, out: &mut Writer, work: &mut Vec<Piece>) -> Result<(), PrintFault>
     requires part { OwnsExpr (bench ast.now) e }
     requires owned { PiecesOwned (bench ast.now) work.old.items }

@@ -51,7 +51,7 @@ fn print_item(ast: &Ast, item: &FileItem, out: &mut Writer) -> Result<(), PrintF
     }
 }
 
-#[tactic(auto, using(crate::proofs::ArenaLaws::modules))]
+#[tactic(auto, using(crate::proofs::ArenaLaws::listed))]
 fn print_items(ast: &Ast, out: &mut Writer) -> Result<(), PrintFault>
     ensures { WritesLines out.old out.new result (layout (tree (bench ast.now))) }
 {

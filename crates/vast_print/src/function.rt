@@ -54,6 +54,7 @@ fn print_input(ast: &Ast, input: &FunctionVariable, out: &mut Writer) -> Result<
 }
 
 /// Writes the inputs of a function after the last line.
+#[tactic(auto, using(crate::proofs::ContainerLaws::separated))]
 fn print_inputs(ast: &Ast, inputs: &[FunctionVariable], out: &mut Writer) -> Result<(), PrintFault>
     requires { All (VariableSound (bench ast.now)) inputs.now }
     ensures { WritesText out.old out.new result
@@ -80,6 +81,7 @@ fn print_local(ast: &Ast, local: &FunctionVariable, out: &mut Writer) -> Result<
 }
 
 /// Writes the locals of a function below each other.
+#[tactic(auto, using(crate::proofs::ContainerLaws::locals))]
 fn print_locals(ast: &Ast, locals: &[FunctionVariable], out: &mut Writer) -> Result<(), PrintFault>
     requires { All (VariableSound (bench ast.now)) locals.now }
     ensures { WritesLines out.old out.new result

@@ -18,7 +18,7 @@ use vast_core::{Ast, BinaryOperator, GenerateLoop, LoopNode};
 
 /// Writes a generate loop on lines of its own.
 #[cycle(members)]
-#[tactic(auto, using(crate::proofs::ArenaLaws::stops))]
+#[tactic(auto, using(crate::proofs::ContainerLaws::loops))]
 pub(crate) fn print_loop(ast: &Ast, l: GenerateLoop, out: &mut Writer) -> Result<(), PrintFault>
     requires owned { OwnsLoop (bench ast.now) l }
     ensures { WritesLines out.old out.new result

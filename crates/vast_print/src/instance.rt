@@ -37,6 +37,7 @@ fn print_connection(ast: &Ast, connection: &Connection, out: &mut Writer) -> Res
 }
 
 /// Writes connections, each on a line one deeper.
+#[tactic(auto, using(crate::proofs::ArenaLaws::entries))]
 fn print_entries(ast: &Ast, connections: &[Connection], out: &mut Writer) -> Result<(), PrintFault>
     requires owned { All (ConnectionSound (bench ast.now))
         connections.now }

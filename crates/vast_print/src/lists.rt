@@ -14,7 +14,7 @@ use crate::writer::Writer;
 use vast_core::{Ast, Expr};
 
 /// With a count, the parts stand in braces of their own.
-#[tactic(auto, using(crate::proofs::PieceLaws::lists))]
+#[tactic(auto, using(crate::proofs::PieceLaws::lists), unfolding(crate::specs::Text::expr_text, crate::specs::Text::replicated, crate::specs::Text::arguments_text))]
 pub(crate) fn begin_concat(
     ast: &Ast,
     count: Option<Expr>,
@@ -42,7 +42,7 @@ pub(crate) fn begin_concat(
     Ok(())
 }
 
-#[tactic(auto, using(crate::proofs::PieceLaws::lists))]
+#[tactic(auto, using(crate::proofs::PieceLaws::lists), unfolding(crate::specs::Text::expr_text, crate::specs::Text::replicated, crate::specs::Text::arguments_text))]
 pub(crate) fn begin_pattern(
     ast: &Ast,
     parts: &[Expr],
@@ -60,7 +60,7 @@ pub(crate) fn begin_pattern(
     Ok(())
 }
 
-#[tactic(auto, using(crate::proofs::PieceLaws::lists))]
+#[tactic(auto, using(crate::proofs::PieceLaws::lists), unfolding(crate::specs::Text::expr_text, crate::specs::Text::replicated, crate::specs::Text::arguments_text))]
 pub(crate) fn print_macro(name: &str, out: &mut Writer) -> Result<(), PrintFault>
     ensures { WritesText out.old out.new result (expr_text (MacroTree name.now NoArguments)) }
 {
@@ -69,7 +69,7 @@ pub(crate) fn print_macro(name: &str, out: &mut Writer) -> Result<(), PrintFault
     Ok(())
 }
 
-#[tactic(auto, using(crate::proofs::PieceLaws::lists))]
+#[tactic(auto, using(crate::proofs::PieceLaws::lists), unfolding(crate::specs::Text::expr_text, crate::specs::Text::replicated, crate::specs::Text::arguments_text))]
 pub(crate) fn begin_macro_call(
     ast: &Ast,
     name: &str,
@@ -90,7 +90,7 @@ pub(crate) fn begin_macro_call(
     Ok(())
 }
 
-#[tactic(auto, using(crate::proofs::PieceLaws::lists))]
+#[tactic(auto, using(crate::proofs::PieceLaws::lists), unfolding(crate::specs::Text::expr_text, crate::specs::Text::replicated, crate::specs::Text::arguments_text))]
 pub(crate) fn begin_call(
     ast: &Ast,
     name: &str,

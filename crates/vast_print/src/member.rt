@@ -91,7 +91,7 @@ pub(crate) fn print_member(ast: &Ast, member: &Member, out: &mut Writer) -> Resu
 }
 
 /// Writes the members of a module below each other.
-#[tactic(auto, using(crate::proofs::ArenaLaws::modules))]
+#[tactic(auto, using(crate::proofs::ArenaLaws::listed))]
 pub(crate) fn print_members(
     ast: &Ast,
     members: &[Member],

@@ -32,7 +32,7 @@ fn print_listed_port(ast: &Ast, p: ModulePort, out: &mut Writer) -> Result<(), P
 }
 
 /// Writes the ports of a header, each on a line one deeper.
-#[tactic(auto, using(crate::proofs::ArenaLaws::modules))]
+#[tactic(auto, using(crate::proofs::ArenaLaws::entries))]
 fn print_ports(ast: &Ast, ports: &[ModulePort], out: &mut Writer) -> Result<(), PrintFault>
     requires owned { All (OwnsPort (bench ast.now)) ports.now }
     ensures { WritesLines out.old out.new result

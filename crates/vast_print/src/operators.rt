@@ -13,7 +13,7 @@ use crate::refusal::PrintFault;
 use crate::writer::Writer;
 use vast_core::{Ast, BinaryOperator, Expr, UnaryOperator};
 
-#[tactic(auto, using(crate::proofs::PieceLaws::begins))]
+#[tactic(auto, using(crate::proofs::PieceLaws::begins), unfolding(crate::specs::Text::expr_text))]
 pub(crate) fn begin_unary(
     ast: &Ast,
     operator: UnaryOperator,
@@ -32,7 +32,7 @@ pub(crate) fn begin_unary(
     Ok(())
 }
 
-#[tactic(auto, using(crate::proofs::PieceLaws::begins))]
+#[tactic(auto, using(crate::proofs::PieceLaws::begins), unfolding(crate::specs::Text::expr_text))]
 pub(crate) fn begin_binary(
     ast: &Ast,
     operator: BinaryOperator,
@@ -53,7 +53,7 @@ pub(crate) fn begin_binary(
     Ok(())
 }
 
-#[tactic(auto, using(crate::proofs::PieceLaws::begins))]
+#[tactic(auto, using(crate::proofs::PieceLaws::begins), unfolding(crate::specs::Text::expr_text))]
 pub(crate) fn begin_ternary(
     ast: &Ast,
     condition: Expr,
@@ -78,7 +78,7 @@ pub(crate) fn begin_ternary(
     Ok(())
 }
 
-#[tactic(auto, using(crate::proofs::PieceLaws::begins))]
+#[tactic(auto, using(crate::proofs::PieceLaws::begins), unfolding(crate::specs::Text::expr_text))]
 pub(crate) fn begin_posedge(
     ast: &Ast,
     operand: Expr,
@@ -95,7 +95,7 @@ pub(crate) fn begin_posedge(
     Ok(())
 }
 
-#[tactic(auto, using(crate::proofs::PieceLaws::begins))]
+#[tactic(auto, using(crate::proofs::PieceLaws::begins), unfolding(crate::specs::Text::expr_text))]
 pub(crate) fn begin_negedge(
     ast: &Ast,
     operand: Expr,

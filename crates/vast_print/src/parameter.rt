@@ -55,6 +55,7 @@ fn print_parameter_port(
 }
 
 /// Writes the parameters of a header, each on a line one deeper.
+#[tactic(auto, using(crate::proofs::ArenaLaws::entries))]
 pub(crate) fn print_parameter_ports(
     ast: &Ast,
     parameters: &[ParameterPort],

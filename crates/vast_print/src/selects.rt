@@ -12,7 +12,7 @@ use crate::writer::Writer;
 use vast_core::{Ast, Expr};
 
 /// A select of a named scalar by a literal of value zero is the name alone.
-#[tactic(auto, using(crate::proofs::PieceLaws::indexes))]
+#[tactic(auto, using(crate::proofs::PieceLaws::indexes), unfolding(crate::specs::Text::expr_text, crate::specs::Text::elided))]
 pub(crate) fn begin_index(
     ast: &Ast,
     subject: Expr,

@@ -43,7 +43,7 @@ pub(crate) fn print_block(
 
 /// Writes the statements of a block below each other.
 #[cycle(print)]
-#[tactic(auto, using(crate::proofs::ContainerLaws::blocks))]
+#[tactic(auto, using(crate::proofs::ContainerLaws::below))]
 pub(crate) fn print_statements(
     ast: &Ast,
     b: VastStatementBlock,

@@ -86,6 +86,7 @@ pub fn digit_count(value: u128, radix: u128) -> usize
 }
 
 /// The digit of a number at a place, counted from the lowest, in a radix of this many bits.
+#[tactic(auto, using(crate::proofs::Numbers::digit_by_shift, crate::proofs::Numbers::digit_below, crate::proofs::Numbers::no_digit))]
 fn digit_at(value: u128, digit_bits: usize, place: usize) -> u8
     requires bits { digit_bits ≤ 4 }
     requires place { place < 2 ^ 32 }

@@ -28,6 +28,7 @@ fn is_decimal(text: &[u8]) -> bool
 }
 
 /// The number that a text of ASCII digits writes, where it is below 2^64.
+#[tactic(auto, using(crate::proofs::ParsedWidths::read_width))]
 fn read_number(text: &str) -> Option<u64>
     requires { IsTrue (is_decimal text.now) }
     ensures { SomeIff result (weighted 10 text.now < 2 ^ 64) (weighted 10 text.now) }

@@ -5,6 +5,7 @@ use Rattle.vast_print.specs.Output.{Unstopped, word, next, indented, inline}
 use Rattle.vast_print.specs.Statements.{statement_page, statements_page, alternates_page, arms_page}
 use Rattle.vast_core.proofs.Heights.{height, statement_height}
 use Rattle.vast_print.proofs.+print.Given as goal
+use Rattle.vast_print.proofs.Left.{LinesLeft}
 
 abbrev pub decreases-statement::print_block : goal.decreases-statement::print_block
 decreases-statement::print_block l = height l.b.id.index + 2
@@ -25,11 +26,7 @@ abbrev pub decreases-case::print_arm : goal.decreases-case::print_arm
 decreases-case::print_arm l = height l.arm.block.id.index + 3
 
 abbrev pub invariant-statement::print_statements-loop-statement : goal.invariant-statement::print_statements-loop-statement
-invariant-statement::print_statements-loop-statement l =
-    record {
-      same : indented l.fn.out.margin (Unstopped l.fn.out.draft) (statements_page (block_tree (bench l.ast) l.fn.b)) ≡ indented l.fn.out.margin (Unstopped l.out.draft) (statements_page (statements_tree (bench l.ast) (drop l.statement-index l.statement-items)));
-      margin : l.out.margin ≡ l.fn.out.margin;
-    }
+invariant-statement::print_statements-loop-statement l = LinesLeft l.fn.out l.out (statements_page (block_tree (bench l.ast) l.fn.b)) (statements_page (statements_tree (bench l.ast) (drop l.statement-index l.statement-items)))
 
 abbrev pub invariant-conditional::print_conditional-loop-arm : goal.invariant-conditional::print_conditional-loop-arm
 invariant-conditional::print_conditional-loop-arm l =

@@ -3,11 +3,11 @@ use Rattle.std.proofs.Common.{◌≡◌, zero, suc, ℕ, ◌<◌, List, [], ◌�
 use Rattle.std.proofs.lemmas.Slice.Eq.{bytes_eq-Decides}
 use Rattle.std.proofs.lemmas.Bool.Decides.{nat_tests}
 use Rattle.vast_literal.specs.Keyword.{keywords, is_among, is_keyword}
-use Rattle.vast_literal.specs.Tokens.{key_text, reserved_keys, key_written, Reserved, Word, Keyword, keyword_token, word_token}
+use Rattle.vast_literal.specs.Tokens.{reserved_keys, key_written, Reserved, Word, Keyword, keyword_token, word_token}
 use Rattle.vast_literal.specs.declared.token.Key.{Key}
 use Rattle.vast_literal.proofs.ScanLaws.{and_left, and_right}
 use Rattle.vast_read.specs.Internal.KeywordSlots.{slot_of}
-use Rattle.vast_read.specs.declared.scanner.keyword.TheConstants.{KEYS, PLACES, MOVES}
+use Rattle.vast_read.specs.declared.scanner.keyword.TheConstants.{PLACES, MOVES}
 
 -- all numbers of a list are below a bound
 unfoldable pub all_below : ℕ → List ℕ → Bool
@@ -28,11 +28,7 @@ pub place_within : (slot : ℕ) → get_or PLACES slot 0 < 248
 place_within slot = below_at 248 PLACES slot (omega arith) places_below
 
 abbrev pub keys : List (Option Key)
-keys = KEYS
-
-keys_are : map (key_written reserved_keys) keywords ≡ keys
-unfolding keywords reserved_keys key_text
-keys_are = refl
+keys = map (key_written reserved_keys) keywords
 
 -- each keyword stands where it is looked for
 unfoldable stand : List (List ℕ) → Bool
@@ -77,7 +73,7 @@ unfolding word_token is_keyword
 key_of_found i word low e =
     let inside : i < length keywords = omega (arith, how_many) in
     let among : is_among keywords word ≡ true = ap (is_among keywords) (sym e) ∙ among_at keywords i inside in
-    let key : key_written reserved_keys word ≡ get_or keys i None = ap (key_written reserved_keys) (sym e) ∙ (mapped_at (key_written reserved_keys) keywords i [] None inside ∙ ap (λ (ks : List (Option Key)). get_or ks i None) keys_are) in
+    let key : key_written reserved_keys word ≡ get_or keys i None = ap (key_written reserved_keys) (sym e) ∙ mapped_at (key_written reserved_keys) keywords i [] None inside in
     rw (among, key) refl
 
 pub key_found : (i : ℕ) (text word : List ℕ) (k : Key) (o : Option Key) → text ≡ get_or keywords i [] → text ≡ word → o ≡ get_or keys i None → o ≡ Some k → i < 248 → Reserved k ≡ word_token word

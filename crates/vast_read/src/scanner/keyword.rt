@@ -1,41 +1,14 @@
 //! Keywords among the words, by a table of slots.
 
-ghost use Rattle.std.specs.Prelude.{◌≡◌, ◌<◌, [], None, get_or};
+ghost use Rattle.std.specs.Prelude.{◌≡◌, ◌<◌, [], None, get_or, map};
 ghost use Rattle.vast_literal.specs.Keyword.{keywords};
-ghost use Rattle.vast_literal.specs.Tokens.{word_token};
+ghost use Rattle.vast_literal.specs.Tokens.{key_written, reserved_keys, word_token};
 ghost use Rattle.vast_read.specs.Internal.TokenView.{token_view};
 ghost use Rattle.vast_read.specs.Internal.KeywordSlots.{slot_of};
 
 use crate::scanner::run::byte_at;
 use crate::token::Token;
-use vast_literal::{Key, system_verilog_keywords};
-
-/// The key of each keyword that the grammar uses.
-#[rattlefmt::skip]
-static KEYS: [Option<Key>; 248] = [
-    None, None, Some(Key::Always), Some(Key::AlwaysComb), Some(Key::AlwaysFF), None, None, None,
-    Some(Key::Assign), None, Some(Key::Automatic), None, Some(Key::Begin), None, None, None,
-    None, None, None, None, None, None, Some(Key::Case), Some(Key::Casex), Some(Key::Casez),
-    None, None, None, None, None, None, None, None, None, None, None, None, None, None, None,
-    None, Some(Key::Default), None, None, None, None, None, None, Some(Key::Else),
-    Some(Key::End), Some(Key::EndCase), None, None, None, None, Some(Key::EndFunction), None,
-    None, None, Some(Key::EndModule), None, None, None, None, None, None, None, None, None,
-    None, None, None, None, None, None, None, None, Some(Key::For), None, None, None, None,
-    None, Some(Key::Function), None, Some(Key::Genvar), None, None, None, Some(Key::If), None,
-    None, None, None, None, None, None, None, None, None, Some(Key::InOut), Some(Key::Input),
-    None, None, Some(Key::Int), Some(Key::Integer), None, None, None, None, None, None, None,
-    None, None, None, None, Some(Key::Localparam), Some(Key::Logic), None, None, None, None,
-    None, Some(Key::Module), None, Some(Key::Negedge), None, None, None, None, None, None, None,
-    None, None, None, Some(Key::Or), Some(Key::Output), None, None, Some(Key::Parameter), None,
-    Some(Key::Posedge), None, None, None, None, None, None, None, None, None, None, None, None,
-    None, None, None, None, None, None, None, None, Some(Key::Reg), None, None, None, None,
-    None, None, None, None, None, None, None, None, None, None, None, None, None, None, None,
-    None, Some(Key::Signed), None, None, None, None, None, None, None, None, None, None, None,
-    None, None, None, None, None, None, None, None, None, None, None, None, None, None, None,
-    None, None, None, None, None, None, None, None, None, None, Some(Key::Unique), None,
-    Some(Key::Unsigned), None, None, None, None, None, None, None, None, None, None, None, None,
-    None, None, None, None, None, Some(Key::Wire), None, None, None, None, None,
-];
+use vast_literal::{Key, system_verilog_keys, system_verilog_keywords};
 
 /// The place in the table of keywords of the keyword of a slot, of which each keyword has one of its own; 0 where none has it.
 #[rattlefmt::skip]
@@ -104,9 +77,9 @@ fn word_at(place: usize) -> &'static str
 /// The key of the keyword at a place of the table, where the grammar uses it.
 fn key_at(place: usize) -> Option<Key>
     requires { place < 248 }
-    ensures { result ≡ get_or KEYS place None }
+    ensures { result ≡ get_or (map (key_written reserved_keys) keywords) place None }
 {
-    KEYS[place]
+    system_verilog_keys()[place]
 }
 
 /// The token of a word: a keyword or a name.

@@ -1,41 +1,24 @@
-use Rattle.std.proofs.Common.{get_or, None, arith}
-use Rattle.std.proofs.lemmas.List.{get_or_default}
-use Rattle.vast_core.specs.declared.handle.VastStatementBlock.{VastStatementBlock}
-use Rattle.vast_core.specs.declared.node.ElseIf.{ElseIf}
+use Rattle.std.proofs.Common.{◌+◌, get_or, drop, None, sym, ◌∙◌, arith}
+use Rattle.std.proofs.lemmas.List.{at_drop_more}
+use Rattle.vast_literal.specs.PlainFile.{is_plain_maybe, are_plain_statements, are_plain_arms}
 use Rattle.vast_core.specs.declared.node.CaseArm.{CaseArm}
+use Rattle.vast_core.specs.Bench.{maybe_tree_of}
+use Rattle.vast_core.specs.FileTree.{block_tree, case_arms_tree}
 use Rattle.vast_core.specs.View.{bench}
-use Rattle.vast_plain.proofs.Statements.{else-ifs-left, arms-left}
+use Rattle.vast_plain.proofs.Tests.{and-assoc}
 use Rattle.vast_plain.proofs.statement.+statements.Goals as goal
 
-abbrev no_block : VastStatementBlock
-no_block = record { id = record { file_id = 0; index = 0 } }
-
-abbrev no_else_if : ElseIf
-no_else_if = record { condition = record { id = record { file_id = 0; index = 0 } }; block = no_block }
-
 abbrev no_arm : CaseArm
-no_arm = record { label = None; block = no_block }
+no_arm = record { label = None; block = record { id = record { file_id = 0; index = 0 } } }
 
 pub is_plain_case-returns-then-not-branch-2 : goal.is_plain_case-returns-then-not-branch-2
 is_plain_case-returns-then-not-branch-2 t c =
+    let b = bench c.args.ast.now in
     let xs = c.deref-arm-items.result.now in
-    let x : CaseArm = get_or xs c.loop-arm.arm-index no_arm in
-    grind (arith, arms-left (bench c.args.ast.now) xs c.loop-arm.arm-index x c.loop-arm-test.true (get_or_default xs c.loop-arm.arm-index no_arm x c.loop-arm-test.true))
-
-pub is_plain_case-loop-arm-preserved : goal.is_plain_case-loop-arm-preserved
-is_plain_case-loop-arm-preserved t c =
-    let xs = c.deref-arm-items.result.now in
-    let x : CaseArm = get_or xs c.loop-arm.arm-index no_arm in
-    grind (arith, arms-left (bench c.args.ast.now) xs c.loop-arm.arm-index x c.loop-arm-test.true (get_or_default xs c.loop-arm.arm-index no_arm x c.loop-arm-test.true))
-
-pub is_plain_conditional-returns-then-not-branch-2 : goal.is_plain_conditional-returns-then-not-branch-2
-is_plain_conditional-returns-then-not-branch-2 t c =
-    let xs = c.deref-arm-items.result.now in
-    let x : ElseIf = get_or xs c.loop-arm.arm-index no_else_if in
-    grind (arith, else-ifs-left (bench c.args.ast.now) c.conditional-node.result.now.otherwise xs c.loop-arm.arm-index x c.loop-arm-test.true (get_or_default xs c.loop-arm.arm-index no_else_if x c.loop-arm-test.true))
-
-pub is_plain_conditional-loop-arm-preserved : goal.is_plain_conditional-loop-arm-preserved
-is_plain_conditional-loop-arm-preserved t c =
-    let xs = c.deref-arm-items.result.now in
-    let x : ElseIf = get_or xs c.loop-arm.arm-index no_else_if in
-    grind (arith, else-ifs-left (bench c.args.ast.now) c.conditional-node.result.now.otherwise xs c.loop-arm.arm-index x c.loop-arm-test.true (get_or_default xs c.loop-arm.arm-index no_else_if x c.loop-arm-test.true))
+    let i = c.loop-arm.arm-index in
+    let x : CaseArm = get_or xs i no_arm in
+    grind (
+      arith,
+      at_drop_more (λ ys. are_plain_arms (case_arms_tree b ys)) xs i no_arm c.loop-arm-test.true
+          ∙ sym (and-assoc (is_plain_maybe (maybe_tree_of b x.label)) (are_plain_statements (block_tree b x.block)) (are_plain_arms (case_arms_tree b (drop (i + 1) xs)))),
+    )

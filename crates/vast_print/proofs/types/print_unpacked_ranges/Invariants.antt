@@ -1,13 +1,8 @@
-use Rattle.std.proofs.Common.{◌≡◌, drop}
+use Rattle.std.proofs.Common.{drop}
 use Rattle.vast_print.specs.Declaration.{unpacked_text}
-use Rattle.vast_print.specs.Output.{Unstopped, inline}
-use Rattle.vast_print.specs.Page.{written}
 use Rattle.vast_print.specs.Printed.{plain_text}
+use Rattle.vast_print.proofs.Left.{TextLeft}
 use Rattle.vast_print.proofs.types.print_unpacked_ranges.Given as goal
 
 abbrev pub invariant-loop-dimension : goal.invariant-loop-dimension
-invariant-loop-dimension l =
-    record {
-      same : inline l.fn.out.margin (Unstopped l.fn.out.draft) (written (plain_text (unpacked_text l.file_type l.dimensions))) ≡ inline l.fn.out.margin (Unstopped l.out.draft) (written (plain_text (unpacked_text l.file_type (drop l.dimension-index l.dimensions))));
-      margin : l.out.margin ≡ l.fn.out.margin;
-    }
+invariant-loop-dimension l = TextLeft l.fn.out l.out (plain_text (unpacked_text l.file_type l.dimensions)) (plain_text (unpacked_text l.file_type (drop l.dimension-index l.dimensions)))
