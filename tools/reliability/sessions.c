@@ -278,9 +278,10 @@ static bool at_once(int threads, double seconds)
         sessions += workers[at].sessions;
         granted += workers[at].requests;
     }
+    CHECK(are_right);
     printf("%d threads for %.0f s: %lu sessions, each as one thread made it alone; %ld blocks, all given back\n", threads,
            seconds, sessions, granted);
-    return are_right;
+    return true;
 }
 
 /* Sessions in turn */
