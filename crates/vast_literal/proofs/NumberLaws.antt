@@ -1,25 +1,15 @@
 -- A written number is a number, perhaps after a minus.
-use Rattle.std.proofs.Common.{◌≡◌, ℕ, zero, suc, ◌+◌, ◌/◌, ◌%◌, ◌<◌, ℤ, pos, negsuc, List, [], ◌∷◌, Bool, true, false, ◌||◌, eqb, refl, arith, mod-lt, lit<}
-use Rattle.std.proofs.lemmas.Bool.{and_from, cond_both}
+use Rattle.std.proofs.Common.{◌≡◌, ℕ, zero, suc, ◌/◌, ◌%◌, ℤ, pos, negsuc, List, [], ◌∷◌, true, false, ◌||◌, eqb, refl, arith}
+use Rattle.std.proofs.lemmas.Bool.{and_from, cond_both, or_left}
 use Rattle.std.proofs.lemmas.Bool.Decides.{nat_tests}
-use Rattle.std.specs.Prelude.{nat_lt, ◌==◌, if◌then◌else◌}
+use Rattle.std.specs.Prelude.{◌==◌}
 use Rattle.std.specs.Fmt.{digits, digits_onto, digit_glyph, decimal, signed_decimal}
 use Rattle.vast_literal.specs.Scan.{is_digit}
 use Rattle.vast_literal.specs.LiteralToken.{every, is_number, is_based, is_filled, is_literal_text}
 use Rattle.vast_literal.proofs.ScanLaws.{and_left}
 
-small_glyph : (m : ℕ) → m < 10 → is_digit (48 + m) ≡ true
-small_glyph m h = grind (arith, nat_tests)
-
-small_is : (m : ℕ) → m < 10 → nat_lt m 10 ≡ true
-small_is m h = grind (arith, nat_tests)
-
 glyph : (n : ℕ) → is_digit (digit_glyph false (n % 10)) ≡ true
-glyph n = let h : n % 10 < 10 = mod-lt n (lit< tt) in go (nat_lt (n % 10) 10) (small_is (n % 10) h)
-  where
-    go : (b : Bool) → b ≡ true → is_digit (if b then 48 + n % 10 else 87 + n % 10) ≡ true
-    go true e = small_glyph (n % 10) (mod-lt n (lit< tt))
-    go false e = absurd (cc e)
+glyph n = grind (arith, nat_tests)
 
 digits_number : (k n c : ℕ) (acc : List ℕ) → every is_digit (c ∷ acc) ≡ true → is_number (digits_onto k 10 false n (c ∷ acc)) ≡ true
 digits_number zero n c acc h = h
@@ -34,18 +24,14 @@ pub every_number : (d : List ℕ) → is_number d ≡ true → every is_digit d 
 every_number [] h = refl
 every_number (c ∷ d) h = h
 
-bare_number : (a b : Bool) → a ≡ true → (a || b) ≡ true
-bare_number true b h = refl
-bare_number false b h = absurd (cc h)
-
 pub no_minus : (c : ℕ) → is_digit c ≡ true → eqb c 45 ≡ false
 no_minus c h = grind (arith, nat_tests)
 
 pub number_text : (w : List ℕ) → is_number w ≡ true → is_literal_text w ≡ true
 number_text [] h = absurd (cc h)
 number_text (c ∷ cs) h = let e = no_minus c (and_left (is_digit c) (every is_digit cs) h) in
-    rw e (bare_number (is_number (c ∷ cs)) (is_based (c ∷ cs) || is_filled (c ∷ cs)) h)
+    rw e (or_left (is_number (c ∷ cs)) (is_based (c ∷ cs) || is_filled (c ∷ cs)) h)
 
 pub signed_text : (z : ℤ) → is_literal_text (signed_decimal z) ≡ true
 signed_text (pos n) = number_text (decimal n) (decimal_number n)
-signed_text (negsuc n) = let h = decimal_number (suc n) in bare_number (is_number (decimal (suc n))) (is_based (decimal (suc n)) || is_filled (decimal (suc n))) h
+signed_text (negsuc n) = let h = decimal_number (suc n) in or_left (is_number (decimal (suc n))) (is_based (decimal (suc n)) || is_filled (decimal (suc n))) h

@@ -168,18 +168,6 @@ unfolding scan
 scan_operator LogicOr rest = refl
 scan_operator _ rest = refl
 
-opens_assign : (tight : Bool) (c : ℕ) (cs : List ℕ) → opens tight (c ∷ cs) ≡ true → eqb c 61 ≡ false
-opens_assign tight c cs h = not_or_left (eqb c 61) (eqb c 58) (and_left _ _ h)
-
-opens_colon : (tight : Bool) (c : ℕ) (cs : List ℕ) → opens tight (c ∷ cs) ≡ true → eqb c 58 ≡ false
-opens_colon tight c cs h = not_or_right (eqb c 61) (eqb c 58) (and_left _ _ h)
-
-opens_and : (c : ℕ) (cs : List ℕ) → opens true (c ∷ cs) ≡ true → eqb c 38 ≡ false
-opens_and c cs h = not_or_left (eqb c 38) (eqb c 124) (and_right _ _ h)
-
-opens_or : (c : ℕ) (cs : List ℕ) → opens true (c ∷ cs) ≡ true → eqb c 124 ≡ false
-opens_or c cs h = not_or_right (eqb c 38) (eqb c 124) (and_right _ _ h)
-
 -- an operator that may grow, before a byte that does not make it longer
 scan_pending : (g : Token) (c : ℕ) (cs : List ℕ) → grown g c ≡ None → scan (Pending g) (c ∷ cs) ≡ cons_token g (scan Gap (c ∷ cs))
 unfolding scan
@@ -187,19 +175,19 @@ scan_pending g c cs e = rw e (join_after g (start c).out (scan (start c).state c
 
 pub scan_not : (a : List ℕ) → opens true a ≡ true → scan (Pending (Operator LogicNot)) a ≡ cons_token (Operator LogicNot) (scan Gap a)
 scan_not [] h = cc
-scan_not (c ∷ cs) h = scan_pending (Operator LogicNot) c cs (rw (opens_assign true c cs h))
+scan_not (c ∷ cs) h = scan_pending (Operator LogicNot) c cs (rw (not_or_left (eqb c 61) (eqb c 58) (and_left _ _ h)))
 
 pub scan_and : (a : List ℕ) → opens true a ≡ true → scan (Pending (Operator BitAnd)) a ≡ cons_token (Operator BitAnd) (scan Gap a)
 scan_and [] h = cc
-scan_and (c ∷ cs) h = scan_pending (Operator BitAnd) c cs (rw (opens_and c cs h))
+scan_and (c ∷ cs) h = scan_pending (Operator BitAnd) c cs (rw (not_or_left (eqb c 38) (eqb c 124) (and_right (not (eqb c 61 || eqb c 58)) (not (eqb c 38 || eqb c 124)) h)))
 
 pub scan_or : (a : List ℕ) → opens true a ≡ true → scan (Pending (Operator BitOr)) a ≡ cons_token (Operator BitOr) (scan Gap a)
 scan_or [] h = cc
-scan_or (c ∷ cs) h = scan_pending (Operator BitOr) c cs (rw (opens_or c cs h))
+scan_or (c ∷ cs) h = scan_pending (Operator BitOr) c cs (rw (not_or_right (eqb c 38) (eqb c 124) (and_right (not (eqb c 61 || eqb c 58)) (not (eqb c 38 || eqb c 124)) h)))
 
 pub scan_colon : (a : List ℕ) → opens false a ≡ true → scan (Pending (Mark Colon)) a ≡ cons_token (Mark Colon) (scan Gap a)
 scan_colon [] h = cc
-scan_colon (c ∷ cs) h = scan_pending (Mark Colon) c cs (rw (opens_colon false c cs h))
+scan_colon (c ∷ cs) h = scan_pending (Mark Colon) c cs (rw (not_or_right (eqb c 61) (eqb c 58) (and_left _ _ h)))
 
 pub opens_letter : (tight : Bool) (c : ℕ) (cs : List ℕ) → is_letter c ≡ true → opens tight (c ∷ cs) ≡ true
 opens_letter true c cs h = grind (arith, nat_tests)

@@ -9,26 +9,31 @@ ghost use Rattle.vast_print.specs.WorkedPages.{WorkedPages};
 ghost use Rattle.vast_literal.specs.FileGrammar.{OneDeclaration, OneStatement, OneMember, OneFile};
 
 /// A token list spells at most one expression.
+#[tactic(auto, using(vast_expressions::proofs::Uniqueness::one_expression))]
 pub fn one_expression()
     ensures { OneExpression }
 {}
 
 /// A token list spells at most one declaration.
+#[tactic(auto, using(vast_rows::proofs::OneEach::one_declaration))]
 pub fn one_declaration()
     ensures { OneDeclaration }
 {}
 
 /// A token list spells at most one statement.
+#[tactic(auto, using(vast_rows::proofs::OneEach::one_statement))]
 pub fn one_statement()
     ensures { OneStatement }
 {}
 
 /// A token list spells at most one member of a module.
+#[tactic(auto, using(vast_rows::proofs::OneEach::one_member))]
 pub fn one_member()
     ensures { OneMember }
 {}
 
 /// A token list spells at most one file.
+#[tactic(auto, using(vast_rows::proofs::Bridge::one_file))]
 pub fn one_file()
     ensures { OneFile }
 {}
