@@ -1,32 +1,29 @@
 -- What the arenas hold after a growth, and that they stay sound.
 use Rattle.std.proofs.Common.{◌≡◌, ℕ, ◌<◌, Bool, true, false, List, [], ◌∷◌, ◌++◌, length, map, Option, Some, None, refl, sym, ap, ◌∙◌, arith, subst}
-use Rattle.std.proofs.lemmas.List.{length-map}
-use Rattle.vast_core.specs.declared.node.ExprNode.{ExprNode}
+use Rattle.std.proofs.lemmas.List.{length-map, append-nil}
 use Rattle.vast_core.specs.declared.node.Nest.{Nest}
-use Rattle.vast_core.specs.declared.handle.VastModule.{VastModule}
+use Rattle.vast_core.specs.Handles.{VastModule}
 use Rattle.vast_core.specs.declared.node.Module.{Module}
-use Rattle.vast_core.specs.declared.node.Assignment.{Assignment}
-use Rattle.vast_core.specs.declared.node.FileItem.{FileItem}
 use Rattle.vast_core.specs.declared.node.Function.{Function}
 use Rattle.vast_core.specs.ArenaState.{ArenaState}
-use Rattle.vast_core.specs.Nodes.{no_nodes}
+use Rattle.vast_core.specs.Nodes.{ExprNode, no_nodes}
 use Rattle.vast_core.specs.Internal.Nodes.{TermsSound}
-use Rattle.vast_core.specs.Records.{ModuleRecord, Member, changed_at, with_listed_port, with_listed_parameter, module_record, instance_record}
+use Rattle.vast_core.specs.Records.{FileItem, Assignment, ModuleRecord, changed_at, module_record, instance_record}
 use Rattle.vast_core.specs.Nests.{NestRecord, BlockRecord, FunctionRecord, nest_record, function_record, always_record}
 use Rattle.vast_core.specs.Functions.{with_listed_variable}
 use Rattle.vast_core.specs.Bench.{Bench}
 use Rattle.vast_core.specs.View.{bench}
 use Rattle.vast_core.specs.Sound.{FileSound}
 use Rattle.vast_core.specs.Internal.Sound.{IsSound}
-use Rattle.vast_core.specs.Containers.{with_entry}
-use Rattle.vast_core.specs.Internal.Containers.{Listing, Nowhere, InHeader, InPorts, InModule, InFunction, InNest, with_listed, listed_modules, listed_functions, listed_nests, listed_items, listed_detached, added, with_empty_block, detached_left, with_fresh, Fresh, ListingSound, GrowthSound, after_growth, no_fresh}
+use Rattle.vast_core.specs.Containers.{with_entry, with_unique}
+use Rattle.vast_core.specs.Internal.Containers.{ModuleChange, with_change, Listing, Nowhere, InModule, InFunction, InNest, AsUnique, listed_modules, listed_functions, listed_nests, listed_items, listed_detached, added, with_empty_block, detached_left, with_fresh, Fresh, ListingSound, GrowthSound, after_growth, no_fresh}
 use Rattle.vast_core.specs.Internal.Arrivals.{ListingThere, fresh_node, fresh_of, terms_of}
-use Rattle.vast_core.specs.declared.ast.arrivals.Arrivals.{Arrivals}
-use Rattle.vast_core.proofs.Readers.{module-below, length-nests}
+use Rattle.vast_core.specs.declared.ast.arrivals.Terms.{Terms}
+use Rattle.vast_core.specs.declared.ast.arrivals.Node.{Node}
+use Rattle.vast_core.proofs.Readers.{module-arena, arena-below, function-arena, length-nests}
 use Rattle.vast_core.proofs.NodeLaws.{built-append, TermsSound-append}
 use Rattle.vast_core.proofs.Nests.{changed-before}
 use Rattle.vast_core.proofs.Added.{length-added}
-use Rattle.vast_core.proofs.NestReaders.{function-below}
 use Rattle.vast_core.proofs.Growing.{FileSound-growth}
 
 -- The arenas after a growth.
@@ -50,13 +47,12 @@ swapped-nests :
     with_empty_block block (added (listed_nests l ns) o) ≡ listed_nests l (with_empty_block block (added ns o))
 swapped-nests (InNest place entry) m k ns o block h =
     ap (with_empty_block block) (before-added (with_entry entry) ns o place h) ∙ before-block (with_entry entry) (added ns o) block place (omega (arith, length-added ns o, h))
-swapped-nests Nowhere m k ns o block h = refl
+swapped-nests (AsUnique place unique) m k ns o block h =
+    ap (with_empty_block block) (before-added (with_unique unique) ns o place h) ∙ before-block (with_unique unique) (added ns o) block place (omega (arith, length-added ns o, h))
 swapped-nests _ m k ns o block h = refl
 
 swapped-modules : (l : Listing) (n k : ℕ) (ms : List ModuleRecord) (o : Option ModuleRecord) → ListingThere (length ms) n k l → added (listed_modules l ms) o ≡ listed_modules l (added ms o)
-swapped-modules (InHeader owner p) n k ms o h = before-added (with_listed_parameter p) ms o owner.id.index h
-swapped-modules (InPorts owner port name) n k ms o h = before-added (with_listed_port port name) ms o owner.id.index h
-swapped-modules (InModule owner entry name) n k ms o h = before-added (with_listed entry name) ms o owner.id.index h
+swapped-modules (InModule owner change) n k ms o h = before-added (with_change change) ms o owner.id.index h
 swapped-modules _ n k ms o h = refl
 
 swapped-functions : (l : Listing) (m n : ℕ) (fs : List FunctionRecord) (o : Option FunctionRecord) → ListingThere m n (length fs) l → added (listed_functions l fs) o ≡ listed_functions l (added fs o)
@@ -143,29 +139,29 @@ sound-still a b ts xs ns ms fs is t x n m f e terms assignments nests modules fu
 
 -- What the code has done is that growth: n1, m1 and f1 are the lists after the entry, n2 is the containers after the new one.
 pub admitted :
-    (b z : ArenaState) (l : Listing) (y : Arrivals) (n1 n2 : List Nest) (m1 : List Module) (f1 : List Function) →
+    (b z : ArenaState) (l : Listing) (ts : Terms) (y : Node) (block : Bool) (n1 n2 : List Nest) (m1 : List Module) (f1 : List Function) →
     ListingThere (length b.modules) (length b.nests) (length b.functions) l → z.file_type ≡ b.file_type → z.id ≡ b.id →
-    z.terms ≡ b.terms ++ terms_of y.terms → z.assignments ≡ added b.assignments (fresh_node y.node).assignment →
-    map nest_record n1 ≡ listed_nests l (map nest_record b.nests) → map nest_record n2 ≡ added (map nest_record n1) (fresh_node y.node).container → map nest_record z.nests ≡ with_empty_block y.block (map nest_record n2) →
-    z.ports ≡ added b.ports (fresh_node y.node).port →
-    map module_record m1 ≡ listed_modules l (map module_record b.modules) → map module_record z.modules ≡ added (map module_record m1) (fresh_node y.node).fresh_module →
-    map function_record f1 ≡ listed_functions l (map function_record b.functions) → map function_record z.functions ≡ added (map function_record f1) (fresh_node y.node).function →
-    z.definitions ≡ added b.definitions (fresh_node y.node).definition →
-    z.artifacts ≡ added b.artifacts (fresh_node y.node).artifact →
-    map instance_record z.instances ≡ added (map instance_record b.instances) (fresh_node y.node).instance →
-    map always_record z.always_blocks ≡ added (map always_record b.always_blocks) (fresh_node y.node).always_block →
-    z.items ≡ listed_items l b.items → z.detached ≡ listed_detached l (detached_left (fresh_node y.node).takes_detached b.detached) → Admitted b z l (fresh_of y)
-admitted b z l y n1 n2 m1 f1 there file_type id t x p q r ports m modules f functions d a i u items detached =
+    z.terms ≡ b.terms ++ terms_of ts → z.assignments ≡ added b.assignments (fresh_node y).assignment →
+    map nest_record n1 ≡ listed_nests l (map nest_record b.nests) → map nest_record n2 ≡ added (map nest_record n1) (fresh_node y).container → map nest_record z.nests ≡ with_empty_block block (map nest_record n2) →
+    z.ports ≡ added b.ports (fresh_node y).port →
+    map module_record m1 ≡ listed_modules l (map module_record b.modules) → map module_record z.modules ≡ added (map module_record m1) (fresh_node y).fresh_module →
+    map function_record f1 ≡ listed_functions l (map function_record b.functions) → map function_record z.functions ≡ added (map function_record f1) (fresh_node y).function →
+    z.definitions ≡ added b.definitions (fresh_node y).definition →
+    z.artifacts ≡ added b.artifacts (fresh_node y).artifact →
+    map instance_record z.instances ≡ added (map instance_record b.instances) (fresh_node y).instance →
+    map always_record z.always_blocks ≡ added (map always_record b.always_blocks) (fresh_node y).always_block →
+    z.items ≡ listed_items l b.items → z.detached ≡ listed_detached l (detached_left (fresh_node y).takes_detached b.detached) → Admitted b z l (fresh_of ts y block)
+admitted b z l ts y block n1 n2 m1 f1 there file_type id t x p q r ports m modules f functions d a i u items detached =
     record {
       there = there;
       file_type = file_type;
       id = id;
       terms = t;
       assignments = x;
-      nests = r ∙ ap (with_empty_block y.block) (q ∙ ap (λ z. added z (fresh_node y.node).container) p);
+      nests = r ∙ ap (with_empty_block block) (q ∙ ap (λ z. added z (fresh_node y).container) p);
       ports = ports;
-      modules = modules ∙ ap (λ z. added z (fresh_node y.node).fresh_module) m;
-      functions = functions ∙ ap (λ z. added z (fresh_node y.node).function) f;
+      modules = modules ∙ ap (λ z. added z (fresh_node y).fresh_module) m;
+      functions = functions ∙ ap (λ z. added z (fresh_node y).function) f;
       definitions = d;
       artifacts = a;
       instances = i;
@@ -181,22 +177,28 @@ pub admitted-alone :
 admitted-alone b new o ts xs t x terms assignments =
     record { there = tt; file_type = refl; id = refl; terms = terms; assignments = assignments; nests = refl; ports = refl; modules = refl; functions = refl; definitions = refl; artifacts = refl; instances = refl; always_blocks = refl; items = refl; detached = refl }
 
--- So has a member of a module.
-pub admitted-member :
-    (b : ArenaState) (owner : VastModule) (entry : Member) (name : Option (List ℕ)) (new : List ExprNode) (ts : List ExprNode) (ms : List Module) (t m : ℕ) → owner.id.index < length b.modules →
-    ts ≡ b.terms ++ new → map module_record ms ≡ changed_at owner.id.index (with_listed entry name) (map module_record b.modules) →
-    Admitted b (record b { terms = ts; modules = ms; term_room = t; module_room = m }) (InModule owner entry name) (record no_fresh { terms = new })
-admitted-member b owner entry name new ts ms t m there terms modules =
+-- So have expressions and types, and a module has changed.
+pub admitted-change :
+    (b : ArenaState) (owner : VastModule) (change : ModuleChange) (new : List ExprNode) (ts : List ExprNode) (ms : List Module) (t m : ℕ) → owner.id.index < length b.modules →
+    ts ≡ b.terms ++ new → map module_record ms ≡ changed_at owner.id.index (with_change change) (map module_record b.modules) →
+    Admitted b (record b { terms = ts; modules = ms; term_room = t; module_room = m }) (InModule owner change) (record no_fresh { terms = new })
+admitted-change b owner change new ts ms t m there terms modules =
     record { there = there; file_type = refl; id = refl; terms = terms; assignments = refl; nests = refl; ports = refl; modules = modules; functions = refl; definitions = refl; artifacts = refl; instances = refl; always_blocks = refl; items = refl; detached = refl }
+
+-- So is a case statement `unique`, or not.
+pub admitted-unique :
+    (b : ArenaState) (place : ℕ) (unique : Bool) (ns : List Nest) (n : ℕ) → place < length b.nests → map nest_record ns ≡ changed_at place (with_unique unique) (map nest_record b.nests) →
+    Admitted b (record b { nests = ns; nest_room = n }) (AsUnique place unique) no_fresh
+admitted-unique b place unique ns n there nests =
+    record { there = there; file_type = refl; id = refl; terms = sym (append-nil b.terms); assignments = refl; nests = nests; ports = refl; modules = refl; functions = refl; definitions = refl; artifacts = refl; instances = refl; always_blocks = refl; items = refl; detached = refl }
 
 -- The list that gains the entry is there.
 
 listing-there : (a b : ArenaState) (c : Bench) (l : Listing) → b ≡ a → ListingSound (bench a) c l → ListingThere (length b.modules) (length b.nests) (length b.functions) l
-listing-there a b c (InHeader owner p) e h = module-below a b owner.id.index e h.0.of_kind
-listing-there a b c (InPorts owner port name) e h = module-below a b owner.id.index e h.owner_there.of_kind
-listing-there a b c (InModule owner entry name) e h = module-below a b owner.id.index e h.owner_there.of_kind
-listing-there a b c (InFunction f local v) e h = function-below a b f.id.index e h.function_there.of_kind
+listing-there a b c (InModule owner change) e h = arena-below module-arena a b owner.id.index e h.0.of_kind
+listing-there a b c (InFunction f local v) e h = arena-below function-arena a b f.id.index e h.function_there.of_kind
 listing-there a b c (InNest place entry) e h = let k : place < length (bench a).nests = h.0 in rw (length-nests a b e) at k
+listing-there a b c (AsUnique place unique) e h = rw (length-nests a b e) at h
 listing-there a b c _ e h = tt
 
 pub growth-there : (a b : ArenaState) (l : Listing) (f : Fresh) → b ≡ a → GrowthSound (bench a) l f → ListingThere (length b.modules) (length b.nests) (length b.functions) l

@@ -2,8 +2,7 @@
 use Rattle.std.proofs.Common.{◌≡◌, ◌<◌, ◌^◌, ℤ, pos, ◌*ℤ◌, ◌≤ℤ◌, List, [], ◌++◌, Some, All, refl, sym, ap, ◌∙◌}
 use Rattle.std.proofs.Math.IntN.{*ℤ_comm}
 use Rattle.vast_literal.specs.Tree.{TypeTree, PackedTree, UnpackedTree}
-use Rattle.vast_core.specs.declared.handle.VastDataType.{VastDataType}
-use Rattle.vast_core.specs.Handles.{type_rank}
+use Rattle.vast_core.specs.Handles.{VastDataType, type_rank}
 use Rattle.vast_core.specs.Types.{TypeWellFormed}
 use Rattle.vast_literal.specs.Shape.{base_of}
 use Rattle.vast_core.specs.Bench.{Bench, OwnsType, type_of}

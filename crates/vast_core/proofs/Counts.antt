@@ -2,10 +2,9 @@
 use Rattle.std.proofs.Common.{◌≡◌, ℕ, zero, suc, ◌+◌, ◌≤◌, Bool, true, false, not, List, [], ◌∷◌, ◌++◌, flat_map, count_by, filter, take, drop, Option, Some, None, refl, ap, ◌∙◌, arith, cond, take-append-drop}
 use Rattle.std.proofs.lemmas.Grind.{flat_map-append}
 use Rattle.std.proofs.lemmas.List.Sums.{sum_by-append}
-use Rattle.vast_core.specs.Records.{changed_at}
+use Rattle.vast_core.specs.Records.{changed_at, Member}
 use Rattle.vast_core.specs.Internal.Containers.{added, read_off}
 use Rattle.vast_core.specs.Hoisting.{parted, hoisted, is_declaration}
-use Rattle.vast_core.specs.Records.{Member}
 
 pub count-append : {A : Type 0} (t : A → Bool) (xs ys : List A) → count_by t (xs ++ ys) ≡ count_by t xs + count_by t ys
 count-append t xs ys = sum_by-append (λ x. cond (t x) 1 0) xs ys

@@ -1,11 +1,7 @@
 -- What calls that grow a container know: what comes, and the entry that names it, are the file's.
 use Rattle.std.proofs.Common.{◌≡◌, suc, ◌<◌, true, false, List, [], ◌∷◌, ◌++◌, length, Option, Some, None, slice_get, refl, arith, length-append}
 use Rattle.std.specs.Prelude.{IfSome}
-use Rattle.vast_core.specs.declared.handle.Expr.{Expr}
-use Rattle.vast_core.specs.declared.handle.VastStatementBlock.{VastStatementBlock}
-use Rattle.vast_core.specs.declared.handle.Conditional.{Conditional}
-use Rattle.vast_core.specs.declared.handle.CaseStatement.{CaseStatement}
-use Rattle.vast_core.specs.declared.handle.GenerateLoop.{GenerateLoop}
+use Rattle.vast_core.specs.Handles.{Expr, VastStatementBlock, Conditional, CaseStatement, GenerateLoop}
 use Rattle.vast_literal.specs.declared.kind.CaseKind.{CaseKind}
 use Rattle.vast_core.specs.declared.node.Assignment.{Assignment}
 use Rattle.vast_core.specs.Nests.{Statement, AssignStatement, ContinuousStatement, ConditionalStatement, CasesStatement, BlockRecord, is_kind, BlockKind, ConditionalKind, CaseStatementKind, LoopKind}

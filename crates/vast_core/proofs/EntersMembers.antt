@@ -3,12 +3,7 @@
 use Rattle.std.proofs.Common.{◌≡◌, ℕ, false, List, [], ◌∷◌, length, Option, Some, All, refl, arith, length-append}
 use Rattle.std.specs.Prelude.{IfSome}
 use Rattle.vast_literal.specs.Tree.{NameTree, MaybeType, Untyped, Typed}
-use Rattle.vast_core.specs.declared.handle.Expr.{Expr}
-use Rattle.vast_core.specs.declared.handle.VastModule.{VastModule}
-use Rattle.vast_core.specs.declared.handle.VastDataType.{VastDataType}
-use Rattle.vast_core.specs.declared.handle.LogicRef.{LogicRef}
-use Rattle.vast_core.specs.declared.handle.VastFunction.{VastFunction}
-use Rattle.vast_core.specs.declared.handle.VastStatementBlock.{VastStatementBlock}
+use Rattle.vast_core.specs.Handles.{Expr, VastModule, VastDataType, LogicRef, VastFunction, VastStatementBlock}
 use Rattle.vast_literal.specs.declared.kind.AlwaysKind.{AlwaysKind}
 use Rattle.vast_core.specs.Nodes.{Root, ExprRoot, with_node}
 use Rattle.vast_core.specs.Records.{FunctionEntry}
@@ -17,7 +12,7 @@ use Rattle.vast_core.specs.Bench.{Bench, NameIsFree, OwnsExpr, OwnsType, OwnsBlo
 use Rattle.vast_core.specs.Growth.{with_named_member, next_logic_ref, next_continuous, with_assignment}
 use Rattle.vast_core.specs.Sound.{EventSound}
 use Rattle.vast_core.specs.Containers.{next_block}
-use Rattle.vast_core.specs.Internal.Containers.{after_growth, InModule, with_fresh, GrowthSound, FreshSound}
+use Rattle.vast_core.specs.Internal.Containers.{after_growth, MembersGain, InModule, with_fresh, GrowthSound, FreshSound}
 use Rattle.vast_core.specs.Loops.{with_function, next_always, next_loop, next_function, new_always, with_always, new_loop, new_function}
 use Rattle.vast_core.proofs.Loops.{fresh_always, fresh_name, fresh_loop, fresh_function}
 use Rattle.vast_core.proofs.Lists.{slice_get-seam, Each-own}
@@ -91,7 +86,7 @@ body_owned b variable name type = record { of_file = refl; of_kind = rw (slice_g
 
 pub function-enters :
     (b : Bench) (owner : VastModule) (variable : List ℕ) (name : List ℕ) (type : VastDataType) → OwnsModule b owner → OwnsType b type → NameIsFree b owner name →
-    GrowthSound b (InModule owner (FunctionEntry (next_function b)) (Some name)) (fresh_function variable type (new_function b name type))
+    GrowthSound b (InModule owner (MembersGain (FunctionEntry (next_function b)) (Some name))) (fresh_function variable type (new_function b name type))
 function-enters b owner variable name type h k free =
     let r : Root = ExprRoot (NameTree variable (Typed (type_of b type))) in
     record {
@@ -118,7 +113,7 @@ function-enters b owner variable name type h k free =
         };
         always_block = tt;
       };
-      listing = record { owner_there = h; member = function_owned b variable name type; kind = tt; declares = rw (slice_get-seam b.functions (new_function b name type)) refl; free = free };
+      listing = (h, record { member = function_owned b variable name type; kind = tt; declares = rw (slice_get-seam b.functions (new_function b name type)) refl; free = free });
       placed = refl;
     }
 
@@ -126,14 +121,14 @@ function-enters b owner variable name type h k free =
 pub function-enters-as :
     (b : Bench) (owner : VastModule) (h : VastFunction) (variable : List ℕ) (taken name : List ℕ) (type : VastDataType) (g : LogicRef) (inputs locals : List FunctionVariable) (body : VastStatementBlock) (names : List (List ℕ)) →
     h ≡ next_function b → g ≡ next_logic_ref b → inputs ≡ [] → locals ≡ [] → body ≡ next_block b → names ≡ name ∷ [] → taken ≡ name → OwnsModule b owner → OwnsType b type → NameIsFree b owner name →
-    GrowthSound b (InModule owner (FunctionEntry h) (Some taken)) (fresh_function variable type (record { name = name; result_type = type; result_name = g; inputs = inputs; locals = locals; body = body; names = names }))
+    GrowthSound b (InModule owner (MembersGain (FunctionEntry h) (Some taken))) (fresh_function variable type (record { name = name; result_type = type; result_name = g; inputs = inputs; locals = locals; body = body; names = names }))
 function-enters-as b owner h variable taken name type g inputs locals body names e f i l x n t o k free = rw (e, f, i, l, x, n, t) (function-enters b owner variable name type o k free)
 
 -- What the file is after this growth.
 pub function-grown :
     (b : Bench) (owner : VastModule) (h : VastFunction) (variable : List ℕ) (n taken name : List ℕ) (type : VastDataType) (g : LogicRef) (inputs locals : List FunctionVariable) (body : VastStatementBlock) (names : List (List ℕ)) →
     h ≡ next_function b → g ≡ next_logic_ref b → inputs ≡ [] → locals ≡ [] → body ≡ next_block b → names ≡ n ∷ [] → taken ≡ n → name ≡ n → variable ≡ n →
-    after_growth (InModule owner (FunctionEntry h) (Some taken)) (fresh_function variable type (record { name = name; result_type = type; result_name = g; inputs = inputs; locals = locals; body = body; names = names })) b
+    after_growth (InModule owner (MembersGain (FunctionEntry h) (Some taken))) (fresh_function variable type (record { name = name; result_type = type; result_name = g; inputs = inputs; locals = locals; body = body; names = names })) b
     ≡ with_named_member owner (FunctionEntry (next_function b)) n (with_function n type b)
 function-grown b owner h variable n taken name type g inputs locals body names e f i l x m t o v = rw (e, f, i, l, x, m, t, o, v) refl
 

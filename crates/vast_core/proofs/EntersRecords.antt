@@ -3,22 +3,17 @@
 use Rattle.std.proofs.Common.{◌≡◌, ℕ, Bool, List, [], ◌∷◌, length, Option, Some, refl, length-append}
 use Rattle.std.specs.Prelude.{IfSome}
 use Rattle.vast_literal.specs.Tree.{NameTree, Typed}
-use Rattle.vast_core.specs.declared.handle.LogicRef.{LogicRef}
-use Rattle.vast_core.specs.declared.handle.ModulePort.{ModulePort}
-use Rattle.vast_core.specs.declared.handle.VastModule.{VastModule}
-use Rattle.vast_core.specs.declared.handle.VastFunction.{VastFunction}
-use Rattle.vast_core.specs.declared.handle.VastDataType.{VastDataType}
+use Rattle.vast_core.specs.Handles.{LogicRef, ModulePort, VastModule, VastFunction, VastDataType}
 use Rattle.vast_literal.specs.declared.kind.DataKind.{DataKind}
 use Rattle.vast_literal.specs.declared.kind.ModulePortDirection.{ModulePortDirection}
-use Rattle.vast_core.specs.declared.node.Assignment.{Assignment}
 use Rattle.vast_core.specs.Nodes.{Root, ExprRoot, with_node}
-use Rattle.vast_core.specs.Records.{Port, ParameterPort, DeclarationEntry, FileItem, Definition, Artifact, InstanceRecord}
+use Rattle.vast_core.specs.Records.{Assignment, Port, ParameterPort, DeclarationEntry, FileItem, Definition, Artifact, InstanceRecord}
 use Rattle.vast_core.specs.Nests.{FunctionVariable}
 use Rattle.vast_core.specs.Bench.{Bench, OwnsExpr, OwnsType, OwnsModule, OwnsFunction, NameIsFree, IsFreeInFunction, type_of}
 use Rattle.vast_core.specs.Growth.{next_port, next_logic_ref}
 use Rattle.vast_core.specs.Sound.{AssignmentSound, EntrySound, DefinitionSound, ArtifactSound, InstanceSound, GivesValues}
 use Rattle.vast_core.specs.WrittenKinds.{IsOwnKind, IsVariableKind}
-use Rattle.vast_core.specs.Internal.Containers.{Nowhere, InFile, InHeader, InPorts, InModule, InFunction, GrowthSound, Fresh, no_fresh, fresh_assignment, with_fresh}
+use Rattle.vast_core.specs.Internal.Containers.{HeaderGains, PortsGain, MembersGain, Nowhere, InFile, InModule, InFunction, GrowthSound, Fresh, no_fresh, fresh_assignment, with_fresh}
 use Rattle.vast_core.proofs.Loops.{fresh_name, name_term}
 use Rattle.vast_core.proofs.Lists.{slice_get-seam}
 use Rattle.vast_core.proofs.NodeLaws.{Extends-root, HasType-kept}
@@ -65,25 +60,25 @@ item-enters b e h = record { fresh = nothing-comes b b; listing = h; placed = re
 
 pub declaration-enters :
     (b : Bench) (owner : VastModule) (kind : DataKind) (own taken : List ℕ) (name : List ℕ) (t : VastDataType) → own ≡ taken → OwnsModule b owner → IsOwnKind kind → OwnsType b t → NameIsFree b owner taken →
-    GrowthSound b (InModule owner (DeclarationEntry kind own t) (Some taken)) (fresh_name name (Some t))
+    GrowthSound b (InModule owner (MembersGain (DeclarationEntry kind own t) (Some taken))) (fresh_name name (Some t))
 declaration-enters b owner kind own taken name t e h own_kind k free =
     let f : Fresh = fresh_name name (Some t) in
     rw e (record {
       fresh = name-comes b name (Some t) k;
-      listing = record { owner_there = h; member = MemberSound-kept b (with_fresh f b) (Grows-fresh b f) (DeclarationEntry kind taken t) k; kind = own_kind; declares = refl; free = free };
+      listing = (h, record { member = MemberSound-kept b (with_fresh f b) (Grows-fresh b f) (DeclarationEntry kind taken t) k; kind = own_kind; declares = refl; free = free });
       placed = refl;
     })
 
 pub declaration-enters-as :
     (b : Bench) (owner : VastModule) (kind : DataKind) (n own taken : List ℕ) (name : List ℕ) (t : VastDataType) → own ≡ n → taken ≡ n → OwnsModule b owner → IsOwnKind kind → OwnsType b t → NameIsFree b owner n →
-    GrowthSound b (InModule owner (DeclarationEntry kind own t) (Some taken)) (fresh_name name (Some t))
+    GrowthSound b (InModule owner (MembersGain (DeclarationEntry kind own t) (Some taken))) (fresh_name name (Some t))
 declaration-enters-as b owner kind n own taken name t e f h own_kind k free = rw (e, f) (declaration-enters b owner kind n n name t refl h own_kind k free)
 
 -- The header and the ports of a module.
 
 pub header-enters :
     (b : Bench) (owner : VastModule) (p : ParameterPort) (name : List ℕ) (type : Option VastDataType) → OwnsModule b owner → IfSome p.data_type (OwnsType b) → OwnsExpr b p.value → IfSome type (OwnsType b) →
-    GrowthSound b (InHeader owner p) (fresh_name name type)
+    GrowthSound b (InModule owner (HeaderGains p)) (fresh_name name type)
 header-enters b owner p name type h k l m =
     let f : Fresh = fresh_name name type in
     record { fresh = name-comes b name type m; listing = (h, ParameterPortSound-kept b (with_fresh f b) (Grows-fresh b f) p (k, l)); placed = refl }
@@ -96,7 +91,7 @@ new_port b direction kind name t = record { direction = direction; kind = kind; 
 
 pub port-enters :
     (b : Bench) (owner : VastModule) (direction : ModulePortDirection) (kind : DataKind) (taken : List ℕ) (name : List ℕ) (t : VastDataType) → OwnsModule b owner → OwnsType b t → NameIsFree b owner taken →
-    GrowthSound b (InPorts owner (next_port b) taken) (fresh_port name t (new_port b direction kind taken t))
+    GrowthSound b (InModule owner (PortsGain (next_port b) taken)) (fresh_port name t (new_port b direction kind taken t))
 port-enters b owner direction kind taken name t h k free =
     let p : Port = new_port b direction kind taken t in
     let r : Root = ExprRoot (NameTree name (Typed (type_of b t))) in
@@ -113,14 +108,14 @@ port-enters b owner direction kind taken name t h k free =
         instance = tt;
         always_block = tt;
       };
-      listing = record { owner_there = h; port_there = record { of_file = refl; of_kind = rw (length-append b.ports (p ∷ [])) (last-test (length b.ports)) }; declares = rw (slice_get-seam b.ports p) refl; free = free };
+      listing = (h, record { port_there = record { of_file = refl; of_kind = rw (length-append b.ports (p ∷ [])) (last-test (length b.ports)) }; declares = rw (slice_get-seam b.ports p) refl; free = free });
       placed = refl;
     }
 
 pub port-enters-as :
     (b : Bench) (owner : VastModule) (q : ModulePort) (g : LogicRef) (direction : ModulePortDirection) (kind : DataKind) (n own taken : List ℕ) (name : List ℕ) (t : VastDataType) →
     q ≡ next_port b → g ≡ next_logic_ref b → own ≡ n → taken ≡ n → OwnsModule b owner → OwnsType b t → NameIsFree b owner n →
-    GrowthSound b (InPorts owner q taken) (fresh_port name t (record { direction = direction; kind = kind; name = own; data_type = t; logic_ref = g }))
+    GrowthSound b (InModule owner (PortsGain q taken)) (fresh_port name t (record { direction = direction; kind = kind; name = own; data_type = t; logic_ref = g }))
 port-enters-as b owner q g direction kind n own taken name t e f i j h k free = rw (e, f, i, j) (port-enters b owner direction kind n name t h k free)
 
 -- Inputs and locals of a function.

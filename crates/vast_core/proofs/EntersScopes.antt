@@ -3,11 +3,7 @@ use Rattle.std.proofs.Common.{◌≡◌, ℕ, ◌<◌, Bool, true, false, List, 
 use Rattle.std.specs.Prelude.{IfSome}
 use Rattle.vast_core.specs.declared.ast.scope.Scope.{Scope}
 use Rattle.vast_core.specs.declared.ast.scope.Scope.TheVariants.{Module as ScopeModule, Loop as ScopeLoop}
-use Rattle.vast_core.specs.declared.handle.Expr.{Expr}
-use Rattle.vast_core.specs.declared.handle.LogicRef.{LogicRef}
-use Rattle.vast_core.specs.declared.handle.GenerateLoop.{GenerateLoop}
-use Rattle.vast_core.specs.declared.handle.VastDataType.{VastDataType}
-use Rattle.vast_core.specs.declared.handle.VastStatementBlock.{VastStatementBlock}
+use Rattle.vast_core.specs.Handles.{Expr, LogicRef, GenerateLoop, VastDataType, VastStatementBlock}
 use Rattle.vast_literal.specs.declared.kind.AlwaysKind.{AlwaysKind}
 use Rattle.vast_core.specs.Records.{Member, DeclarationEntry, AssignmentEntry, ParameterEntry, FunctionEntry, AlwaysEntry, ConditionalEntry, LoopEntry, ParameterForm}
 use Rattle.vast_core.specs.Nests.{LoopNestRecord, FunctionRecord}
@@ -59,7 +55,7 @@ scope-enters :
     (b : Bench) (scope : Scope) (m : Member) (f : Fresh) → OwnsScope b scope → FreshSound b (with_fresh f b) f → MemberSound (with_fresh f b) m → IsUnnamed m → NewerIn scope (with_fresh f b) m →
     held_by_member m ++ held_by_fresh f ≡ made b f ++ detached_used f.takes_detached b.detached → GrowthSound b (listing_in scope m) f
 scope-enters b (ScopeModule owner) m f o h k unnamed newer placed =
-    record { fresh = h; listing = record { owner_there = o; member = k; kind = own-kind m unnamed; declares = no-names (with_fresh f b).functions m unnamed; free = tt }; placed = placed }
+    record { fresh = h; listing = (o, record { member = k; kind = own-kind m unnamed; declares = no-names (with_fresh f b).functions m unnamed; free = tt }); placed = placed }
 scope-enters b (ScopeLoop owner) m f o h k unnamed newer placed = record { fresh = h; listing = (loop-place b owner o, (k, newer)); placed = placed }
 
 -- What is newer than each loop there was.

@@ -2,9 +2,7 @@
 use Rattle.std.proofs.Common.{◌≡◌, ◌∙◌, sym, ℕ, ℤ, ◌+◌, Bool, List, [], ◌∷◌, ◌++◌, length, Some, All, refl, ap, arith, length-append}
 use Rattle.std.specs.Fmt.{signed_decimal}
 use Rattle.vast_literal.specs.Tree.{ExprTree, IndexTree, SliceTree, ConcatTree, VectorTree, SomeExpr}
-use Rattle.vast_core.specs.declared.handle.Id.{Id}
-use Rattle.vast_core.specs.declared.handle.Expr.{Expr}
-use Rattle.vast_core.specs.declared.handle.IndexableExpr.{IndexableExpr}
+use Rattle.vast_core.specs.Handles.{Id, Expr, IndexableExpr}
 use Rattle.vast_core.specs.Nodes.{ExprRoot}
 use Rattle.vast_core.specs.Bench.{Bench, OwnsExpr, OwnsIndexable, tree_of, trees_of}
 use Rattle.vast_core.specs.Growth.{next_id, with_expr, with_type, with_bounds, with_vector, with_fixed_index, with_fixed_slice, next_expr, known_literal, decimal_literal, with_fixed_replication}

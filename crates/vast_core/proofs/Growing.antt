@@ -1,22 +1,21 @@
 -- That a file stays sound after a growth: nodes that come, and the entry that names them.
 use Rattle.std.proofs.Common.{◌≡◌, ℕ, ◌<◌, Bool, true, false, List, [], ◌∷◌, length, Option, Some, None, slice_get, refl, ap, ◌∙◌, arith}
 use Rattle.std.specs.Prelude.{IfSome}
-use Rattle.vast_core.specs.declared.handle.VastStatementBlock.{VastStatementBlock}
-use Rattle.vast_core.specs.Records.{ParameterPort, ModuleRecord, Member, InstanceRecord, with_listed_port, with_listed_parameter}
-use Rattle.vast_core.specs.Nests.{NestRecord, BlockRecord, ConditionalNestRecord, CaseNestRecord, LoopNestRecord, FunctionVariable, FunctionRecord, nest_kind, is_kind, BlockKind}
+use Rattle.vast_core.specs.Handles.{VastModule, VastStatementBlock}
+use Rattle.vast_core.specs.Records.{ModuleRecord, InstanceRecord, changed_at, IsFree}
+use Rattle.vast_core.specs.Nests.{NestRecord, BlockRecord, ConditionalNestRecord, CaseNestRecord, LoopNestRecord, FunctionVariable, FunctionRecord, nest_kind, is_kind, BlockKind, declared_names}
 use Rattle.vast_core.specs.Functions.{with_listed_variable}
 use Rattle.vast_core.specs.Bench.{Bench, OwnsBlock, OwnsPort, function_names}
-use Rattle.vast_core.specs.Records.{IsFree}
-use Rattle.vast_core.specs.Nests.{declared_names}
 use Rattle.vast_core.specs.DeclaredNames.{NamesSound}
 use Rattle.vast_core.specs.Parents.{Part, places, held_by_module}
 use Rattle.vast_core.specs.Sound.{Each, PortSound, AssignmentSound, MemberSound, ParameterPortSound, ModuleSound, EntrySound, DefinitionSound, ArtifactSound, InstanceSound, NestSound, NestsSound, VariableSound, FunctionSound, AlwaysSound, RecordsSound, FileSound, AreDistinct}
-use Rattle.vast_core.specs.Containers.{NestedEntry, StatementEnters, ElseIfEnters, ElseEnters, CaseArmEnters, MemberEnters, with_entry}
-use Rattle.vast_core.specs.Internal.Containers.{Listing, Nowhere, InFile, InHeader, InPorts, InModule, InFunction, InNest, AsDetached, with_listed, listed_modules, listed_functions, listed_nests, listed_items, listed_detached, with_listing, added, with_empty_block, detached_left, with_fresh, Fresh, FreshSound, EntersSound, ListingSound, GrowthSound, ComesEmpty, FunctionComes, InstanceComes, read_off, after_growth}
+use Rattle.vast_core.specs.Containers.{NestedEntry, StatementEnters, ElseIfEnters, ElseEnters, CaseArmEnters, MemberEnters, with_entry, with_unique}
+use Rattle.vast_core.specs.Internal.Containers.{ModuleChange, HeaderGains, PortsGain, MembersGain, Hoists, with_change, ChangeSound, Listing, InFile, InModule, InFunction, InNest, AsDetached, AsUnique, listed_modules, listed_functions, listed_nests, listed_items, listed_detached, with_listing, added, with_empty_block, detached_left, with_fresh, Fresh, FreshSound, EntersSound, ListingSound, GrowthSound, ComesEmpty, FunctionComes, InstanceComes, read_off, after_growth}
 use Rattle.vast_core.proofs.Lists.{length-changed_at, Each-push, Each-changed_at, Each-changed_there}
 use Rattle.vast_core.proofs.NodeLaws.{Extends-same, Extends-built}
 use Rattle.vast_core.proofs.Nests.{entry-kind, get-before, kind-changed, nests-push, nests-changed}
 use Rattle.vast_core.proofs.Sound.{Grows, carried, port_stays, MemberSound-kept, ParameterPortSound-kept, EntrySound-kept, VariableSound-kept, StatementSound-kept, ElseIfSound-kept, block-kept, CaseArmSound-kept, LoopMemberSound-kept, nest-kept, never}
+use Rattle.vast_core.proofs.Hoisting.{members-hoisted}
 use Rattle.vast_core.proofs.Added.{added-get, length-added, Each-added, get-added}
 use Rattle.vast_core.proofs.FreeNames.{gains-variable, taken-after}
 use Rattle.vast_core.proofs.OneParent.{HasOneParent-growth, length-functions}
@@ -95,25 +94,11 @@ RecordsSound-fresh b f s h =
 
 entry-sound : (b : Bench) (i : ℕ) (e : NestedEntry) → EntersSound b i e → (n : NestRecord) → NestSound b i n → NestSound b i (with_entry e n)
 entry-sound b i (StatementEnters s) h (BlockRecord ss) k = Each-push _ ss s k h
-entry-sound b i (StatementEnters s) h (ConditionalNestRecord c) k = k
-entry-sound b i (StatementEnters s) h (CaseNestRecord c) k = k
-entry-sound b i (StatementEnters s) h (LoopNestRecord l) k = k
-entry-sound b i (ElseIfEnters a) h (BlockRecord ss) k = k
 entry-sound b i (ElseIfEnters a) h (ConditionalNestRecord c) k = record { condition = k.condition; consequent = k.consequent; else_ifs = Each-push _ c.else_ifs a k.else_ifs h; otherwise = k.otherwise }
-entry-sound b i (ElseIfEnters a) h (CaseNestRecord c) k = k
-entry-sound b i (ElseIfEnters a) h (LoopNestRecord l) k = k
-entry-sound b i (ElseEnters x) h (BlockRecord ss) k = k
 entry-sound b i (ElseEnters x) h (ConditionalNestRecord c) k = record { condition = k.condition; consequent = k.consequent; else_ifs = k.else_ifs; otherwise = h }
-entry-sound b i (ElseEnters x) h (CaseNestRecord c) k = k
-entry-sound b i (ElseEnters x) h (LoopNestRecord l) k = k
-entry-sound b i (CaseArmEnters a) h (BlockRecord ss) k = k
-entry-sound b i (CaseArmEnters a) h (ConditionalNestRecord c) k = k
 entry-sound b i (CaseArmEnters a) h (CaseNestRecord c) k = record { selector = k.selector; arms = Each-push _ c.arms a k.arms h }
-entry-sound b i (CaseArmEnters a) h (LoopNestRecord l) k = k
-entry-sound b i (MemberEnters m) h (BlockRecord ss) k = k
-entry-sound b i (MemberEnters m) h (ConditionalNestRecord c) k = k
-entry-sound b i (MemberEnters m) h (CaseNestRecord c) k = k
 entry-sound b i (MemberEnters m) h (LoopNestRecord l) k = record { genvar = k.genvar; start = k.start; end = k.end; members = Each-push _ l.members m k.members h }
+entry-sound b i _ h _ k = k
 
 EntersSound-kept : (b c : Bench) → Grows b c → (i : ℕ) (e : NestedEntry) → EntersSound b i e → EntersSound c i e
 EntersSound-kept b c g i (StatementEnters s) h = StatementSound-kept b c g i s h
@@ -124,14 +109,20 @@ EntersSound-kept b c g i (MemberEnters m) h = LoopMemberSound-kept b c g i m h
 
 -- The lists that gain an entry.
 
+pub Grows-changed : (b : Bench) (i : ℕ) (f : ModuleRecord → ModuleRecord) → Grows b (record b { modules = changed_at i f b.modules })
+Grows-changed b i f = record { nodes = Extends-same b.nodes; ports = omega arith; assignments = λ i a h. h; modules = omega (arith, length-changed_at f b.modules i); definitions = omega arith; artifacts = λ i a h. h; instances = omega arith; nests = λ i below. refl; functions = omega arith; always_blocks = λ i a h. h }
+
 modules-count : (l : Listing) (ms : List ModuleRecord) → length (listed_modules l ms) ≡ length ms
-modules-count (InHeader owner p) ms = length-changed_at (with_listed_parameter p) ms owner.id.index
-modules-count (InPorts owner port name) ms = length-changed_at (with_listed_port port name) ms owner.id.index
-modules-count (InModule owner entry name) ms = length-changed_at (with_listed entry name) ms owner.id.index
+modules-count (InModule owner change) ms = length-changed_at (with_change change) ms owner.id.index
 modules-count _ ms = refl
+
+unique-kind : (unique : Bool) (n : NestRecord) → nest_kind (Some (with_unique unique n)) ≡ nest_kind (Some n)
+unique-kind unique (BlockRecord ss) = refl
+unique-kind unique _ = refl
 
 nests-kinds : (l : Listing) (ns : List NestRecord) (i : ℕ) → nest_kind (slice_get (listed_nests l ns) i) ≡ nest_kind (slice_get ns i)
 nests-kinds (InNest place entry) ns i = kind-changed (with_entry entry) (entry-kind entry) ns place i
+nests-kinds (AsUnique place unique) ns i = kind-changed (with_unique unique) (unique-kind unique) ns place i
 nests-kinds _ ns i = refl
 
 pub Grows-listing : (b : Bench) (l : Listing) → Grows b (with_listing l b)
@@ -149,22 +140,24 @@ Grows-listing b l =
       always_blocks = λ i a h. h;
     }
 
-header-sound : (b : Bench) (p : ParameterPort) → ParameterPortSound b p → (x : ModuleRecord) → ModuleSound b x → ModuleSound b (with_listed_parameter p x)
-header-sound b p h x k = record { parameters = Each-push (ParameterPortSound b) x.parameters p k.parameters h; ports = k.ports; members = k.members }
-
-member-sound : (b : Bench) (entry : Member) (name : Option (List ℕ)) → MemberSound b entry → (x : ModuleRecord) → ModuleSound b x → ModuleSound b (with_listed entry name x)
-member-sound b entry None h x k = record { parameters = k.parameters; ports = k.ports; members = Each-push (MemberSound b) x.members entry k.members h }
-member-sound b entry (Some name) h x k = record { parameters = k.parameters; ports = k.ports; members = Each-push (MemberSound b) x.members entry k.members h }
+change-sound : (c d : Bench) → Grows c d → (owner : VastModule) (change : ModuleChange) → ChangeSound c owner change → (x : ModuleRecord) → ModuleSound d x → ModuleSound d (with_change change x)
+change-sound c d g owner (HeaderGains p) h x k = record { parameters = Each-push (ParameterPortSound d) x.parameters p k.parameters (ParameterPortSound-kept c d g p h); ports = k.ports; members = k.members }
+change-sound c d g owner (PortsGain port name) h x k = record { parameters = k.parameters; ports = Each-push (OwnsPort d) x.ports port k.ports (port_stays c d g port h.port_there); members = k.members }
+change-sound c d g owner (MembersGain entry None) h x k = record { parameters = k.parameters; ports = k.ports; members = Each-push (MemberSound d) x.members entry k.members (MemberSound-kept c d g entry h.member) }
+change-sound c d g owner (MembersGain entry (Some name)) h x k = record { parameters = k.parameters; ports = k.ports; members = Each-push (MemberSound d) x.members entry k.members (MemberSound-kept c d g entry h.member) }
+change-sound c d g owner (Hoists start) h x k = members-hoisted d start x k
 
 listing-modules : (b c d : Bench) (l : Listing) → Grows c d → ListingSound b c l → (ms : List ModuleRecord) → Each (ModuleSound d) ms → Each (ModuleSound d) (listed_modules l ms)
-listing-modules b c d (InHeader owner p) g h ms k = Each-changed_at (ModuleSound d) (with_listed_parameter p) (header-sound d p (ParameterPortSound-kept c d g p h.1)) ms owner.id.index k
-listing-modules b c d (InPorts owner port name) g h ms k =
-    Each-changed_at (ModuleSound d) (with_listed_port port name) (λ x e. record { parameters = e.parameters; ports = Each-push (OwnsPort d) x.ports port e.ports (port_stays c d g port h.port_there); members = e.members }) ms owner.id.index k
-listing-modules b c d (InModule owner entry name) g h ms k = Each-changed_at (ModuleSound d) (with_listed entry name) (member-sound d entry name (MemberSound-kept c d g entry h.member)) ms owner.id.index k
+listing-modules b c d (InModule owner change) g h ms k = Each-changed_at (ModuleSound d) (with_change change) (change-sound c d g owner change h.1) ms owner.id.index k
 listing-modules b c d _ g h ms k = k
+
+unique-sound : (b : Bench) (i : ℕ) (unique : Bool) (n : NestRecord) → NestSound b i n → NestSound b i (with_unique unique n)
+unique-sound b i unique (CaseNestRecord c) h = record { selector = h.selector; arms = h.arms }
+unique-sound b i unique _ h = h
 
 listing-nests : (b c d : Bench) (l : Listing) → Grows c d → ListingSound b c l → (ns : List NestRecord) → NestsSound d 0 ns → NestsSound d 0 (listed_nests l ns)
 listing-nests b c d (InNest place entry) g h ns k = nests-changed d 0 ns place place (with_entry entry) (omega arith) (entry-sound d place entry (EntersSound-kept c d g place entry h.1)) k
+listing-nests b c d (AsUnique place unique) g h ns k = nests-changed d 0 ns place place (with_unique unique) (omega arith) (unique-sound d place unique) k
 listing-nests b c d _ g h ns k = k
 
 distinct-listed : (b : Bench) (local : Bool) (v : FunctionVariable) (x : FunctionRecord) → IsFree v.name x.names → FunctionSound b x → AreDistinct (declared_names (with_listed_variable local v x))
@@ -199,7 +192,6 @@ listing-functions : (b c d : Bench) (l : Listing) → Grows c d → ListingSound
 listing-functions b c d (InFunction f local v) g h k =
     Each-changed_there (FunctionSound d) (with_listed_variable local v) c.functions f.id.index
     (λ x e. variable-listed d local v (VariableSound-kept c d g v h.variable) x (free-there v.name (slice_get c.functions f.id.index) x e h.free)) k
-listing-functions b c d Nowhere g h k = k
 listing-functions b c d _ g h k = k
 
 listing-items : (b c d : Bench) (l : Listing) → Grows c d → ListingSound b c l → Each (EntrySound d) c.items → Each (EntrySound d) (listed_items l c.items)

@@ -2,8 +2,7 @@
 use Rattle.std.proofs.Common.{zero, suc, ◌≡◌, ℕ, ◌≤◌, Bool, true, false, List, [], ◌∷◌, ◌++◌, length, filter, take, drop, refl, ap, Option, Some}
 use Rattle.std.specs.Ordering.{bool_cmp}
 use Rattle.std.specs.List.Sorted.{IsSortedByKey, IsStableByKey}
-use Rattle.vast_core.specs.declared.node.Member.{Member}
-use Rattle.vast_core.specs.Records.{ModuleRecord}
+use Rattle.vast_core.specs.Records.{Member, ModuleRecord}
 use Rattle.vast_core.specs.Bench.{Bench}
 use Rattle.vast_core.specs.Sound.{Each, MemberSound, ModuleSound}
 use Rattle.vast_core.specs.Hoisting.{is_declaration, parted, hoisted, with_members_hoisted, members_of}

@@ -1,6 +1,6 @@
 -- What calls know that add a conditional or an assignment to a scope or a block.
 use Rattle.std.proofs.Common.{◌≡◌, refl, true}
-use Rattle.vast_core.specs.declared.handle.Expr.{Expr}
+use Rattle.vast_core.specs.Handles.{Expr}
 use Rattle.vast_core.specs.declared.ast.scope.Scope.TheVariants.{Module as ScopeModule, Loop as ScopeLoop}
 use Rattle.vast_core.specs.declared.ast.insertion_point.InsertionPoint.{InsertionPoint}
 use Rattle.vast_core.specs.declared.ast.insertion_point.InsertionPoint.TheVariants.{Scope as ScopePoint, Block as BlockPoint}

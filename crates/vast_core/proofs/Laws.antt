@@ -1,16 +1,7 @@
 -- What callers cite after a call that makes something.
 use Rattle.std.proofs.Common.{◌≡◌, Bool, List, All, slice_get, refl}
 use Rattle.vast_literal.specs.Tree.{ExprTree, TypeTree}
-use Rattle.vast_core.specs.declared.handle.Id.{Id}
-use Rattle.vast_core.specs.declared.handle.Expr.{Expr}
-use Rattle.vast_core.specs.declared.handle.IndexableExpr.{IndexableExpr}
-use Rattle.vast_core.specs.declared.handle.Index.{Index}
-use Rattle.vast_core.specs.declared.handle.Slice.{Slice}
-use Rattle.vast_core.specs.declared.handle.MacroRef.{MacroRef}
-use Rattle.vast_core.specs.declared.handle.LogicRef.{LogicRef}
-use Rattle.vast_core.specs.declared.handle.ParameterRef.{ParameterRef}
-use Rattle.vast_core.specs.declared.handle.LocalparamRef.{LocalparamRef}
-use Rattle.vast_core.specs.declared.handle.VastDataType.{VastDataType}
+use Rattle.vast_core.specs.Handles.{Id, Expr, IndexableExpr, Index, Slice, MacroRef, LogicRef, ParameterRef, LocalparamRef, VastDataType}
 use Rattle.vast_core.specs.Nodes.{Root, ExprRoot, TypeRoot, IsOwned, is_name, is_index, is_slice, is_macro, expr_in, type_in}
 use Rattle.vast_core.specs.Bench.{Bench, OwnsExpr, OwnsIndexable, OwnsType, OwnsIndex, OwnsSlice, OwnsMacroRef, OwnsLogicRef, OwnsParameterRef, OwnsLocalparamRef, has_root, tree_of, trees_of, type_of}
 use Rattle.vast_core.specs.Growth.{with_root, with_expr, with_type, next_expr, next_type}

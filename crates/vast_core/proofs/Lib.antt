@@ -25,14 +25,11 @@ pub mod Admitted
 pub mod Enters
 pub mod EntersMembers
 pub mod EntersRecords
-pub mod Hoists
-pub mod NestReaders
 pub mod NestLaws
 pub mod FreeNames
 pub mod Unattached
 pub mod EntersScopes
 pub mod WellFormedParts
 pub mod WellFormedTree
-pub mod Stays
 pub mod InsertionPoints
 pub mod Heights

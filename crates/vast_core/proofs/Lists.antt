@@ -19,11 +19,6 @@ slice_get-map v [] i x below is = absurd (omega arith)
 slice_get-map v (y ∷ xs) zero x below is = ap (λ z. Some (v z)) (sym is)
 slice_get-map v (y ∷ xs) (suc i) x below is = slice_get-map v xs i x (omega arith) is
 
-pub slice_get-at : {A : Type 0} (xs : List A) (i : ℕ) (x : A) → i < length xs → x ≡ get_or xs i x → slice_get xs i ≡ Some x
-slice_get-at [] i x below is = absurd (omega arith)
-slice_get-at (y ∷ xs) zero x below is = ap Some (sym is)
-slice_get-at (y ∷ xs) (suc i) x below is = slice_get-at xs i x (omega arith) is
-
 pub slice_get-past : {A : Type 0} (xs : List A) (i : ℕ) → length xs ≤ i → slice_get xs i ≡ None
 slice_get-past [] i past = refl
 slice_get-past (y ∷ xs) zero past = absurd (omega arith)
@@ -93,11 +88,6 @@ pub Each-changed_there : {A : Type 0} (P : A → Type 0) (f : A → A) (xs : Lis
 Each-changed_there P f [] i k h = tt
 Each-changed_there P f (x ∷ xs) zero k h = (k x refl h.0, h.1)
 Each-changed_there P f (x ∷ xs) (suc i) k h = (h.0, Each-changed_there P f xs i k h.1)
-
-pub Each-at : {A B : Type 0} (v : A → B) (P : B → Type 0) (xs : List A) (i : ℕ) (x : A) → Each P (map v xs) → i < length xs → x ≡ get_or xs i x → P (v x)
-Each-at v P [] i x h below is = absurd (omega arith)
-Each-at v P (y ∷ xs) zero x h below is = rw is h.0
-Each-at v P (y ∷ xs) (suc i) x h below is = Each-at v P xs i x h.1 (omega arith) is
 
 pub Each-get : {A : Type 0} (P : A → Type 0) (xs : List A) (i : ℕ) (x : A) → Each P xs → slice_get xs i ≡ Some x → P x
 Each-get P [] i x h e = cc

@@ -1,6 +1,6 @@
 -- Beside `specs/Loops.antt`: what proofs alone say.
 use Rattle.std.specs.Prelude.{ℕ, true, List, [], ◌∷◌, Option, Some, None}
-use Rattle.vast_core.specs.declared.handle.VastDataType.{VastDataType}
+use Rattle.vast_core.specs.Handles.{VastDataType}
 use Rattle.vast_core.specs.declared.node.ExprNode.{ExprNode}
 use Rattle.vast_core.specs.declared.node.ExprNode.TheVariants.{Name}
 use Rattle.vast_core.specs.Nests.{NestRecord, AlwaysRecord, FunctionRecord}

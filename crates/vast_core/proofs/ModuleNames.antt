@@ -7,17 +7,16 @@ use Rattle.std.specs.Ordering.{nat_cmp}
 use Rattle.std.specs.Cmp.Lexicographic.{slice_cmp}
 use Rattle.std.specs.Str.{bytes_eq}
 use Rattle.std.proofs.lemmas.Slice.Eq.{bytes_eq-Decides}
-use Rattle.vast_core.specs.declared.handle.ModulePort.{ModulePort}
-use Rattle.vast_core.specs.declared.handle.VastModule.{VastModule}
-use Rattle.vast_core.specs.Records.{Port, ModuleRecord, Member, DeclarationEntry, AssignmentEntry, ParameterEntry, BlankEntry, CommentEntry, InlineEntry, MacroEntry, InstanceEntry, FunctionEntry, AlwaysEntry, ConditionalEntry, LoopEntry, IsFree, with_name, changed_at, with_listed_port, with_listed_name, with_listed_parameter}
+use Rattle.vast_core.specs.Handles.{ModulePort, VastModule}
+use Rattle.vast_core.specs.Records.{Port, ModuleRecord, Member, DeclarationEntry, FunctionEntry, IsFree, with_name, changed_at, with_listed_port, with_listed_name}
 use Rattle.vast_core.specs.Nests.{FunctionVariable, FunctionRecord}
 use Rattle.vast_core.specs.Bench.{Bench, OwnsPort, names_of}
 use Rattle.vast_core.specs.Functions.{with_listed_variable}
-use Rattle.vast_core.specs.Hoisting.{with_members_hoisted, with_hoisted}
+use Rattle.vast_core.specs.Hoisting.{with_members_hoisted}
 use Rattle.vast_core.specs.DeclaredNames.{name_of_port, name_of_function, names_by_port, names_by_member, names_declared, times, NamesSound}
 use Rattle.vast_core.specs.Sound.{AreDistinct, Each, MemberSound, ModuleSound, RecordsSound, NamesAreSound}
-use Rattle.vast_core.specs.Internal.Containers.{Listing, Nowhere, InFile, InHeader, InPorts, InModule, InFunction, InNest, AsDetached, with_listed, listed_name, with_listing, Fresh, with_fresh, ListingSound}
-use Rattle.vast_core.proofs.Lists.{below-of, All-cons, All-head, All-tail, Each-changed_at, Each-changed_there}
+use Rattle.vast_core.specs.Internal.Containers.{ModuleChange, HeaderGains, PortsGain, MembersGain, Hoists, with_change, ChangeSound, Listing, InModule, InFunction, with_listed, listed_name, with_listing, Fresh, with_fresh, ListingSound}
+use Rattle.vast_core.proofs.Lists.{below-of, All-cons, All-head, All-tail, Each-changed_there}
 use Rattle.vast_core.proofs.Added.{Each-added, get-added}
 use Rattle.vast_core.proofs.Names.{test-equal}
 use Rattle.vast_core.proofs.Counts.{count-append, over-push, over-hoisted}
@@ -93,18 +92,9 @@ members-read :
     Each (MemberSound b) ms → flat_map (names_by_member more) ms ≡ flat_map (names_by_member b.functions) ms
 members-read b more same [] h = refl
 members-read b more same (DeclarationEntry kind name data_type ∷ ms) h = ap (λ r. name ∷ r) (members-read b more same ms h.1)
-members-read b more same (AssignmentEntry a ∷ ms) h = members-read b more same ms h.1
-members-read b more same (ParameterEntry local form value ∷ ms) h = members-read b more same ms h.1
-members-read b more same (BlankEntry ∷ ms) h = members-read b more same ms h.1
-members-read b more same (CommentEntry a ∷ ms) h = members-read b more same ms h.1
-members-read b more same (InlineEntry a ∷ ms) h = members-read b more same ms h.1
-members-read b more same (MacroEntry a ∷ ms) h = members-read b more same ms h.1
-members-read b more same (InstanceEntry i ∷ ms) h = members-read b more same ms h.1
 members-read b more same (FunctionEntry f ∷ ms) h =
     rw (same f.id.index (below-of f.id.index (length b.functions) h.0.of_kind)) (ap (λ r. name_of_function (slice_get b.functions f.id.index) ∷ r) (members-read b more same ms h.1))
-members-read b more same (AlwaysEntry a ∷ ms) h = members-read b more same ms h.1
-members-read b more same (ConditionalEntry c ∷ ms) h = members-read b more same ms h.1
-members-read b more same (LoopEntry l ∷ ms) h = members-read b more same ms h.1
+members-read b more same (_ ∷ ms) h = members-read b more same ms h.1
 
 -- The records of c name what those of b named.
 record SameNames (b c : Bench) : Type 0 where
@@ -189,25 +179,6 @@ name-changed change k (r ∷ rs) zero (suc j) = refl
 name-changed change k (r ∷ rs) (suc i) zero = refl
 name-changed change k (r ∷ rs) (suc i) (suc j) = name-changed change k rs i j
 
-pub names-listing : (b c : Bench) (l : Listing) → RecordsSound c → ListingSound b c l → NamesAreSound c → NamesAreSound (with_listing l c)
-names-listing b c Nowhere s k h = h
-names-listing b c (InFile entry) s k h = h
-names-listing b c (InHeader owner p) s k h =
-    Each-changed_at (NamesSound c.ports c.functions) (with_listed_parameter p) (λ x e. record { taken = e.taken; once = e.once }) c.modules owner.id.index h
-names-listing b c (InPorts owner port name) s k h =
-    Each-changed_there (NamesSound c.ports c.functions) (with_listed_port port name) c.modules owner.id.index
-    (λ x at e. port-listed c port name k.declares x (free-there name (slice_get c.modules owner.id.index) x at k.free) e) h
-names-listing b c (InModule owner entry name) s k h =
-    Each-changed_there (NamesSound c.ports c.functions) (with_listed entry name) c.modules owner.id.index
-    (λ x at e. member-listed c entry name k.declares x (maybe-free name (slice_get c.modules owner.id.index) x at k.free) e) h
-names-listing b c (InFunction f local v) s k h =
-    let d : Bench = with_listing (InFunction f local v) c in
-    all-kept c d (record { ports = λ i below. refl; functions = λ i below. name-changed (with_listed_variable local v) (listed-name local v) c.functions f.id.index i }) c.modules s.modules h
-names-listing b c (InNest place entry) s k h = h
-names-listing b c (AsDetached block) s k h = h
-
--- Hoisting.
-
 hoisted-names : (ports : List Port) (functions : List FunctionRecord) (start : ℕ) (x : ModuleRecord) → NamesSound ports functions x → NamesSound ports functions (with_members_hoisted start x)
 hoisted-names ports functions start x h =
     record {
@@ -223,8 +194,20 @@ hoisted-names ports functions start x h =
       once = h.once;
     }
 
-pub names-hoisted : (b : Bench) (owner : VastModule) (start : ℕ) → NamesAreSound b → NamesAreSound (with_hoisted owner start b)
-names-hoisted b owner start h = Each-changed_at (NamesSound b.ports b.functions) (with_members_hoisted start) (hoisted-names b.ports b.functions start) b.modules owner.id.index h
+change-names :
+    (c : Bench) (owner : VastModule) (change : ModuleChange) → ChangeSound c owner change → (x : ModuleRecord) → slice_get c.modules owner.id.index ≡ Some x → NamesSound c.ports c.functions x →
+    NamesSound c.ports c.functions (with_change change x)
+change-names c owner (HeaderGains p) k x at e = record { taken = e.taken; once = e.once }
+change-names c owner (PortsGain port name) k x at e = port-listed c port name k.declares x (free-there name (slice_get c.modules owner.id.index) x at k.free) e
+change-names c owner (MembersGain entry name) k x at e = member-listed c entry name k.declares x (maybe-free name (slice_get c.modules owner.id.index) x at k.free) e
+change-names c owner (Hoists start) k x at e = hoisted-names c.ports c.functions start x e
+
+pub names-listing : (b c : Bench) (l : Listing) → RecordsSound c → ListingSound b c l → NamesAreSound c → NamesAreSound (with_listing l c)
+names-listing b c (InModule owner change) s k h = Each-changed_there (NamesSound c.ports c.functions) (with_change change) c.modules owner.id.index (change-names c owner change k.1) h
+names-listing b c (InFunction f local v) s k h =
+    let d : Bench = with_listing (InFunction f local v) c in
+    all-kept c d (record { ports = λ i below. refl; functions = λ i below. name-changed (with_listed_variable local v) (listed-name local v) c.functions f.id.index i }) c.modules s.modules h
+names-listing b c _ s k h = h
 
 true-is-not-false : true ≡ false → ⊥
 true-is-not-false h = cc

@@ -1,11 +1,9 @@
 -- Laws of containers: their records, what they hold, and their trees.
 use Rattle.std.proofs.Common.{◌≡◌, ℕ, suc, zero, ◌+◌, ◌<◌, ◌≤◌, Bool, IsTrue, List, [], ◌∷◌, ◌++◌, length, Option, Some, None, slice_get, refl, sym, ap, ◌∙◌, arith}
 use Rattle.std.specs.Prelude.{IfSome}
-use Rattle.vast_core.specs.declared.handle.VastStatementBlock.{VastStatementBlock}
-use Rattle.vast_core.specs.declared.node.ElseIf.{ElseIf}
-use Rattle.vast_core.specs.declared.node.CaseArm.{CaseArm}
+use Rattle.vast_core.specs.Handles.{VastStatementBlock}
 use Rattle.vast_core.specs.Records.{Member, DeclarationEntry, FunctionEntry, AlwaysEntry, ConditionalEntry, LoopEntry, changed_at}
-use Rattle.vast_core.specs.Nests.{Statement, ConditionalStatement, CasesStatement, NestRecord, BlockRecord, ConditionalNestRecord, CaseNestRecord, LoopNestRecord, AlwaysRecord, NestKind, NoKind, nest_kind}
+use Rattle.vast_core.specs.Nests.{CaseArm, ElseIf, Statement, ConditionalStatement, CasesStatement, NestRecord, BlockRecord, ConditionalNestRecord, CaseNestRecord, LoopNestRecord, AlwaysRecord, NestKind, NoKind, nest_kind}
 use Rattle.vast_core.specs.Bench.{Bench, tree_of, maybe_tree_of, trees_of}
 use Rattle.vast_core.specs.Containers.{NestedEntry, StatementEnters, ElseIfEnters, ElseEnters, CaseArmEnters, MemberEnters, with_entry}
 use Rattle.vast_core.specs.FileTree.{Family, BlockFamily, ConditionalFamily, CaseFamily, LoopFamily, block_in, conditional_statement, case_statement, conditional_member, loop_member, statement_in, statements_in, otherwise_in, alternates_in, arms_in, always_in, member_in, members_in, family, unfolded, families}
@@ -149,22 +147,8 @@ changed-before f (x ∷ xs) ys (suc i) h = ap (λ r. x ∷ r) (changed-before f 
 -- A container has the kind that it had before an entry came.
 pub entry-kind : (e : NestedEntry) (n : NestRecord) → nest_kind (Some (with_entry e n)) ≡ nest_kind (Some n)
 entry-kind (StatementEnters s) (BlockRecord ss) = refl
-entry-kind (StatementEnters s) (ConditionalNestRecord c) = refl
-entry-kind (StatementEnters s) (CaseNestRecord c) = refl
-entry-kind (StatementEnters s) (LoopNestRecord l) = refl
-entry-kind (ElseIfEnters a) (BlockRecord ss) = refl
 entry-kind (ElseIfEnters a) (ConditionalNestRecord c) = refl
-entry-kind (ElseIfEnters a) (CaseNestRecord c) = refl
-entry-kind (ElseIfEnters a) (LoopNestRecord l) = refl
-entry-kind (ElseEnters x) (BlockRecord ss) = refl
 entry-kind (ElseEnters x) (ConditionalNestRecord c) = refl
-entry-kind (ElseEnters x) (CaseNestRecord c) = refl
-entry-kind (ElseEnters x) (LoopNestRecord l) = refl
-entry-kind (CaseArmEnters a) (BlockRecord ss) = refl
-entry-kind (CaseArmEnters a) (ConditionalNestRecord c) = refl
 entry-kind (CaseArmEnters a) (CaseNestRecord c) = refl
-entry-kind (CaseArmEnters a) (LoopNestRecord l) = refl
-entry-kind (MemberEnters m) (BlockRecord ss) = refl
-entry-kind (MemberEnters m) (ConditionalNestRecord c) = refl
-entry-kind (MemberEnters m) (CaseNestRecord c) = refl
 entry-kind (MemberEnters m) (LoopNestRecord l) = refl
+entry-kind _ _ = refl

@@ -1,15 +1,12 @@
 -- Each part of a file stands in at most one place, whatever grows.
 use Rattle.std.proofs.Common.{◌≡◌, ℕ, suc, ◌+◌, ◌≤◌, Bool, true, false, List, [], ◌∷◌, ◌++◌, length, flat_map, nat_eq, nat_lt, cond, Option, Some, None, refl, ap, arith}
-use Rattle.vast_core.specs.declared.handle.VastModule.{VastModule}
-use Rattle.vast_core.specs.declared.handle.CaseStatement.{CaseStatement}
-use Rattle.vast_core.specs.declared.handle.VastStatementBlock.{VastStatementBlock}
-use Rattle.vast_core.specs.Records.{ModuleRecord, Member, with_listed_port, with_listed_parameter}
+use Rattle.vast_core.specs.Handles.{VastModule, VastStatementBlock}
+use Rattle.vast_core.specs.Records.{ModuleRecord}
 use Rattle.vast_core.specs.Nests.{ConditionalRecord, NestRecord, BlockRecord, ConditionalNestRecord, CaseNestRecord, LoopNestRecord, FunctionVariable, FunctionRecord, AlwaysRecord}
 use Rattle.vast_core.specs.Bench.{Bench}
 use Rattle.vast_core.specs.Functions.{with_listed_variable}
-use Rattle.vast_core.specs.Hoisting.{with_hoisted, with_members_hoisted}
-use Rattle.vast_core.specs.Containers.{NestedEntry, StatementEnters, ElseIfEnters, ElseEnters, CaseArmEnters, MemberEnters, with_entry, with_unique, with_case_unique}
-use Rattle.vast_core.specs.Internal.Containers.{Listing, Nowhere, InFile, InHeader, InPorts, InModule, InFunction, InNest, AsDetached, with_listed, listed_functions, listed_nests, with_listing, added, Fresh, with_fresh, with_empty_block, detached_left, after_growth, read_off, held_by_entry, held_by_listing, held_by_fresh, made_containers, made, detached_used}
+use Rattle.vast_core.specs.Containers.{NestedEntry, StatementEnters, ElseIfEnters, ElseEnters, CaseArmEnters, MemberEnters, with_entry, with_unique}
+use Rattle.vast_core.specs.Internal.Containers.{ModuleChange, HeaderGains, PortsGain, MembersGain, Hoists, with_change, Listing, Nowhere, InFile, InModule, InFunction, InNest, AsDetached, AsUnique, listed_functions, listed_nests, with_listing, added, Fresh, with_fresh, with_empty_block, detached_left, after_growth, read_off, held_by_entry, held_by_listing, held_by_fresh, made_containers, made, detached_used}
 use Rattle.vast_core.specs.Parents.{Part, ContainerPart, FunctionPart, AlwaysPart, is_same, held_by_statement, held_by_member, held_by_else_if, held_by_block, held_by_case_arm, held_by_conditional, held_by_container, held_by_function, held_by_always, held_by_module, held, places, present, HasOneParent}
 use Rattle.vast_core.proofs.Lists.{length-changed_at, length-push}
 use Rattle.vast_core.proofs.Counts.{count-append, over-push, over-added, over-changed, over-hoisted}
@@ -25,36 +22,25 @@ conditional-places p c =
 -- A container gains at most what its new entry places.
 entered : (p : Part) (e : NestedEntry) (n : NestRecord) → places p (held_by_container (with_entry e n)) ≤ places p (held_by_container n) + places p (held_by_entry e)
 entered p (StatementEnters s) (BlockRecord statements) = let e = over-push (is_same p) held_by_statement statements s in omega (arith, e)
-entered p (StatementEnters s) (ConditionalNestRecord c) = omega arith
-entered p (StatementEnters s) (CaseNestRecord c) = omega arith
-entered p (StatementEnters s) (LoopNestRecord l) = omega arith
-entered p (ElseIfEnters a) (BlockRecord statements) = omega arith
 entered p (ElseIfEnters a) (ConditionalNestRecord c) =
     let new = conditional-places p (record c { else_ifs = c.else_ifs ++ a ∷ [] }) in
     let more = over-push (is_same p) held_by_else_if c.else_ifs a in
     let old = conditional-places p c in
     omega (arith, new, more, old)
-entered p (ElseIfEnters a) (CaseNestRecord c) = omega arith
-entered p (ElseIfEnters a) (LoopNestRecord l) = omega arith
-entered p (ElseEnters x) (BlockRecord statements) = omega arith
 entered p (ElseEnters x) (ConditionalNestRecord c) =
     let new = conditional-places p (record c { otherwise = Some x }) in
     let old = conditional-places p c in
     omega (arith, new, old)
-entered p (ElseEnters x) (CaseNestRecord c) = omega arith
-entered p (ElseEnters x) (LoopNestRecord l) = omega arith
-entered p (CaseArmEnters a) (BlockRecord statements) = omega arith
-entered p (CaseArmEnters a) (ConditionalNestRecord c) = omega arith
 entered p (CaseArmEnters a) (CaseNestRecord c) = let e = over-push (is_same p) held_by_case_arm c.arms a in omega (arith, e)
-entered p (CaseArmEnters a) (LoopNestRecord l) = omega arith
-entered p (MemberEnters m) (BlockRecord statements) = omega arith
-entered p (MemberEnters m) (ConditionalNestRecord c) = omega arith
-entered p (MemberEnters m) (CaseNestRecord c) = omega arith
 entered p (MemberEnters m) (LoopNestRecord l) = let e = over-push (is_same p) held_by_member l.members m in omega (arith, e)
+entered p _ _ = omega arith
 
-listed : (p : Part) (entry : Member) (name : Option (List ℕ)) (m : ModuleRecord) → places p (held_by_module (with_listed entry name m)) ≤ places p (held_by_module m) + places p (held_by_member entry)
-listed p entry None m = let e = over-push (is_same p) held_by_member m.members entry in omega (arith, e)
-listed p entry (Some name) m = let e = over-push (is_same p) held_by_member m.members entry in omega (arith, e)
+changed : (p : Part) (owner : VastModule) (change : ModuleChange) (m : ModuleRecord) → places p (held_by_module (with_change change m)) ≤ places p (held_by_module m) + places p (held_by_listing (InModule owner change))
+changed p owner (HeaderGains x) m = omega arith
+changed p owner (PortsGain port name) m = omega arith
+changed p owner (MembersGain entry None) m = let e = over-push (is_same p) held_by_member m.members entry in omega (arith, e)
+changed p owner (MembersGain entry (Some name)) m = let e = over-push (is_same p) held_by_member m.members entry in omega (arith, e)
+changed p owner (Hoists start) m = let e = over-hoisted (is_same p) held_by_member start m.members in omega (arith, e)
 
 -- The places of a whole file.
 
@@ -101,6 +87,10 @@ nodes-come p f b none =
 
 -- A new entry.
 
+same-unique : (p : Part) (unique : Bool) (n : NestRecord) → places p (held_by_container (with_unique unique n)) ≤ places p (held_by_container n) + 0
+same-unique p unique (BlockRecord statements) = omega arith
+same-unique p unique _ = omega arith
+
 same-body : (p : Part) (local : Bool) (v : FunctionVariable) (f : FunctionRecord) → places p (held_by_function (with_listed_variable local v f)) ≤ places p (held_by_function f) + 0
 same-body p false v f = omega arith
 same-body p true v f = omega arith
@@ -108,20 +98,10 @@ same-body p true v f = omega arith
 entry-comes : (p : Part) (l : Listing) (b : Bench) → places p (held (with_listing l b)) ≤ places p (held b) + places p (held_by_listing l)
 entry-comes p Nowhere b = omega arith
 entry-comes p (InFile entry) b = omega arith
-entry-comes p (InHeader owner x) b =
+entry-comes p (InModule owner change) b =
     let old = file-places p b in
-    let new = file-places p (with_listing (InHeader owner x) b) in
-    let same = over-changed (is_same p) held_by_module (with_listed_parameter x) 0 (λ m. omega arith) b.modules owner.id.index in
-    omega (arith, old, new, same)
-entry-comes p (InPorts owner port name) b =
-    let old = file-places p b in
-    let new = file-places p (with_listing (InPorts owner port name) b) in
-    let same = over-changed (is_same p) held_by_module (with_listed_port port name) 0 (λ m. omega arith) b.modules owner.id.index in
-    omega (arith, old, new, same)
-entry-comes p (InModule owner entry name) b =
-    let old = file-places p b in
-    let new = file-places p (with_listing (InModule owner entry name) b) in
-    let more = over-changed (is_same p) held_by_module (with_listed entry name) (places p (held_by_member entry)) (listed p entry name) b.modules owner.id.index in
+    let new = file-places p (with_listing (InModule owner change) b) in
+    let more = over-changed (is_same p) held_by_module (with_change change) (places p (held_by_listing (InModule owner change))) (changed p owner change) b.modules owner.id.index in
     omega (arith, old, new, more)
 entry-comes p (InFunction f local v) b =
     let old = file-places p b in
@@ -137,6 +117,11 @@ entry-comes p (AsDetached block) b =
     let old = file-places p b in
     let new = file-places p (with_listing (AsDetached block) b) in
     omega (arith, old, new)
+entry-comes p (AsUnique place unique) b =
+    let old = file-places p b in
+    let new = file-places p (with_listing (AsUnique place unique) b) in
+    let same = over-changed (is_same p) held_by_container (with_unique unique) 0 (same-unique p unique) b.nests place in
+    omega (arith, old, new, same)
 
 -- The parts that a file has.
 
@@ -214,6 +199,7 @@ present-made (AlwaysPart i) f b =
 
 length-nests : (l : Listing) (ns : List NestRecord) → length (listed_nests l ns) ≡ length ns
 length-nests (InNest place entry) ns = length-changed_at (with_entry entry) ns place
+length-nests (AsUnique place unique) ns = length-changed_at (with_unique unique) ns place
 length-nests _ ns = refl
 
 pub length-functions : (l : Listing) (fs : List FunctionRecord) → length (listed_functions l fs) ≡ length fs
@@ -242,38 +228,4 @@ HasOneParent-growth b l f none placed h =
           let left = count-append t (held_by_listing l) (held_by_fresh f) in
           let right = count-append t (made b f) (detached_used f.takes_detached b.detached) in
           omega (arith, old, nodes, entry, there, more, same, left, right);
-    }
-
--- Hoisting, and a case statement that is made unique.
-
-pub HasOneParent-hoisted : (b : Bench) (owner : VastModule) (start : ℕ) → HasOneParent b → HasOneParent (with_hoisted owner start b)
-HasOneParent-hoisted b owner start h =
-    record {
-      once = λ p.
-          let old = h.once p in
-          let before = file-places p b in
-          let after = file-places p (with_hoisted owner start b) in
-          let same = over-changed (is_same p) held_by_module (with_members_hoisted start) 0 (λ m. let e = over-hoisted (is_same p) held_by_member start m.members in omega (arith, e)) b.modules owner.id.index in
-          omega (arith, old, before, after, same);
-    }
-
-same-unique : (p : Part) (unique : Bool) (n : NestRecord) → places p (held_by_container (with_unique unique n)) ≤ places p (held_by_container n) + 0
-same-unique p unique (BlockRecord statements) = omega arith
-same-unique p unique _ = omega arith
-
-present-unique : (p : Part) (c : CaseStatement) (unique : Bool) (b : Bench) → present (with_case_unique c unique b) p ≡ present b p
-present-unique (ContainerPart i) c unique b = ap (below i) (length-changed_at (with_unique unique) b.nests c.id.index)
-present-unique (FunctionPart i) c unique b = refl
-present-unique (AlwaysPart i) c unique b = refl
-
-pub HasOneParent-unique : (b : Bench) (c : CaseStatement) (unique : Bool) → HasOneParent b → HasOneParent (with_case_unique c unique b)
-HasOneParent-unique b c unique h =
-    record {
-      once = λ p.
-          let old = h.once p in
-          let before = file-places p b in
-          let after = file-places p (with_case_unique c unique b) in
-          let there = present-unique p c unique b in
-          let same = over-changed (is_same p) held_by_container (with_unique unique) 0 (same-unique p unique) b.nests c.id.index in
-          omega (arith, old, before, after, there, same);
     }

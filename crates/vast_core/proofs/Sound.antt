@@ -1,20 +1,12 @@
 -- What a file keeps stays true as it grows.
 use Rattle.std.proofs.Common.{◌≡◌, ℕ, suc, ◌<◌, ◌≤◌, Bool, false, IsTrue, List, [], ◌∷◌, length, nat_lt, Option, Some, None, slice_get, refl, sym, ◌∙◌, arith}
 use Rattle.std.specs.Prelude.{IfSome}
-use Rattle.vast_core.specs.declared.node.Assignment.{Assignment}
-use Rattle.vast_core.specs.declared.handle.Id.{Id}
-use Rattle.vast_core.specs.declared.handle.Expr.{Expr}
-use Rattle.vast_core.specs.declared.handle.VastDataType.{VastDataType}
-use Rattle.vast_core.specs.declared.handle.ModulePort.{ModulePort}
-use Rattle.vast_core.specs.declared.handle.ContinuousAssignment.{ContinuousAssignment}
+use Rattle.vast_core.specs.Handles.{Id, Expr, VastDataType, ModulePort, ContinuousAssignment, VastStatementBlock}
 use Rattle.vast_core.specs.Nodes.{IsOwned, is_name, is_macro}
-use Rattle.vast_core.specs.Records.{Port, ParameterPort, ModuleRecord, ParameterForm, PlainForm, IntForm, DefinedForm, Member, DeclarationEntry, AssignmentEntry, ParameterEntry, BlankEntry, CommentEntry, InlineEntry, MacroEntry, InstanceEntry, FunctionEntry, AlwaysEntry, ConditionalEntry, LoopEntry, FileItem, ModuleEntry, Definition, Artifact, BlankArtifact, CommentArtifact, InlineArtifact, MacroArtifact, Connection, InstanceRecord}
-use Rattle.vast_core.specs.declared.handle.LogicRef.{LogicRef}
-use Rattle.vast_core.specs.declared.handle.VastStatementBlock.{VastStatementBlock}
-use Rattle.vast_core.specs.declared.node.ElseIf.{ElseIf}
-use Rattle.vast_core.specs.declared.node.CaseArm.{CaseArm}
-use Rattle.vast_core.specs.Nests.{Statement, AssignStatement, ContinuousStatement, ConditionalStatement, CasesStatement, NestRecord, BlockRecord, ConditionalNestRecord, CaseNestRecord, LoopNestRecord, FunctionVariable, FunctionRecord, AlwaysRecord, NestKind, NoKind, nest_kind, is_kind, BlockKind, ConditionalKind, CaseStatementKind, LoopKind}
-use Rattle.vast_core.specs.Bench.{Bench, OwnsExpr, OwnsType, OwnsLogicRef, OwnsPort, OwnsContinuous, is_continuous, is_comment, is_inline, is_macro_statement}
+use Rattle.vast_core.specs.Records.{Assignment, Port, ParameterPort, ModuleRecord, ParameterForm, DefinedForm, Member, DeclarationEntry, AssignmentEntry, ParameterEntry, BlankEntry, CommentEntry, InlineEntry, MacroEntry, InstanceEntry, FunctionEntry, AlwaysEntry, ConditionalEntry, LoopEntry, FileItem, ModuleEntry, Definition, Artifact, MacroArtifact, Connection, InstanceRecord}
+use Rattle.vast_core.specs.Nests.{CaseArm, ElseIf, Statement, AssignStatement, ContinuousStatement, ConditionalStatement, CasesStatement, NestRecord, BlockRecord, ConditionalNestRecord, CaseNestRecord, LoopNestRecord, FunctionVariable, FunctionRecord, AlwaysRecord, NestKind, NoKind, nest_kind, is_kind, BlockKind, ConditionalKind, CaseStatementKind, LoopKind}
+use Rattle.vast_literal.specs.Tree.{ExprTree}
+use Rattle.vast_core.specs.Bench.{Bench, has_root, OwnsExpr, OwnsType, OwnsPort, OwnsContinuous, is_continuous, is_comment, is_inline, is_macro_statement}
 use Rattle.vast_core.specs.Sound.{Each, PortSound, AssignmentSound, DefinitionSound, ArtifactSound, ConnectionSound, InstanceSound, FormSound, MemberSound, ParameterPortSound, ModuleSound, EntrySound, RecordsSound, HoldsBlock, StatementSound, ElseIfSound, CaseArmSound, AlwaysNewer, MemberNewer, LoopMemberSound, NestSound, NestsSound, VariableSound, FunctionSound, EventSound, AlwaysSound}
 use Rattle.vast_core.proofs.Lists.{Each-map, below-of, below-test, none-past}
 use Rattle.vast_core.proofs.NodeLaws.{Extends, HasExpr-kept, HasType-kept, shape-kept, expr_in-kept}
@@ -76,6 +68,10 @@ never h = cc
 pub port_stays : (b c : Bench) → Grows b c → (p : ModulePort) → OwnsPort b p → OwnsPort c p
 port_stays b c g p h = index-kept b c p.id (length b.ports) (length c.ports) g g.ports h
 
+-- An expression of a shape stays one.
+pub shape_stays : (shape : ExprTree → Bool) (b c : Bench) → Grows b c → (id : Id) → IsOwned b.nodes.id id (has_root shape b id.index) → IsOwned c.nodes.id id (has_root shape c id.index)
+shape_stays shape b c g id h = record { of_file = h.of_file ∙ sym g.nodes.same_id; of_kind = shape-kept shape b.nodes c.nodes g.nodes id.index h.of_kind }
+
 maybe-type-kept : (b c : Bench) → Grows b c → (t : Option VastDataType) → IfSome t (OwnsType b) → IfSome t (OwnsType c)
 maybe-type-kept b c g None h = tt
 maybe-type-kept b c g (Some t) h = HasType-kept b.nodes c.nodes g.nodes t h
@@ -87,7 +83,7 @@ maybe-expr-kept b c g (Some e) h = HasExpr-kept b.nodes c.nodes g.nodes e h
 PortSound-kept : (b c : Bench) → Grows b c → (p : Port) → PortSound b p → PortSound c p
 PortSound-kept b c g p h = (
   HasType-kept b.nodes c.nodes g.nodes p.data_type h.0,
-  record { of_file = h.1.of_file ∙ sym g.nodes.same_id; of_kind = shape-kept is_name b.nodes c.nodes g.nodes p.logic_ref.id.index h.1.of_kind },
+  shape_stays is_name b c g p.logic_ref.id h.1,
 )
 
 AssignmentSound-kept : (b c : Bench) → Grows b c → (a : Assignment) → AssignmentSound b a → AssignmentSound c a
@@ -97,11 +93,8 @@ pub DefinitionSound-kept : (b c : Bench) → Grows b c → (d : Definition) → 
 DefinitionSound-kept b c g d h = HasType-kept b.nodes c.nodes g.nodes d.data_type h
 
 pub ArtifactSound-kept : (b c : Bench) → Grows b c → (a : Artifact) → ArtifactSound b a → ArtifactSound c a
-ArtifactSound-kept b c g BlankArtifact h = tt
-ArtifactSound-kept b c g (CommentArtifact text) h = tt
-ArtifactSound-kept b c g (InlineArtifact text) h = tt
-ArtifactSound-kept b c g (MacroArtifact call semicolon) h =
-    record { of_file = h.of_file ∙ sym g.nodes.same_id; of_kind = shape-kept is_macro b.nodes c.nodes g.nodes call.id.index h.of_kind }
+ArtifactSound-kept b c g (MacroArtifact call semicolon) h = shape_stays is_macro b c g call.id h
+ArtifactSound-kept b c g _ h = tt
 
 ConnectionSound-kept : (b c : Bench) → Grows b c → (x : Connection) → ConnectionSound b x → ConnectionSound c x
 ConnectionSound-kept b c g x h = maybe-expr-kept b c g x.value h
@@ -114,9 +107,8 @@ InstanceSound-kept b c g i h =
     }
 
 FormSound-kept : (b c : Bench) → Grows b c → (f : ParameterForm) → FormSound b f → FormSound c f
-FormSound-kept b c g (PlainForm name) h = tt
-FormSound-kept b c g (IntForm name) h = tt
 FormSound-kept b c g (DefinedForm d) h = index-kept b c d.id (length b.definitions) (length c.definitions) g g.definitions h
+FormSound-kept b c g _ h = tt
 
 pub continuous_stays : (b c : Bench) → Grows b c → (a : ContinuousAssignment) → OwnsContinuous b a → OwnsContinuous c a
 continuous_stays b c g a h =
@@ -181,24 +173,15 @@ always-there xs i h e = let below : i < length xs = below-of i (length xs) h in 
 
 MemberNewer-kept : (b c : Bench) → Grows b c → (i : ℕ) (m : Member) → MemberSound b m → MemberNewer b i m → MemberNewer c i m
 MemberNewer-kept b c g i (DeclarationEntry kind name t) s h = h
-MemberNewer-kept b c g i (AssignmentEntry a) s h = tt
-MemberNewer-kept b c g i (ParameterEntry local form value) s h = tt
-MemberNewer-kept b c g i BlankEntry s h = tt
-MemberNewer-kept b c g i (CommentEntry a) s h = tt
-MemberNewer-kept b c g i (InlineEntry a) s h = tt
-MemberNewer-kept b c g i (MacroEntry a) s h = tt
-MemberNewer-kept b c g i (InstanceEntry x) s h = tt
 MemberNewer-kept b c g i (FunctionEntry f) s h = h
 MemberNewer-kept b c g i (AlwaysEntry a) s h =
     newer-kept i (slice_get b.always_blocks a.id.index) (slice_get c.always_blocks a.id.index) (g.always_blocks a.id.index) (always-there b.always_blocks a.id.index s.of_kind) h
 MemberNewer-kept b c g i (ConditionalEntry x) s h = h
 MemberNewer-kept b c g i (LoopEntry l) s h = h
+MemberNewer-kept b c g i _ s h = tt
 
 pub LoopMemberSound-kept : (b c : Bench) → Grows b c → (i : ℕ) (m : Member) → LoopMemberSound b i m → LoopMemberSound c i m
 LoopMemberSound-kept b c g i m h = (MemberSound-kept b c g m h.0, MemberNewer-kept b c g i m h.0 h.1)
-
-pub logic_ref_stays : (b c : Bench) → Grows b c → (r : LogicRef) → OwnsLogicRef b r → OwnsLogicRef c r
-logic_ref_stays b c g r h = record { of_file = h.of_file ∙ sym g.nodes.same_id; of_kind = shape-kept is_name b.nodes c.nodes g.nodes r.id.index h.of_kind }
 
 pub NestSound-kept : (b c : Bench) → Grows b c → (i : ℕ) (n : NestRecord) → NestSound b i n → NestSound c i n
 NestSound-kept b c g i (BlockRecord ss) h = Each-map (StatementSound-kept b c g i) ss h
@@ -213,7 +196,7 @@ NestSound-kept b c g i (CaseNestRecord x) h =
     record { selector = HasExpr-kept b.nodes c.nodes g.nodes x.selector h.selector; arms = Each-map (CaseArmSound-kept b c g i) x.arms h.arms }
 NestSound-kept b c g i (LoopNestRecord l) h =
     record {
-      genvar = logic_ref_stays b c g l.genvar h.genvar;
+      genvar = shape_stays is_name b c g l.genvar.id h.genvar;
       start = HasExpr-kept b.nodes c.nodes g.nodes l.start h.start;
       end = HasExpr-kept b.nodes c.nodes g.nodes l.end h.end;
       members = Each-map (LoopMemberSound-kept b c g i) l.members h.members;
@@ -230,7 +213,7 @@ pub FunctionSound-kept : (b c : Bench) → Grows b c → (f : FunctionRecord) �
 FunctionSound-kept b c g f h =
     record {
       result_type = HasType-kept b.nodes c.nodes g.nodes f.result_type h.result_type;
-      result_name = logic_ref_stays b c g f.result_name h.result_name;
+      result_name = shape_stays is_name b c g f.result_name.id h.result_name;
       inputs = Each-map (VariableSound-kept b c g) f.inputs h.inputs;
       locals = Each-map (VariableSound-kept b c g) f.locals h.locals;
       body = nest-kept (is_kind BlockKind) b c f.body.id g never h.body;

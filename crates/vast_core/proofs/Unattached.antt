@@ -1,8 +1,7 @@
 -- What calls know that make a block which nothing holds, and that put an always block over it.
 use Rattle.std.proofs.Common.{true, ◌≡◌, List, [], ◌∷◌, length, Option, Some, All, refl, length-append, subst}
 use Rattle.std.specs.Prelude.{IfSome}
-use Rattle.vast_core.specs.declared.handle.Expr.{Expr}
-use Rattle.vast_core.specs.declared.handle.VastStatementBlock.{VastStatementBlock}
+use Rattle.vast_core.specs.Handles.{Expr, VastStatementBlock}
 use Rattle.vast_literal.specs.declared.kind.AlwaysKind.{AlwaysKind}
 use Rattle.vast_core.specs.ArenaState.{ArenaState}
 use Rattle.vast_core.specs.Nests.{AlwaysRecord}

@@ -5,12 +5,9 @@ use Rattle.std.specs.Cmp.Derive.{both_true}
 use Rattle.vast_literal.specs.Tree.{FileItemTree}
 use Rattle.vast_literal.specs.WellFormed.{is_well_formed_type}
 use Rattle.vast_literal.specs.WellFormedFile.{is_well_formed_parameter_name, are_well_formed_connections, is_given, are_given, are_well_formed_inputs, are_well_formed_locals, is_well_formed_member, are_well_formed_members, are_well_formed_ports, is_well_formed_typed, are_well_formed_parameters, are_well_formed_items, is_well_formed_file}
-use Rattle.vast_core.specs.declared.handle.Expr.{Expr}
-use Rattle.vast_core.specs.declared.handle.ModulePort.{ModulePort}
-use Rattle.vast_core.specs.declared.handle.VastDataType.{VastDataType}
-use Rattle.vast_core.specs.declared.node.Assignment.{Assignment}
+use Rattle.vast_core.specs.Handles.{Expr, ModulePort, VastDataType}
 use Rattle.vast_core.specs.Nodes.{maybe_type_in}
-use Rattle.vast_core.specs.Records.{ParameterPort, ModuleRecord, Member, DeclarationEntry, AssignmentEntry, ParameterEntry, BlankEntry, CommentEntry, InlineEntry, MacroEntry, InstanceEntry, FunctionEntry, AlwaysEntry, ConditionalEntry, LoopEntry, ParameterForm, PlainForm, IntForm, DefinedForm, FileItem, ModuleEntry, IncludeEntry, FileCommentEntry, FileBlankEntry, Artifact, BlankArtifact, CommentArtifact, InlineArtifact, MacroArtifact, Connection, InstanceRecord}
+use Rattle.vast_core.specs.Records.{Assignment, ParameterPort, ModuleRecord, Member, DeclarationEntry, AssignmentEntry, ParameterEntry, BlankEntry, CommentEntry, InlineEntry, MacroEntry, InstanceEntry, FunctionEntry, AlwaysEntry, ConditionalEntry, LoopEntry, ParameterForm, DefinedForm, FileItem, ModuleEntry, Artifact, MacroArtifact, Connection, InstanceRecord}
 use Rattle.vast_core.specs.Nests.{NestRecord, BlockRecord, ConditionalNestRecord, CaseNestRecord, LoopNestRecord, FunctionVariable, FunctionRecord, AlwaysRecord}
 use Rattle.vast_core.specs.Bench.{Bench, OwnsExpr, OwnsType, OwnsPort, AreWellFormed, maybe_tree_of}
 use Rattle.vast_core.specs.WrittenKinds.{IsGiven, HasOwnKind, HasLocalKind, HasValue}
@@ -30,10 +27,9 @@ Each-there P Q f xs i h there = let below : i < length xs = grind (arith, there)
 -- Parts of members.
 
 form-good : (b : Bench) → AreWellFormed b → RecordsSound b → (form : ParameterForm) → FormSound b form → is_well_formed_parameter_name (form_tree b form) ≡ true
-form-good b w r (PlainForm name) h = refl
-form-good b w r (IntForm name) h = refl
 form-good b w r (DefinedForm d) h =
     Each-there (DefinitionSound b) (λ o. is_well_formed_type (definition_tree b o).type ≡ true) (λ x k. type-good b w x.data_type k) b.definitions d.id.index r.definitions h.of_kind
+form-good b w r _ h = refl
 
 assignment-good : (b : Bench) → AreWellFormed b → (o : Option Assignment) → IfSome o (AssignmentSound b) → is_well_formed_member (assignment_member b o) ≡ true
 assignment-good b w None h = refl
@@ -41,10 +37,8 @@ assignment-good b w (Some a) h = both_true (expr-good b w a.lhs h.0) (expr-good 
 
 artifact-good : (b : Bench) → AreWellFormed b → (o : Option Artifact) → IfSome o (ArtifactSound b) → is_well_formed_member (artifact_member b o) ≡ true
 artifact-good b w None h = refl
-artifact-good b w (Some BlankArtifact) h = refl
-artifact-good b w (Some (CommentArtifact text)) h = refl
-artifact-good b w (Some (InlineArtifact text)) h = refl
 artifact-good b w (Some (MacroArtifact call semicolon)) h = both_true (macro-is b call h) (macro-good b w call h)
+artifact-good b w (Some _) h = refl
 
 connections-good : (b : Bench) → AreWellFormed b → (cs : List Connection) → Each (ConnectionSound b) cs → are_well_formed_connections (map (connection_tree b) cs) ≡ true
 connections-good b w [] h = refl
@@ -164,9 +158,7 @@ items-good b w s [] = refl
 items-good b w s (ModuleEntry m ∷ es) =
     module_item-good b w s (slice_get b.modules m.id.index) (Each-read (ModuleSound b) b.modules m.id.index s.records.modules) (Each-read DeclaresOwnKinds b.modules m.id.index s.kinds.declarations) (map (item_tree b) es)
     (items-good b w s es)
-items-good b w s (IncludeEntry path ∷ es) = items-good b w s es
-items-good b w s (FileCommentEntry text ∷ es) = items-good b w s es
-items-good b w s (FileBlankEntry ∷ es) = items-good b w s es
+items-good b w s (_ ∷ es) = items-good b w s es
 
 pub tree-good : (b : Bench) → AreWellFormed b → FileSound b → is_well_formed_file (tree b) ≡ true
 unfolding tree

@@ -1,6 +1,6 @@
 -- What an Ast holds, node by node, and how many nodes fit before an arena has to grow.
 use Rattle.std.specs.Prelude.{ℕ, List, Option}
-use Rattle.vast_core.specs.declared.handle.VastStatementBlock.{VastStatementBlock}
+use Rattle.vast_core.specs.Handles.{VastStatementBlock}
 use Rattle.vast_literal.specs.declared.kind.VastFileType.{VastFileType}
 use Rattle.vast_core.specs.declared.node.ExprNode.{ExprNode}
 use Rattle.vast_core.specs.declared.node.Nest.{Nest}

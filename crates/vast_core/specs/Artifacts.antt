@@ -1,9 +1,6 @@
 -- What a file holds after a call that makes an artifact, a definition or an instantiation, and the handle of it.
 use Rattle.std.specs.Prelude.{[], ◌∷◌, ◌++◌, length}
-use Rattle.vast_core.specs.declared.handle.Id.{Id}
-use Rattle.vast_core.specs.declared.handle.Def.{Def}
-use Rattle.vast_core.specs.declared.handle.Instantiation.{Instantiation}
-use Rattle.vast_core.specs.declared.handle.VastStatement.{VastStatement}
+use Rattle.vast_core.specs.Handles.{Id, Def, Instantiation, VastStatement}
 use Rattle.vast_core.specs.Records.{Definition, Artifact, InstanceRecord}
 use Rattle.vast_core.specs.Bench.{Bench}
 use Rattle.vast_core.specs.Growth.{next_id}

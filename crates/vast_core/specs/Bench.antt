@@ -1,36 +1,11 @@
 -- What a file holds, for its users: the trees of its expressions and types, its records and its lists.
 use Rattle.std.specs.Prelude.{ℕ, Bool, true, false, List, [], length, nat_lt, Option, Some, None, slice_get}
 use Rattle.vast_literal.specs.Tree.{ExprTree, TypeTree, MaybeExpr, Exprs}
-use Rattle.vast_core.specs.declared.handle.Expr.{Expr}
-use Rattle.vast_core.specs.declared.handle.IndexableExpr.{IndexableExpr}
-use Rattle.vast_core.specs.declared.handle.Index.{Index}
-use Rattle.vast_core.specs.declared.handle.Slice.{Slice}
-use Rattle.vast_core.specs.declared.handle.LogicRef.{LogicRef}
-use Rattle.vast_core.specs.declared.handle.ParameterRef.{ParameterRef}
-use Rattle.vast_core.specs.declared.handle.LocalparamRef.{LocalparamRef}
-use Rattle.vast_core.specs.declared.handle.MacroRef.{MacroRef}
-use Rattle.vast_core.specs.declared.handle.VastDataType.{VastDataType}
-use Rattle.vast_core.specs.declared.handle.VastModule.{VastModule}
-use Rattle.vast_core.specs.declared.handle.VastFunction.{VastFunction}
-use Rattle.vast_core.specs.declared.handle.ModulePort.{ModulePort}
-use Rattle.vast_core.specs.declared.handle.Instantiation.{Instantiation}
-use Rattle.vast_core.specs.declared.handle.Def.{Def}
-use Rattle.vast_core.specs.declared.handle.BlankLine.{BlankLine}
-use Rattle.vast_core.specs.declared.handle.Comment.{Comment}
-use Rattle.vast_core.specs.declared.handle.InlineVerilogStatement.{InlineVerilogStatement}
-use Rattle.vast_core.specs.declared.handle.MacroStatement.{MacroStatement}
-use Rattle.vast_core.specs.declared.handle.ContinuousAssignment.{ContinuousAssignment}
-use Rattle.vast_core.specs.declared.handle.VastStatement.{VastStatement}
-use Rattle.vast_core.specs.declared.handle.VastAlwaysBase.{VastAlwaysBase}
-use Rattle.vast_core.specs.declared.handle.VastStatementBlock.{VastStatementBlock}
-use Rattle.vast_core.specs.declared.handle.Conditional.{Conditional}
-use Rattle.vast_core.specs.declared.handle.CaseStatement.{CaseStatement}
-use Rattle.vast_core.specs.declared.handle.GenerateLoop.{GenerateLoop}
+use Rattle.vast_core.specs.Handles.{Expr, IndexableExpr, Index, Slice, LogicRef, ParameterRef, LocalparamRef, MacroRef, VastDataType, VastModule, VastFunction, ModulePort, Instantiation, Def, BlankLine, Comment, InlineVerilogStatement, MacroStatement, ContinuousAssignment, VastStatement, VastAlwaysBase, VastStatementBlock, Conditional, CaseStatement, GenerateLoop}
 use Rattle.vast_literal.specs.declared.kind.VastFileType.{VastFileType}
-use Rattle.vast_core.specs.declared.node.Assignment.{Assignment}
 use Rattle.vast_core.specs.Nodes.{Nodes, no_nodes, IsOwned, is_expr_root, is_type_root, is_root_of, is_name, is_index, is_slice, is_macro, expr_in, type_in, maybe_expr_in, exprs_in}
 use Rattle.vast_core.specs.Types.{ExprWellFormed, TypeWellFormed}
-use Rattle.vast_core.specs.Records.{Port, ModuleRecord, Definition, Artifact, BlankArtifact, CommentArtifact, InlineArtifact, MacroArtifact, InstanceRecord, FileItem, IsFree}
+use Rattle.vast_core.specs.Records.{Assignment, Port, ModuleRecord, Definition, Artifact, BlankArtifact, CommentArtifact, InlineArtifact, MacroArtifact, InstanceRecord, FileItem, IsFree}
 use Rattle.vast_core.specs.Nests.{NestRecord, FunctionRecord, AlwaysRecord, nest_kind, is_kind, BlockKind, ConditionalKind, CaseStatementKind, LoopKind}
 
 -- What a file holds for its users: the trees of its nodes, its containers, the records of all else, its items.

@@ -1,14 +1,9 @@
 -- What a file holds after a call that adds to a container, or to a module what holds containers.
 use Rattle.std.specs.Prelude.{ℕ, suc, Bool, true, false, [], ◌∷◌, ◌++◌, length, Option, Some, None}
-use Rattle.vast_core.specs.declared.handle.Expr.{Expr}
-use Rattle.vast_core.specs.declared.handle.VastStatementBlock.{VastStatementBlock}
-use Rattle.vast_core.specs.declared.handle.Conditional.{Conditional}
-use Rattle.vast_core.specs.declared.handle.CaseStatement.{CaseStatement}
+use Rattle.vast_core.specs.Handles.{Expr, VastStatementBlock, Conditional, CaseStatement}
 use Rattle.vast_literal.specs.declared.kind.CaseKind.{CaseKind}
-use Rattle.vast_core.specs.declared.node.ElseIf.{ElseIf}
-use Rattle.vast_core.specs.declared.node.CaseArm.{CaseArm}
 use Rattle.vast_core.specs.Records.{Member, changed_at}
-use Rattle.vast_core.specs.Nests.{Statement, NestRecord, BlockRecord, ConditionalNestRecord, CaseNestRecord, LoopNestRecord}
+use Rattle.vast_core.specs.Nests.{CaseArm, ElseIf, Statement, NestRecord, BlockRecord, ConditionalNestRecord, CaseNestRecord, LoopNestRecord}
 use Rattle.vast_core.specs.Bench.{Bench}
 use Rattle.vast_core.specs.Growth.{next_id}
 

@@ -1,7 +1,7 @@
 -- The names that a module declares: each once, and those are the names that are taken in it.
 use Rattle.std.specs.Prelude.{◌≡◌, ℕ, ◌≤◌, List, [], ◌∷◌, ◌++◌, flat_map, count_by, Option, Some, None, slice_get}
 use Rattle.std.specs.Str.{bytes_eq}
-use Rattle.vast_core.specs.declared.handle.ModulePort.{ModulePort}
+use Rattle.vast_core.specs.Handles.{ModulePort}
 use Rattle.vast_core.specs.Records.{Port, ModuleRecord, Member, DeclarationEntry, FunctionEntry}
 use Rattle.vast_core.specs.Nests.{FunctionRecord}
 

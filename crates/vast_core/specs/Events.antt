@@ -1,6 +1,6 @@
 -- Which of the expressions that are given as events is the first that may not be one.
 use Rattle.std.specs.Prelude.{◌≡◌, ℕ, false, List, Option, Some, None, slice_get, take, All}
-use Rattle.vast_core.specs.declared.handle.Expr.{Expr}
+use Rattle.vast_core.specs.Handles.{Expr}
 use Rattle.vast_core.specs.Bench.{Bench, tree_of}
 use Rattle.vast_core.specs.Sound.{is_event, EventSound}
 

@@ -1,7 +1,7 @@
 -- What a file holds after a call that adds an input or a local to a function.
 use Rattle.std.specs.Prelude.{Bool, true, false, [], ◌∷◌, ◌++◌}
 use Rattle.vast_literal.specs.Tree.{NameTree, Typed}
-use Rattle.vast_core.specs.declared.handle.VastFunction.{VastFunction}
+use Rattle.vast_core.specs.Handles.{VastFunction}
 use Rattle.vast_core.specs.Records.{with_name, changed_at}
 use Rattle.vast_core.specs.Nests.{FunctionVariable, FunctionRecord}
 use Rattle.vast_core.specs.Bench.{Bench, type_of}

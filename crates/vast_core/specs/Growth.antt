@@ -3,23 +3,13 @@ use Rattle.std.specs.Prelude.{◌≡◌, ℕ, ℤ, Bool, List, [], ◌∷◌, �
 use Rattle.std.specs.Fmt.{signed_decimal}
 use Rattle.std.specs.declared.alloc.AllocError.{AllocError}
 use Rattle.vast_literal.specs.Tree.{ExprTree, NameTree, LiteralTree, IndexTree, SliceTree, ConcatTree, SomeExpr, TypeTree, VectorTree, Typed}
-use Rattle.vast_core.specs.declared.handle.Id.{Id}
-use Rattle.vast_core.specs.declared.handle.Expr.{Expr}
-use Rattle.vast_core.specs.declared.handle.LogicRef.{LogicRef}
-use Rattle.vast_core.specs.declared.handle.IndexableExpr.{IndexableExpr}
-use Rattle.vast_core.specs.declared.handle.Index.{Index}
-use Rattle.vast_core.specs.declared.handle.Slice.{Slice}
-use Rattle.vast_core.specs.declared.handle.VastDataType.{VastDataType}
-use Rattle.vast_core.specs.declared.handle.VastModule.{VastModule}
-use Rattle.vast_core.specs.declared.handle.ModulePort.{ModulePort}
-use Rattle.vast_core.specs.declared.handle.ContinuousAssignment.{ContinuousAssignment}
+use Rattle.vast_core.specs.Handles.{Id, Expr, LogicRef, IndexableExpr, Index, Slice, VastDataType, VastModule, ModulePort, ContinuousAssignment}
 use Rattle.vast_literal.specs.declared.kind.ModulePortDirection.{ModulePortDirection}
 use Rattle.vast_literal.specs.declared.kind.DataKind.{DataKind}
-use Rattle.vast_core.specs.declared.node.Assignment.{Assignment}
 use Rattle.vast_core.specs.ArenaState.{ArenaState}
 use Rattle.vast_core.specs.View.{bench}
 use Rattle.vast_core.specs.Nodes.{Root, ExprRoot, TypeRoot, with_node}
-use Rattle.vast_core.specs.Records.{FileItem, ModuleEntry, Member, DeclarationEntry, new_module, with_listed_port, with_listed_member, with_listed_name, changed_at}
+use Rattle.vast_core.specs.Records.{Assignment, FileItem, ModuleEntry, Member, DeclarationEntry, new_module, with_listed_port, with_listed_member, with_listed_name, changed_at}
 use Rattle.vast_core.specs.Bench.{Bench, tree_of, trees_of, type_of}
 
 -- The call returns this and leaves this, both of what the file held; or memory was refused and nothing changed.

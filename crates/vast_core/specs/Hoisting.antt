@@ -1,7 +1,7 @@
 -- Hoisting: a module's declarations before its other members, from some member on.
 use Rattle.std.specs.Prelude.{ℕ, Bool, true, false, not, List, [], ◌++◌, take, drop, Option, Some, None}
 use Rattle.std.specs.List.{filter}
-use Rattle.vast_core.specs.declared.handle.VastModule.{VastModule}
+use Rattle.vast_core.specs.Handles.{VastModule}
 use Rattle.vast_core.specs.Records.{ModuleRecord, Member, DeclarationEntry, changed_at}
 use Rattle.vast_core.specs.Bench.{Bench}
 

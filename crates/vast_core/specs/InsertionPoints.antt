@@ -1,13 +1,11 @@
 -- Where a conditional or an assignment goes: among the members of a scope, or into a block.
 use Rattle.std.specs.Prelude.{Bool, true, false}
-use Rattle.vast_core.specs.declared.handle.Expr.{Expr}
-use Rattle.vast_core.specs.declared.handle.VastStatement.{VastStatement}
-use Rattle.vast_core.specs.declared.node.Assignment.{Assignment}
+use Rattle.vast_core.specs.Handles.{Expr, VastStatement}
 use Rattle.vast_core.specs.declared.ast.insertion_point.InsertionPoint.{InsertionPoint}
 use Rattle.vast_core.specs.declared.ast.insertion_point.InsertionPoint.TheVariants.{Scope as ScopePoint, Block as BlockPoint}
 use Rattle.vast_literal.specs.declared.kind.AssignmentForm.{AssignmentForm}
 use Rattle.vast_literal.specs.declared.kind.AssignmentForm.TheVariants.{Blocking, Nonblocking, Continuous}
-use Rattle.vast_core.specs.Records.{AssignmentEntry, ConditionalEntry}
+use Rattle.vast_core.specs.Records.{Assignment, AssignmentEntry, ConditionalEntry}
 use Rattle.vast_core.specs.Nests.{Statement, AssignStatement, ContinuousStatement, ConditionalStatement}
 use Rattle.vast_core.specs.Bench.{Bench, OwnsBlock}
 use Rattle.vast_core.specs.Growth.{next_continuous, with_assignment}

@@ -1,11 +1,7 @@
 -- What a file holds after a call that adds an always block, a loop, a conditional or a function, or a loop's member.
 use Rattle.std.specs.Prelude.{ℕ, List, [], ◌∷◌, ◌++◌, length, Option}
 use Rattle.vast_literal.specs.Tree.{NameTree, Untyped, Typed}
-use Rattle.vast_core.specs.declared.handle.Expr.{Expr}
-use Rattle.vast_core.specs.declared.handle.VastDataType.{VastDataType}
-use Rattle.vast_core.specs.declared.handle.VastAlwaysBase.{VastAlwaysBase}
-use Rattle.vast_core.specs.declared.handle.VastFunction.{VastFunction}
-use Rattle.vast_core.specs.declared.handle.GenerateLoop.{GenerateLoop}
+use Rattle.vast_core.specs.Handles.{Expr, VastDataType, VastAlwaysBase, VastFunction, GenerateLoop}
 use Rattle.vast_literal.specs.declared.kind.AlwaysKind.{AlwaysKind}
 use Rattle.vast_core.specs.Records.{Member, with_name}
 use Rattle.vast_core.specs.Nests.{NestRecord, LoopNestRecord, AlwaysRecord, FunctionRecord}

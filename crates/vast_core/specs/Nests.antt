@@ -1,17 +1,14 @@
 -- Containers, functions and always blocks in contracts: the records of their nodes. A statement is the node itself.
 use Rattle.std.specs.Prelude.{ℕ, Bool, true, false, List, ◌∷◌, ◌++◌, map, Option, Some, None, string_bytes, String}
 use Rattle.std.specs.declared.alloc.Global.{Global}
-use Rattle.vast_core.specs.declared.handle.Expr.{Expr}
-use Rattle.vast_core.specs.declared.handle.LogicRef.{LogicRef}
-use Rattle.vast_core.specs.declared.handle.VastDataType.{VastDataType}
-use Rattle.vast_core.specs.declared.handle.VastStatementBlock.{VastStatementBlock}
+use Rattle.vast_core.specs.Handles.{Expr, LogicRef, VastDataType, VastStatementBlock}
 use Rattle.vast_literal.specs.declared.kind.AlwaysKind.{AlwaysKind}
 use Rattle.vast_literal.specs.declared.kind.CaseKind.{CaseKind}
 -- A statement of a block names an assignment or a container, which stays where it is.
 pub use Rattle.vast_core.specs.declared.node.Statement.{Statement}
 pub use Rattle.vast_core.specs.declared.node.Statement.TheVariants.{Assignment as AssignStatement, Continuous as ContinuousStatement, Conditional as ConditionalStatement, Case as CasesStatement, BlankLine as BlankStatement, Comment as CommentStatement, Inline as InlineStatement}
-use Rattle.vast_core.specs.declared.node.ElseIf.{ElseIf}
-use Rattle.vast_core.specs.declared.node.CaseArm.{CaseArm}
+pub use Rattle.vast_core.specs.declared.node.ElseIf.{ElseIf}
+pub use Rattle.vast_core.specs.declared.node.CaseArm.{CaseArm}
 use Rattle.vast_core.specs.declared.node.ConditionalNode.{ConditionalNode}
 use Rattle.vast_core.specs.declared.node.CaseNode.{CaseNode}
 use Rattle.vast_core.specs.declared.node.LoopNode.{LoopNode}

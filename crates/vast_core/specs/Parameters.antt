@@ -1,9 +1,7 @@
 -- What a file holds after a call that adds a parameter, and the handle of the parameter's name.
 use Rattle.std.specs.Prelude.{ℕ, List, [], Option, Some, None, slice_get}
 use Rattle.vast_literal.specs.Tree.{ExprTree, NameTree, Untyped, Typed}
-use Rattle.vast_core.specs.declared.handle.Expr.{Expr}
-use Rattle.vast_core.specs.declared.handle.VastModule.{VastModule}
-use Rattle.vast_core.specs.declared.handle.VastDataType.{VastDataType}
+use Rattle.vast_core.specs.Handles.{Expr, VastModule, VastDataType}
 use Rattle.vast_core.specs.Nodes.{maybe_type_in}
 use Rattle.vast_core.specs.Records.{Definition, ParameterForm, PlainForm, IntForm, DefinedForm, with_listed_parameter, changed_at}
 use Rattle.vast_core.specs.Bench.{Bench, type_of}

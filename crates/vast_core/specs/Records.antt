@@ -1,11 +1,12 @@
--- Modules and instantiations in contracts: the records of their nodes. Ports, members, definitions, artifacts and items of a
--- file are the nodes themselves.
+-- Modules and instantiations in contracts: the records of their nodes. Ports, assignments, members, definitions, artifacts
+-- and items of a file are the nodes themselves.
 use Rattle.std.specs.Prelude.{◌≢◌, ℕ, zero, suc, List, [], ◌∷◌, ◌++◌, fold, All, string_bytes}
 use Rattle.std.specs.Ordering.{nat_cmp}
 use Rattle.std.specs.Cmp.Lexicographic.{slice_cmp}
 use Rattle.std.specs.BTreeSet.{insert_key}
-use Rattle.vast_core.specs.declared.handle.ModulePort.{ModulePort}
+use Rattle.vast_core.specs.Handles.{ModulePort}
 pub use Rattle.vast_core.specs.declared.node.Port.{Port}
+pub use Rattle.vast_core.specs.declared.node.Assignment.{Assignment}
 pub use Rattle.vast_core.specs.declared.node.ParameterForm.{ParameterForm}
 pub use Rattle.vast_core.specs.declared.node.ParameterForm.TheVariants.{Plain as PlainForm, Int as IntForm, Defined as DefinedForm}
 pub use Rattle.vast_core.specs.declared.node.Member.{Member}

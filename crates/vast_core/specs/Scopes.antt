@@ -1,7 +1,6 @@
 -- What has members: a module or a loop.
 use Rattle.std.specs.Prelude.{◌<◌, Bool}
-use Rattle.vast_core.specs.declared.handle.Expr.{Expr}
-use Rattle.vast_core.specs.declared.handle.VastStatementBlock.{VastStatementBlock}
+use Rattle.vast_core.specs.Handles.{Expr, VastStatementBlock}
 use Rattle.vast_core.specs.declared.ast.scope.Scope.{Scope}
 use Rattle.vast_core.specs.declared.ast.scope.Scope.TheVariants.{Module as ScopeModule, Loop as ScopeLoop}
 use Rattle.vast_core.specs.Records.{Member, DeclarationEntry, ParameterEntry, FunctionEntry, AlwaysEntry, ConditionalEntry, LoopEntry, ParameterForm}

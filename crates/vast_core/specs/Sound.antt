@@ -2,13 +2,9 @@
 -- is its own.
 use Rattle.std.specs.Prelude.{◌↔◌, ℕ, suc, ◌<◌, Bool, true, false, IsTrue, List, [], ◌∷◌, Option, Some, None, slice_get, IfSome}
 use Rattle.vast_literal.specs.Tree.{ExprTree, NameTree, PosEdgeTree, NegEdgeTree}
-use Rattle.vast_core.specs.declared.handle.Expr.{Expr}
-use Rattle.vast_core.specs.declared.handle.VastStatementBlock.{VastStatementBlock}
-use Rattle.vast_core.specs.declared.node.ElseIf.{ElseIf}
-use Rattle.vast_core.specs.declared.node.CaseArm.{CaseArm}
-use Rattle.vast_core.specs.Nests.{Statement, AssignStatement, ContinuousStatement, ConditionalStatement, CasesStatement, ConditionalRecord, CaseRecord, LoopRecord, NestRecord, BlockRecord, ConditionalNestRecord, CaseNestRecord, LoopNestRecord, FunctionVariable, FunctionRecord, AlwaysRecord, declared_names}
-use Rattle.vast_core.specs.declared.node.Assignment.{Assignment}
-use Rattle.vast_core.specs.Records.{Port, ParameterPort, ModuleRecord, ParameterForm, PlainForm, IntForm, DefinedForm, Member, DeclarationEntry, AssignmentEntry, ParameterEntry, BlankEntry, CommentEntry, InlineEntry, MacroEntry, InstanceEntry, FunctionEntry, AlwaysEntry, ConditionalEntry, LoopEntry, FileItem, ModuleEntry, Definition, Artifact, MacroArtifact, Connection, InstanceRecord, IsFree}
+use Rattle.vast_core.specs.Handles.{Expr, VastStatementBlock}
+use Rattle.vast_core.specs.Nests.{CaseArm, ElseIf, Statement, AssignStatement, ContinuousStatement, ConditionalStatement, CasesStatement, ConditionalRecord, CaseRecord, LoopRecord, NestRecord, BlockRecord, ConditionalNestRecord, CaseNestRecord, LoopNestRecord, FunctionVariable, FunctionRecord, AlwaysRecord, declared_names}
+use Rattle.vast_core.specs.Records.{Assignment, Port, ParameterPort, ModuleRecord, ParameterForm, PlainForm, IntForm, DefinedForm, Member, DeclarationEntry, AssignmentEntry, ParameterEntry, BlankEntry, CommentEntry, InlineEntry, MacroEntry, InstanceEntry, FunctionEntry, AlwaysEntry, ConditionalEntry, LoopEntry, FileItem, ModuleEntry, Definition, Artifact, MacroArtifact, Connection, InstanceRecord, IsFree}
 use Rattle.vast_core.specs.Bench.{Bench, OwnsExpr, OwnsType, OwnsLogicRef, OwnsPort, OwnsContinuous, OwnsModule, OwnsDef, OwnsMacroRef, OwnsComment, OwnsInline, OwnsMacroStatement, OwnsInstantiation, OwnsFunction, OwnsAlways, OwnsStatement, OwnsBlock, OwnsConditional, OwnsCase, OwnsLoop, tree_of}
 use Rattle.vast_core.specs.DeclaredNames.{NamesSound}
 use Rattle.vast_core.specs.Parents.{HasOneParent}

@@ -2,7 +2,7 @@
 -- a function are regs and logics, and each parameter of an instance has a value.
 use Rattle.std.specs.Prelude.{Bool, true, false, IsTrue, Option, Some, None}
 use Rattle.vast_literal.specs.WellFormedFile.{is_own_kind, is_local_word}
-use Rattle.vast_core.specs.declared.handle.Expr.{Expr}
+use Rattle.vast_core.specs.Handles.{Expr}
 use Rattle.vast_literal.specs.declared.kind.DataKind.{DataKind}
 use Rattle.vast_core.specs.Records.{Member, DeclarationEntry, Connection}
 use Rattle.vast_core.specs.Nests.{FunctionVariable}

@@ -1,20 +1,18 @@
 -- What a file keeps as it grows.
-use Rattle.std.proofs.Common.{◌≡◌, ℕ, Bool, true, false, cond, Result, Ok, Err, refl, sym, ap, ◌∙◌, subst, arith}
+use Rattle.std.proofs.Common.{◌≡◌, ℕ, length, Bool, true, false, cond, Result, Ok, Err, refl, sym, ap, ◌∙◌, subst, arith}
 use Rattle.std.specs.declared.alloc.AllocError.{AllocError}
 use Rattle.vast_core.specs.ArenaState.{ArenaState}
 use Rattle.vast_core.specs.View.{bench}
-use Rattle.vast_core.specs.Nodes.{Root}
+use Rattle.vast_core.specs.Nodes.{Root, is_name, is_index, is_slice, is_macro}
 use Rattle.vast_core.specs.Records.{ModuleRecord, changed_at}
-use Rattle.vast_core.specs.Bench.{Bench}
+use Rattle.vast_core.specs.Nests.{is_kind, BlockKind, ConditionalKind, CaseStatementKind, LoopKind}
+use Rattle.vast_core.specs.Bench.{Bench, is_blank_line, is_comment, is_inline, is_macro_statement}
 use Rattle.vast_core.specs.Growth.{Grows as GrowsTo, with_root}
 use Rattle.vast_core.specs.Containers.{with_unique}
-use Rattle.vast_core.specs.Internal.Containers.{Listing, with_listing, Fresh, with_fresh}
-use Rattle.vast_core.proofs.NodeLaws.{Extends-root}
-use Rattle.vast_core.proofs.Sound.{Grows, logic_ref_stays, port_stays, continuous_stays}
-use Rattle.vast_core.proofs.Stays.{expr_stays, tree_stays, type_stays, type_tree_stays, parameter_ref_stays, localparam_ref_stays, index_stays, slice_stays, macro_ref_stays, indexable_stays, module_stays, function_stays, instantiation_stays, always_stays, def_stays, statement_stays, blank_line_stays, comment_stays, inline_stays, macro_statement_stays, block_stays, conditional_stays, case_stays, loop_stays}
-use Rattle.vast_core.proofs.Growing.{Grows-fresh, Grows-listing}
-use Rattle.vast_core.proofs.Hoists.{Grows-changed}
-use Rattle.vast_core.proofs.NestReaders.{Grows-unique}
+use Rattle.vast_core.specs.Internal.Containers.{Listing, AsUnique, with_listing, Fresh, with_fresh}
+use Rattle.vast_core.proofs.NodeLaws.{Extends-root, HasExpr-kept, HasType-kept, expr_in-kept, type_in-kept}
+use Rattle.vast_core.proofs.Sound.{Grows, shape_stays, index-kept, found-kept, artifact-kept, nest-kept, never, port_stays, continuous_stays}
+use Rattle.vast_core.proofs.Growing.{Grows-fresh, Grows-listing, Grows-changed}
 use Rattle.vast_print.specs.Text.{expr_text}
 use Rattle.xlsynth_vast.specs.Keeps.{Keeps}
 
@@ -25,34 +23,34 @@ keeps-grown b c g same =
     record {
       file_type = same;
       id = g.nodes.same_id;
-      exprs = expr_stays b c g;
-      trees = tree_stays b c g;
-      texts = λ x h. ap expr_text (tree_stays b c g x h);
-      types = type_stays b c g;
-      type_trees = type_tree_stays b c g;
-      logic_refs = logic_ref_stays b c g;
-      parameters = parameter_ref_stays b c g;
-      localparams = localparam_ref_stays b c g;
-      indexes = index_stays b c g;
-      slices = slice_stays b c g;
-      macro_refs = macro_ref_stays b c g;
-      indexables = indexable_stays b c g;
-      modules = module_stays b c g;
+      exprs = HasExpr-kept b.nodes c.nodes g.nodes;
+      trees = expr_in-kept b.nodes c.nodes g.nodes;
+      texts = λ x h. ap expr_text (expr_in-kept b.nodes c.nodes g.nodes x h);
+      types = HasType-kept b.nodes c.nodes g.nodes;
+      type_trees = type_in-kept b.nodes c.nodes g.nodes;
+      logic_refs = λ x h. shape_stays is_name b c g x.id h;
+      parameters = λ x h. shape_stays is_name b c g x.id h;
+      localparams = λ x h. shape_stays is_name b c g x.id h;
+      indexes = λ x h. shape_stays is_index b c g x.id h;
+      slices = λ x h. shape_stays is_slice b c g x.id h;
+      macro_refs = λ x h. shape_stays is_macro b c g x.id h;
+      indexables = λ x h. HasExpr-kept b.nodes c.nodes g.nodes (record { id = x.id }) h;
+      modules = λ x h. index-kept b c x.id (length b.modules) (length c.modules) g g.modules h;
       ports = port_stays b c g;
-      functions = function_stays b c g;
-      instantiations = instantiation_stays b c g;
-      always_blocks = always_stays b c g;
-      definitions = def_stays b c g;
-      statements = statement_stays b c g;
+      functions = λ x h. index-kept b c x.id (length b.functions) (length c.functions) g g.functions h;
+      instantiations = λ x h. index-kept b c x.id (length b.instances) (length c.instances) g g.instances h;
+      always_blocks = λ x h. found-kept b c x.id b.always_blocks c.always_blocks g g.always_blocks h;
+      definitions = λ x h. index-kept b c x.id (length b.definitions) (length c.definitions) g g.definitions h;
+      statements = λ x h. found-kept b c x.id b.assignments c.assignments g g.assignments h;
       continuous = continuous_stays b c g;
-      blank_lines = blank_line_stays b c g;
-      comments = comment_stays b c g;
-      inlines = inline_stays b c g;
-      macro_statements = macro_statement_stays b c g;
-      blocks = block_stays b c g;
-      conditionals = conditional_stays b c g;
-      cases = case_stays b c g;
-      loops = loop_stays b c g;
+      blank_lines = λ x h. artifact-kept is_blank_line b c x.id g never h;
+      comments = λ x h. artifact-kept is_comment b c x.id g never h;
+      inlines = λ x h. artifact-kept is_inline b c x.id g never h;
+      macro_statements = λ x h. artifact-kept is_macro_statement b c x.id g never h;
+      blocks = λ x h. nest-kept (is_kind BlockKind) b c x.id g never h;
+      conditionals = λ x h. nest-kept (is_kind ConditionalKind) b c x.id g never h;
+      cases = λ x h. nest-kept (is_kind CaseStatementKind) b c x.id g never h;
+      loops = λ x h. nest-kept (is_kind LoopKind) b c x.id g never h;
     }
 
 pub keeps-same : (b : Bench) → Keeps b b
@@ -152,8 +150,7 @@ pub keeps-changed : (b : Bench) (i : ℕ) (f : ModuleRecord → ModuleRecord) �
 keeps-changed b i f = keeps-grown b (record b { modules = changed_at i f b.modules }) (Grows-changed b i f) refl
 
 pub keeps-unique : (b : Bench) (i : ℕ) (unique : Bool) → Keeps b (record b { nests = changed_at i (with_unique unique) b.nests })
-keeps-unique b i unique =
-    keeps-grown b (record b { nests = changed_at i (with_unique unique) b.nests }) (Grows-unique b i unique) refl
+keeps-unique b i unique = keeps-listing b (AsUnique i unique)
 
 pub keeps-cond : (b c d : Bench) (t : Bool) → Keeps b c → Keeps b d → Keeps b (cond t c d)
 keeps-cond b c d true h k = h

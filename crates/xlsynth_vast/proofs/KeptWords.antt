@@ -33,7 +33,7 @@ use Rattle.vast_core.specs.Parameters.{with_parameter_port}
 use Rattle.vast_core.specs.Hoisting.{with_hoisted}
 use Rattle.vast_core.specs.Functions.{with_variable}
 use Rattle.vast_core.specs.Containers.{StatementEnters, ElseIfEnters, ElseEnters, CaseArmEnters, MemberEnters, next_block, with_block, with_conditional, new_conditional, with_case, new_case, with_statement, with_else_if, with_else, with_case_arm, with_case_unique}
-use Rattle.vast_core.specs.Internal.Containers.{InFile, InPorts, InFunction, InNest, no_fresh, fresh_assignment, fresh_block}
+use Rattle.vast_core.specs.Internal.Containers.{PortsGain, InFile, InModule, InFunction, InNest, no_fresh, fresh_assignment, fresh_block}
 use Rattle.vast_core.proofs.Containers.{fresh_container}
 use Rattle.vast_core.specs.Scopes.{with_scope_member, with_scope_parameter}
 use Rattle.vast_core.specs.Loops.{next_always, with_always, with_loop, new_loop, with_loop_member}
@@ -67,7 +67,7 @@ module-kept name b = keeps-then b _ _ (keeps-fresh b (record no_fresh { fresh_mo
 
 pub port-kept : (owner : VastModule) (direction : ModulePortDirection) (kind : DataKind) (name : List ℕ) (type : VastDataType) (b : Bench) → Keeps b (with_port owner direction kind name type b)
 port-kept owner direction kind name type b =
-    keeps-then b _ _ (keeps-root b _) (keeps-then _ _ _ (keeps-fresh _ (record no_fresh { port = Some _ })) (keeps-listing _ (InPorts owner _ name)))
+    keeps-then b _ _ (keeps-root b _) (keeps-then _ _ _ (keeps-fresh _ (record no_fresh { port = Some _ })) (keeps-listing _ (InModule owner (PortsGain _ name))))
 
 pub member-kept : (owner : VastModule) (entry : Member) (b : Bench) → Keeps b (with_member owner entry b)
 member-kept owner entry b = keeps-changed b owner.id.index _

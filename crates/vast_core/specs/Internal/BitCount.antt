@@ -1,8 +1,7 @@
 -- Beside `specs/BitCount.antt`: what private contracts and proofs say, and no public one.
 use Rattle.std.specs.Prelude.{◌≡◌, ◌≤ℤ◌, ◌<◌, pos, ℤ, IsTrue, List, [], ◌++◌, All}
 use Rattle.vast_literal.specs.Tree.{TypeTree}
-use Rattle.vast_core.specs.declared.handle.VastDataType.{VastDataType}
-use Rattle.vast_core.specs.Handles.{type_rank}
+use Rattle.vast_core.specs.Handles.{VastDataType, type_rank}
 use Rattle.vast_core.specs.Types.{is_castable}
 use Rattle.vast_literal.specs.Shape.{base_of}
 use Rattle.vast_core.specs.Bench.{Bench, OwnsType, type_of}

@@ -1,14 +1,10 @@
 -- Beside `specs/Containers.antt`: what private contracts and proofs say, and no public one.
 use Rattle.std.specs.Prelude.{◌≡◌, ℕ, suc, ◌+◌, ◌<◌, ◌≤◌, Bool, true, false, List, [], ◌∷◌, ◌++◌, length, Option, Some, None, IfSome}
-use Rattle.vast_core.specs.declared.handle.VastModule.{VastModule}
-use Rattle.vast_core.specs.declared.handle.VastStatementBlock.{VastStatementBlock}
-use Rattle.vast_core.specs.declared.handle.ModulePort.{ModulePort}
-use Rattle.vast_core.specs.declared.handle.VastFunction.{VastFunction}
-use Rattle.vast_core.specs.declared.node.Assignment.{Assignment}
-use Rattle.vast_core.specs.declared.node.ExprNode.{ExprNode}
-use Rattle.vast_core.specs.Nodes.{built}
+use Rattle.vast_core.specs.Handles.{VastModule, VastStatementBlock, ModulePort, VastFunction}
+use Rattle.vast_core.specs.Nodes.{ExprNode, built}
 use Rattle.vast_core.specs.Internal.Nodes.{TermsSound}
-use Rattle.vast_core.specs.Records.{Port, ParameterPort, ModuleRecord, Member, FileItem, Definition, Artifact, InstanceRecord, with_listed_port, with_listed_parameter, with_listed_member, with_listed_name, changed_at}
+use Rattle.vast_core.specs.Records.{Assignment, Port, ParameterPort, ModuleRecord, Member, FileItem, Definition, Artifact, InstanceRecord, with_listed_port, with_listed_parameter, with_listed_member, with_listed_name, changed_at}
+use Rattle.vast_core.specs.Hoisting.{with_members_hoisted}
 use Rattle.vast_core.specs.Nests.{NestRecord, BlockRecord, FunctionVariable, FunctionRecord, AlwaysRecord}
 use Rattle.vast_core.specs.ArenaState.{ArenaState}
 use Rattle.vast_core.specs.Bench.{Bench, OwnsModule, OwnsPort, OwnsFunction, OwnsBlock, NameIsFree, IsFreeInFunction}
@@ -17,28 +13,39 @@ use Rattle.vast_core.specs.DeclaredNames.{NamesSound, names_by_port, names_by_me
 use Rattle.vast_core.specs.WrittenKinds.{IsVariableKind, HasOwnKind}
 use Rattle.vast_core.specs.Parents.{Part, ContainerPart, FunctionPart, AlwaysPart, held_by_statement, held_by_member, held_by_else_if, held_by_block, held_by_case_arm, held_by_container, held_by_function, held_by_always, held_by_module}
 use Rattle.vast_core.specs.Sound.{PortSound, AssignmentSound, MemberSound, ParameterPortSound, ModuleSound, EntrySound, DefinitionSound, ArtifactSound, InstanceSound, StatementSound, ElseIfSound, HoldsBlock, CaseArmSound, LoopMemberSound, NestSound, VariableSound, FunctionSound, AlwaysSound, DeclaresOwnKinds, HasLocalKinds, GivesValues}
-use Rattle.vast_core.specs.Containers.{NestedEntry, StatementEnters, ElseIfEnters, ElseEnters, CaseArmEnters, MemberEnters, with_entry}
+use Rattle.vast_core.specs.Containers.{NestedEntry, StatementEnters, ElseIfEnters, ElseEnters, CaseArmEnters, MemberEnters, with_entry, with_unique}
 
--- Where a new entry goes: nowhere, to the end of the file's items, of a module's header, ports or members, of a
--- function's inputs or locals, or into a container. A name is taken from then on. Or a block becomes the file's detached one.
+-- What becomes of a module's lists: the header, the ports or the members gain an element, whose name is taken from then
+-- on; or the declarations among the members are hoisted.
+pub data ModuleChange : Type 0 where
+  HeaderGains : ParameterPort → ModuleChange
+  PortsGain : ModulePort → (name : List ℕ) → ModuleChange
+  MembersGain : Member → (name : Option (List ℕ)) → ModuleChange
+  Hoists : (start : ℕ) → ModuleChange
+
+-- Where a new entry goes: nowhere, to the end of the file's items, into a module, to the end of a function's inputs or
+-- locals, or into a container. Or a block becomes the file's detached one, or a case statement `unique`, or not.
 pub data Listing : Type 0 where
   Nowhere : Listing
   InFile : FileItem → Listing
-  InHeader : VastModule → ParameterPort → Listing
-  InPorts : VastModule → ModulePort → (name : List ℕ) → Listing
-  InModule : VastModule → Member → (name : Option (List ℕ)) → Listing
+  InModule : VastModule → ModuleChange → Listing
   InFunction : VastFunction → (local : Bool) → FunctionVariable → Listing
   InNest : (place : ℕ) → NestedEntry → Listing
   AsDetached : VastStatementBlock → Listing
+  AsUnique : (place : ℕ) → Bool → Listing
 
 abbrev pub with_listed : Member → Option (List ℕ) → ModuleRecord → ModuleRecord
 with_listed entry None m = with_listed_member entry m
 with_listed entry (Some name) m = with_listed_name entry name m
 
+abbrev pub with_change : ModuleChange → ModuleRecord → ModuleRecord
+with_change (HeaderGains p) = with_listed_parameter p
+with_change (PortsGain port name) = with_listed_port port name
+with_change (MembersGain entry name) = with_listed entry name
+with_change (Hoists start) = with_members_hoisted start
+
 abbrev pub listed_modules : Listing → List ModuleRecord → List ModuleRecord
-listed_modules (InHeader owner p) modules = changed_at owner.id.index (with_listed_parameter p) modules
-listed_modules (InPorts owner port name) modules = changed_at owner.id.index (with_listed_port port name) modules
-listed_modules (InModule owner entry name) modules = changed_at owner.id.index (with_listed entry name) modules
+listed_modules (InModule owner change) modules = changed_at owner.id.index (with_change change) modules
 listed_modules _ modules = modules
 
 abbrev pub listed_functions : Listing → List FunctionRecord → List FunctionRecord
@@ -47,6 +54,7 @@ listed_functions _ functions = functions
 
 abbrev pub listed_nests : Listing → List NestRecord → List NestRecord
 listed_nests (InNest place entry) nests = changed_at place (with_entry entry) nests
+listed_nests (AsUnique place unique) nests = changed_at place (with_unique unique) nests
 listed_nests _ nests = nests
 
 abbrev pub listed_items : Listing → List FileItem → List FileItem
@@ -153,14 +161,12 @@ listed_name None = []
 listed_name (Some name) = name ∷ []
 
 -- A port that is listed declares the name that it takes, and so does a member with a name; the name is free.
-pub record ListsPort (b c : Bench) (owner : VastModule) (port : ModulePort) (name : List ℕ) : Type 0 where
-  pub owner_there : OwnsModule b owner
+pub record ListsPort (c : Bench) (owner : VastModule) (port : ModulePort) (name : List ℕ) : Type 0 where
   pub port_there : OwnsPort c port
   pub declares : names_by_port c.ports port ≡ name ∷ []
   pub free : NameIsFree c owner name
 
-pub record ListsMember (b c : Bench) (owner : VastModule) (entry : Member) (name : Option (List ℕ)) : Type 0 where
-  pub owner_there : OwnsModule b owner
+pub record ListsMember (c : Bench) (owner : VastModule) (entry : Member) (name : Option (List ℕ)) : Type 0 where
   pub member : MemberSound c entry
   pub kind : HasOwnKind entry
   pub declares : names_by_member c.functions entry ≡ listed_name name
@@ -172,16 +178,21 @@ pub record ListsVariable (b c : Bench) (f : VastFunction) (local : Bool) (v : Fu
   pub kind : IsVariableKind local v.kind
   pub free : IsFreeInFunction c f v.name
 
+abbrev pub ChangeSound : Bench → VastModule → ModuleChange → Type 0
+ChangeSound c owner (HeaderGains p) = ParameterPortSound c p
+ChangeSound c owner (PortsGain port name) = ListsPort c owner port name
+ChangeSound c owner (MembersGain entry name) = ListsMember c owner entry name
+ChangeSound c owner (Hoists start) = Unit {0}
+
 -- The new entry of file b is made of what file c owns, and declares the names that it takes; those are free.
 abbrev pub ListingSound : Bench → Bench → Listing → Type 0
 ListingSound b c Nowhere = Unit {0}
 ListingSound b c (InFile entry) = EntrySound c entry
-ListingSound b c (InHeader owner p) = OwnsModule b owner × ParameterPortSound c p
-ListingSound b c (InPorts owner port name) = ListsPort b c owner port name
-ListingSound b c (InModule owner entry name) = ListsMember b c owner entry name
+ListingSound b c (InModule owner change) = OwnsModule b owner × ChangeSound c owner change
 ListingSound b c (InFunction f local v) = ListsVariable b c f local v
 ListingSound b c (InNest place entry) = (place < length b.nests) × EntersSound c place entry
 ListingSound b c (AsDetached block) = OwnsBlock c block
+ListingSound b c (AsUnique place unique) = place < length b.nests
 
 -- The parts that a new entry places, those that stand in new nodes, and those that are made.
 
@@ -193,7 +204,7 @@ held_by_entry (CaseArmEnters a) = held_by_case_arm a
 held_by_entry (MemberEnters m) = held_by_member m
 
 abbrev pub held_by_listing : Listing → List Part
-held_by_listing (InModule owner entry name) = held_by_member entry
+held_by_listing (InModule owner (MembersGain entry name)) = held_by_member entry
 held_by_listing (InNest place entry) = held_by_entry entry
 held_by_listing (AsDetached block) = held_by_block (Some block)
 held_by_listing _ = []

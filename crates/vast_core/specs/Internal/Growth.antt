@@ -1,7 +1,6 @@
 -- Beside `specs/Growth.antt`: what private contracts and proofs say, and no public one.
 use Rattle.std.specs.Prelude.{List}
-use Rattle.vast_core.specs.declared.node.ExprNode.{ExprNode}
-use Rattle.vast_core.specs.Nodes.{built}
+use Rattle.vast_core.specs.Nodes.{ExprNode, built}
 use Rattle.vast_core.specs.Bench.{Bench}
 
 -- Expressions and types more, each made of older ones.

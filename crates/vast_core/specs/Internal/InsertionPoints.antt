@@ -1,6 +1,5 @@
 -- Beside `specs/InsertionPoints.antt`: what private contracts and proofs say, and no public one.
-use Rattle.vast_core.specs.declared.handle.Conditional.{Conditional}
-use Rattle.vast_core.specs.declared.handle.VastStatement.{VastStatement}
+use Rattle.vast_core.specs.Handles.{Conditional, VastStatement}
 use Rattle.vast_core.specs.declared.ast.insertion_point.InsertionPoint.{InsertionPoint}
 use Rattle.vast_core.specs.declared.ast.insertion_point.InsertionPoint.TheVariants.{Scope as ScopePoint, Block as BlockPoint}
 use Rattle.vast_literal.specs.declared.kind.AssignmentForm.{AssignmentForm}

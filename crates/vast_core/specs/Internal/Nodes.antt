@@ -1,12 +1,9 @@
 -- Beside `specs/Nodes.antt`: what private contracts and proofs say, and no public one.
 use Rattle.std.specs.Prelude.{◌≡◌, ℕ, ◌<◌, List, [], ◌∷◌, Some, slice_get}
-use Rattle.vast_core.specs.declared.handle.Expr.{Expr}
-use Rattle.vast_core.specs.declared.handle.VastDataType.{VastDataType}
-use Rattle.vast_core.specs.declared.node.ExprNode.{ExprNode}
+use Rattle.vast_core.specs.Handles.{Expr, VastDataType, rank, type_rank}
 use Rattle.vast_core.specs.declared.node.ExprNode.TheVariants.{DataType}
-use Rattle.vast_core.specs.Handles.{rank, type_rank}
 use Rattle.vast_core.specs.Types.{ExprFits, TypeFits, ExprWellFormed, TypeWellFormed}
-use Rattle.vast_core.specs.Nodes.{Root, ExprRoot, TypeRoot, Nodes, with_node, is_expr_root, is_type_root, IsOwned, term_root, ExprChildrenHold, TypeChildrenHold}
+use Rattle.vast_core.specs.Nodes.{ExprNode, Root, ExprRoot, TypeRoot, Nodes, with_node, is_expr_root, is_type_root, IsOwned, term_root, ExprChildrenHold, TypeChildrenHold}
 
 abbrev pub HasExpr : Nodes → Expr → Type 0
 HasExpr b e = IsOwned b.id e.id (is_expr_root (slice_get b.roots e.id.index))

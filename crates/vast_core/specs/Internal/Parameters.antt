@@ -1,7 +1,7 @@
 -- Beside `specs/Parameters.antt`: what private contracts and proofs say, and no public one.
 use Rattle.std.specs.Prelude.{◌≡◌, ℕ, List, Option, IfSome}
 use Rattle.vast_literal.specs.Tree.{NameTree}
-use Rattle.vast_core.specs.declared.handle.VastDataType.{VastDataType}
+use Rattle.vast_core.specs.Handles.{VastDataType}
 use Rattle.vast_core.specs.Nodes.{maybe_type_in}
 use Rattle.vast_core.specs.Records.{ParameterForm}
 use Rattle.vast_core.specs.Bench.{Bench, OwnsType}

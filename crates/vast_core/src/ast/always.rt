@@ -13,7 +13,7 @@ ghost use Rattle.vast_core.specs.Scopes.{OwnsScope, IsOlder, with_scope_member};
 ghost use Rattle.vast_core.specs.View.{bench};
 
 use crate::ast::Ast;
-use crate::ast::arrivals::{Arrivals, Node, Terms};
+use crate::ast::arrivals::{Node, Terms};
 use crate::ast::scope::Scope;
 use crate::handle::{Expr, VastAlwaysBase, VastStatementBlock};
 use crate::node::{AlwaysBlock, Member};
@@ -43,15 +43,13 @@ impl Ast {
         self.grow_in(
             scope,
             Member::Always(always_block),
-            Arrivals {
-                terms: Terms::Nothing,
-                node: Node::Always(AlwaysBlock {
-                    kind,
-                    events,
-                    block,
-                }),
-                block: true,
-            },
+            Terms::Nothing,
+            Node::Always(AlwaysBlock {
+                kind,
+                events,
+                block,
+            }),
+            true,
         )?;
         Ok(always_block)
     }
@@ -134,15 +132,13 @@ impl Ast {
         self.grow_in(
             scope,
             Member::Always(always_block),
-            Arrivals {
-                terms: Terms::Nothing,
-                node: Node::AlwaysOverDetached(AlwaysBlock {
-                    kind: AlwaysKind::AlwaysFF,
-                    events,
-                    block,
-                }),
-                block: false,
-            },
+            Terms::Nothing,
+            Node::AlwaysOverDetached(AlwaysBlock {
+                kind: AlwaysKind::AlwaysFF,
+                events,
+                block,
+            }),
+            false,
         )?;
         Ok(always_block)
     }

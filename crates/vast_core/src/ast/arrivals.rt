@@ -4,7 +4,7 @@ ghost use Rattle.std.specs.Prelude.{◌≡◌, ◌+◌, ◌-◌, ◌++◌, ◌�
 ghost use Rattle.vast_core.specs.Records.{instance_record, module_record};
 ghost use Rattle.vast_core.specs.Nests.{always_record, function_record, nest_record};
 ghost use Rattle.vast_core.specs.Internal.Containers.{added, with_empty_block, count_of, block_count, HasRoom};
-ghost use Rattle.vast_core.specs.Internal.Arrivals.{fresh_of, fresh_node, no_arrivals, terms_of};
+ghost use Rattle.vast_core.specs.Internal.Arrivals.{fresh_of, fresh_node, terms_of};
 ghost use Rattle.vast_core.specs.View.{bench};
 
 use crate::ast::Ast;
@@ -37,28 +37,6 @@ pub(crate) enum Node {
     Always(AlwaysBlock),
     /// An always block over the file's detached block.
     AlwaysOverDetached(AlwaysBlock),
-}
-
-/// What comes at once; the empty block comes last.
-#[derive(Drop)]
-pub(crate) struct Arrivals {
-    pub(crate) terms: Terms,
-    pub(crate) node: Node,
-    pub(crate) block: bool,
-}
-
-impl Arrivals {
-    /// Nothing comes.
-    #[inline(always)]
-    pub(crate) fn none() -> Arrivals
-        ensures { result ≡ no_arrivals }
-    {
-        Arrivals {
-            terms: Terms::Nothing,
-            node: Node::Nothing,
-            block: false,
-        }
-    }
 }
 
 impl Terms {
@@ -204,14 +182,19 @@ impl Ast {
     /// Makes room for what comes.
     #[inline(always)]
     #[tactic(auto, unfolding(crate::specs::View::bench))]
-    pub(crate) fn make_room(&mut self, arrivals: &Arrivals) -> Result<(), AllocError>
+    pub(crate) fn make_room(
+        &mut self,
+        terms: &Terms,
+        node: &Node,
+        block: bool,
+    ) -> Result<(), AllocError>
         ensures unchanged { bench self.new ≡ bench self.old }
-        ensures room { OnOk result (HasRoom self.new (fresh_of arrivals.now)) }
+        ensures room { OnOk result (HasRoom self.new (fresh_of terms.now node.now block)) }
     {
-        self.terms.reserve(arrivals.terms.count())?;
-        let block = if arrivals.block { 1 } else { 0 };
-        self.nests.reserve(arrivals.node.container_count() + block)?;
-        match &arrivals.node {
+        self.terms.reserve(terms.count())?;
+        let blocks = if block { 1 } else { 0 };
+        self.nests.reserve(node.container_count() + blocks)?;
+        match node {
             Node::Nothing | Node::Container(_) => Ok(()),
             Node::Assignment(_) => self.assignments.reserve(1),
             Node::Port(_) => self.ports.reserve(1),

@@ -10,7 +10,7 @@ ghost use Rattle.vast_core.specs.Artifacts.{next_def, with_definition, next_arti
 ghost use Rattle.vast_core.specs.View.{bench};
 
 use crate::ast::Ast;
-use crate::ast::arrivals::{Arrivals, Node, Terms};
+use crate::ast::arrivals::{Node, Terms};
 use crate::ast::growth::Place;
 use crate::handle::{
     BlankLine, Comment, Def, Id, InlineVerilogStatement, Instantiation, MacroRef, MacroStatement,
@@ -41,15 +41,13 @@ impl Ast {
         let id = self.next_definition();
         self.grow(
             Place::Nowhere,
-            Arrivals {
-                terms: Terms::Nothing,
-                node: Node::Definition(Definition {
-                    name,
-                    kind,
-                    data_type,
-                }),
-                block: false,
-            },
+            Terms::Nothing,
+            Node::Definition(Definition {
+                name,
+                kind,
+                data_type,
+            }),
+            false,
         )?;
         Ok(Def { id })
     }
@@ -63,11 +61,9 @@ impl Ast {
         let id = self.next_artifact();
         self.grow(
             Place::Nowhere,
-            Arrivals {
-                terms: Terms::Nothing,
-                node: Node::Artifact(artifact),
-                block: false,
-            },
+            Terms::Nothing,
+            Node::Artifact(artifact),
+            false,
         )?;
         Ok(id)
     }
@@ -158,16 +154,14 @@ impl Ast {
         let id = self.next_instance();
         self.grow(
             Place::Nowhere,
-            Arrivals {
-                terms: Terms::Nothing,
-                node: Node::Instance(Instance {
-                    module_name,
-                    instance_name,
-                    parameters,
-                    connections,
-                }),
-                block: false,
-            },
+            Terms::Nothing,
+            Node::Instance(Instance {
+                module_name,
+                instance_name,
+                parameters,
+                connections,
+            }),
+            false,
         )?;
         Ok(Instantiation { id })
     }

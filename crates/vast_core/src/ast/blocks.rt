@@ -11,7 +11,7 @@ ghost use Rattle.vast_core.specs.Containers.{with_statement};
 ghost use Rattle.vast_core.specs.View.{bench};
 
 use crate::ast::Ast;
-use crate::ast::arrivals::Arrivals;
+use crate::ast::arrivals::{Node, Terms};
 use crate::ast::growth::{Entry, Place};
 use crate::handle::VastStatementBlock;
 use crate::node::{Nest, Statement};
@@ -37,7 +37,9 @@ impl Ast {
     {
         self.grow(
             Place::Nest(owner.id.index, Entry::Statement(statement)),
-            Arrivals::none(),
+            Terms::Nothing,
+            Node::Nothing,
+            false,
         )
     }
 

@@ -13,7 +13,7 @@ ghost use Rattle.vast_core.specs.Internal.Arrivals.{entry_of};
 ghost use Rattle.vast_core.specs.View.{bench};
 
 use crate::ast::Ast;
-use crate::ast::arrivals::{Arrivals, Node, Terms};
+use crate::ast::arrivals::{Node, Terms};
 use crate::ast::growth::{Entry, Place};
 use crate::handle::{CaseStatement, Conditional, Expr, VastStatementBlock};
 use crate::node::{CaseArm, CaseNode, ConditionalNode, ElseIf, Nest, Statement};
@@ -81,11 +81,9 @@ impl Ast {
         };
         self.grow(
             Place::Nest(owner.id.index, Entry::Statement(Statement::Case(case))),
-            Arrivals {
-                terms: Terms::Nothing,
-                node: Node::Container(Nest::Case(node)),
-                block: false,
-            },
+            Terms::Nothing,
+            Node::Container(Nest::Case(node)),
+            false,
         )?;
         Ok(case)
     }
@@ -98,11 +96,9 @@ impl Ast {
     {
         self.grow(
             Place::Nest(place, entry),
-            Arrivals {
-                terms: Terms::Nothing,
-                node: Node::Nothing,
-                block: true,
-            },
+            Terms::Nothing,
+            Node::Nothing,
+            true,
         )
     }
 

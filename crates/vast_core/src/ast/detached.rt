@@ -7,7 +7,7 @@ ghost use Rattle.vast_core.specs.Internal.Containers.{detached_left};
 ghost use Rattle.vast_core.specs.View.{bench};
 
 use crate::ast::Ast;
-use crate::ast::arrivals::{Arrivals, Node, Terms};
+use crate::ast::arrivals::{Node, Terms};
 use crate::ast::growth::Place;
 use crate::handle::VastStatementBlock;
 use std::alloc::AllocError;
@@ -24,14 +24,7 @@ impl Ast {
         let block = VastStatementBlock {
             id: self.next_nest(),
         };
-        self.grow(
-            Place::Detached(block),
-            Arrivals {
-                terms: Terms::Nothing,
-                node: Node::Nothing,
-                block: true,
-            },
-        )?;
+        self.grow(Place::Detached(block), Terms::Nothing, Node::Nothing, true)?;
         Ok(block)
     }
 

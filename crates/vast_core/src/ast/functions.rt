@@ -10,8 +10,8 @@ ghost use Rattle.vast_core.specs.Loops.{next_function, with_function};
 ghost use Rattle.vast_core.specs.View.{bench};
 
 use crate::ast::Ast;
-use crate::ast::arrivals::{Arrivals, Node, Terms};
-use crate::ast::growth::Place;
+use crate::ast::arrivals::{Node, Terms};
+use crate::ast::growth::{ModuleEntry, Place};
 use crate::handle::{LogicRef, VastDataType, VastFunction, VastModule, VastStatementBlock};
 use crate::node::{ExprNode, Function, Member};
 use std::alloc::AllocError;
@@ -58,12 +58,13 @@ impl Ast {
             names,
         };
         self.grow(
-            Place::Module(owner, Member::Function(function), Some(name)),
-            Arrivals {
-                terms: Terms::One(ExprNode::Name(variable, Some(result_type))),
-                node: Node::Function(node),
-                block: true,
-            },
+            Place::Module(
+                owner,
+                ModuleEntry::Member(Member::Function(function), Some(name)),
+            ),
+            Terms::One(ExprNode::Name(variable, Some(result_type))),
+            Node::Function(node),
+            true,
         )?;
         Ok(function)
     }

@@ -5,13 +5,13 @@ ghost use Rattle.vast_core.specs.Records.{module_record, changed_at, with_listed
 ghost use Rattle.vast_core.specs.Nests.{nest_record, function_record};
 ghost use Rattle.vast_core.specs.Functions.{with_listed_variable};
 ghost use Rattle.vast_core.specs.Containers.{StatementEnters, ElseIfEnters, ElseEnters, CaseArmEnters, MemberEnters, with_entry};
-ghost use Rattle.vast_core.specs.Internal.Containers.{with_listed, listed_modules, listed_nests, listed_functions, listed_items, listed_detached, GrowthSound, HasRoom, after_growth};
-ghost use Rattle.vast_core.specs.Internal.Arrivals.{entry_of, name_of, listing_of, fresh_of, ListingThere};
+ghost use Rattle.vast_core.specs.Internal.Containers.{with_change, listed_modules, listed_nests, listed_functions, listed_items, listed_detached, GrowthSound, HasRoom, after_growth};
+ghost use Rattle.vast_core.specs.Internal.Arrivals.{entry_of, change_of, listing_of, fresh_of, ListingThere};
 ghost use Rattle.vast_core.specs.Growth.{GrowsBy};
 ghost use Rattle.vast_core.specs.View.{bench};
 
 use crate::ast::Ast;
-use crate::ast::arrivals::{Arrivals, settle_block, settle_node, settle_terms};
+use crate::ast::arrivals::{Node, Terms, settle_block, settle_node, settle_terms};
 use crate::ast::detached::detached_left;
 use crate::handle::{ModulePort, VastFunction, VastModule, VastStatementBlock};
 use crate::node::{
@@ -30,14 +30,20 @@ pub(crate) enum Entry {
     Member(Member),
 }
 
-/// The list that gains an entry, with the entry; a name is taken from then on.
+/// A new entry of a module; a name is taken from then on.
+#[derive(Drop)]
+pub(crate) enum ModuleEntry<'a> {
+    Parameter(ParameterPort),
+    Port(ModulePort, &'a str),
+    Member(Member, Option<&'a str>),
+}
+
+/// The list that gains an entry, with the entry.
 #[derive(Drop)]
 pub(crate) enum Place<'a> {
     Nowhere,
     File(FileItem),
-    Header(VastModule, ParameterPort),
-    Ports(VastModule, ModulePort, &'a str),
-    Module(VastModule, Member, Option<&'a str>),
+    Module(VastModule, ModuleEntry<'a>),
     /// Whether the variable is a local; else it is an input.
     Function(VastFunction, bool, FunctionVariable),
     /// Into the container of this index.
@@ -169,16 +175,20 @@ impl Module {
         Ok(())
     }
 
-    /// Adds the member, and takes the name where there is one, or changes nothing.
-    fn enter(&mut self, member: Member, name: Option<&str>) -> Result<(), AllocError>
+    /// Adds the entry and takes its name, or changes nothing.
+    #[inline(always)]
+    fn enter(&mut self, entry: ModuleEntry<'_>) -> Result<(), AllocError>
         ensures ok { OnOk result
-            (module_record self.new
-            ≡ with_listed member (name_of name.entry) (module_record self.old)) }
+            (module_record self.new ≡ with_change (change_of entry.entry) (module_record self.old)) }
         ensures err { OnErr result (module_record self.new ≡ module_record self.old) }
     {
-        match name {
-            Some(name) => self.enter_member(member, name),
-            None => self.push_member(member),
+        match entry {
+            ModuleEntry::Parameter(parameter) => self.enter_header(parameter),
+            ModuleEntry::Port(port, name) => self.enter_port(port, name),
+            ModuleEntry::Member(member, name) => match name {
+                Some(name) => self.enter_member(member, name),
+                None => self.push_member(member),
+            },
         }
     }
 }
@@ -196,55 +206,16 @@ fn enter_nest(nests: &mut Vec<Nest>, place: usize, entry: Entry) -> Result<(), A
     target.enter(entry)
 }
 
-fn enter_header(
-    modules: &mut Vec<Module>,
-    owner: VastModule,
-    parameter: ParameterPort,
-) -> Result<(), AllocError>
-    requires { owner.id.index < length modules.old.items }
-    ensures ok { OnOk result
-        (map module_record modules.new.items
-        ≡ changed_at owner.id.index (with_listed_parameter parameter)
-        (map module_record modules.old.items)) }
-    ensures err { OnErr result
-        (map module_record modules.new.items ≡ map module_record modules.old.items) }
-    ensures room { vec_capacity modules.new - vec_len modules.new
-        ≡ vec_capacity modules.old - vec_len modules.old }
-{
-    let target = &mut modules[owner.id.index];
-    target.enter_header(parameter)
-}
-
-fn enter_port(
-    modules: &mut Vec<Module>,
-    owner: VastModule,
-    port: ModulePort,
-    name: &str,
-) -> Result<(), AllocError>
-    requires { owner.id.index < length modules.old.items }
-    ensures ok { OnOk result
-        (map module_record modules.new.items
-        ≡ changed_at owner.id.index (with_listed_port port name.now)
-        (map module_record modules.old.items)) }
-    ensures err { OnErr result
-        (map module_record modules.new.items ≡ map module_record modules.old.items) }
-    ensures room { vec_capacity modules.new - vec_len modules.new
-        ≡ vec_capacity modules.old - vec_len modules.old }
-{
-    let target = &mut modules[owner.id.index];
-    target.enter_port(port, name)
-}
-
+#[inline(always)]
 pub(crate) fn enter_module(
     modules: &mut Vec<Module>,
     owner: VastModule,
-    member: Member,
-    name: Option<&str>,
+    entry: ModuleEntry<'_>,
 ) -> Result<(), AllocError>
     requires { owner.id.index < length modules.old.items }
     ensures ok { OnOk result
         (map module_record modules.new.items
-        ≡ changed_at owner.id.index (with_listed member (name_of name.entry))
+        ≡ changed_at owner.id.index (with_change (change_of entry.entry))
         (map module_record modules.old.items)) }
     ensures err { OnErr result
         (map module_record modules.new.items ≡ map module_record modules.old.items) }
@@ -252,7 +223,7 @@ pub(crate) fn enter_module(
         ≡ vec_capacity modules.old - vec_len modules.old }
 {
     let target = &mut modules[owner.id.index];
-    target.enter(member, name)
+    target.enter(entry)
 }
 
 fn enter_function(
@@ -321,9 +292,7 @@ fn enter(
             items.push(item)?;
             Ok(())
         }
-        Place::Header(owner, parameter) => enter_header(modules, owner, parameter),
-        Place::Ports(owner, port, name) => enter_port(modules, owner, port, name),
-        Place::Module(owner, member, name) => enter_module(modules, owner, member, name),
+        Place::Module(owner, entry) => enter_module(modules, owner, entry),
         Place::Function(owner, local, variable) => {
             enter_function(functions, owner, local, variable)
         }
@@ -338,13 +307,19 @@ fn enter(
 impl Ast {
     /// Adds the entry and the nodes, for which there is room, or changes nothing.
     #[inline(always)]
-    fn admit(&mut self, place: Place<'_>, arrivals: Arrivals) -> Result<(), AllocError>
-        requires sound { GrowthSound (bench self.old) (listing_of place) (fresh_of arrivals) }
-        requires room { HasRoom self.old (fresh_of arrivals) }
+    fn admit(
+        &mut self,
+        place: Place<'_>,
+        terms: Terms,
+        node: Node,
+        block: bool,
+    ) -> Result<(), AllocError>
+        requires sound { GrowthSound (bench self.old) (listing_of place) (fresh_of terms node block) }
+        requires room { HasRoom self.old (fresh_of terms node block) }
         ensures { GrowsBy self.old self.new result
-            (after_growth (listing_of place.entry) (fresh_of arrivals)) }
+            (after_growth (listing_of place.entry) (fresh_of terms node block)) }
     {
-        let mut detached = detached_left(arrivals.node.takes_detached(), self.detached);
+        let mut detached = detached_left(node.takes_detached(), self.detached);
         let entered = enter(
             &mut self.modules,
             &mut self.nests,
@@ -354,11 +329,12 @@ impl Ast {
             place,
         );
         if let Err(error) = entered {
-            drop(arrivals);
+            drop(terms);
+            drop(node);
             return Err(error);
         }
         self.detached = detached;
-        settle_terms(&mut self.terms, arrivals.terms);
+        settle_terms(&mut self.terms, terms);
         settle_node(
             &mut self.assignments,
             &mut self.nests,
@@ -369,27 +345,35 @@ impl Ast {
             &mut self.artifacts,
             &mut self.instances,
             &mut self.always_blocks,
-            arrivals.node,
+            node,
         );
-        settle_block(&mut self.nests, arrivals.block, self.alloc);
+        settle_block(&mut self.nests, block, self.alloc);
         Ok(())
     }
 
-    /// Adds an entry to a list, and the nodes that come with it.
+    /// Adds an entry to a list, and the nodes that come with it: expressions and types, one of another arena, and last an
+    /// empty block, if one is asked for.
     ///
     /// # Errors
     /// `AllocError` where a growth was refused; nothing changed.
     #[inline(always)]
-    pub(crate) fn grow(&mut self, place: Place<'_>, arrivals: Arrivals) -> Result<(), AllocError>
-        requires { GrowthSound (bench self.old) (listing_of place) (fresh_of arrivals) }
+    pub(crate) fn grow(
+        &mut self,
+        place: Place<'_>,
+        terms: Terms,
+        node: Node,
+        block: bool,
+    ) -> Result<(), AllocError>
+        requires { GrowthSound (bench self.old) (listing_of place) (fresh_of terms node block) }
         ensures { GrowsBy self.old self.new result
-            (after_growth (listing_of place.entry) (fresh_of arrivals)) }
+            (after_growth (listing_of place.entry) (fresh_of terms node block)) }
     {
-        match self.make_room(&arrivals) {
-            Ok(()) => self.admit(place, arrivals),
+        match self.make_room(&terms, &node, block) {
+            Ok(()) => self.admit(place, terms, node, block),
             Err(error) => {
                 drop(place);
-                drop(arrivals);
+                drop(terms);
+                drop(node);
                 Err(error)
             }
         }

@@ -11,7 +11,7 @@ ghost use Rattle.vast_core.specs.Internal.InsertionPoints.{assignment_at, condit
 ghost use Rattle.vast_core.specs.View.{bench};
 
 use crate::ast::Ast;
-use crate::ast::arrivals::{Arrivals, Node, Terms};
+use crate::ast::arrivals::{Node, Terms};
 use crate::ast::growth::{Entry, Place};
 use crate::ast::scope::Scope;
 use crate::handle::{Conditional, ContinuousAssignment, Expr, VastStatement, VastStatementBlock};
@@ -111,15 +111,13 @@ impl Ast {
         let nonblocking = is_nonblocking(form);
         self.grow(
             place,
-            Arrivals {
-                terms: Terms::Nothing,
-                node: Node::Assignment(Assignment {
-                    lhs,
-                    rhs,
-                    nonblocking,
-                }),
-                block: false,
-            },
+            Terms::Nothing,
+            Node::Assignment(Assignment {
+                lhs,
+                rhs,
+                nonblocking,
+            }),
+            false,
         )?;
         Ok(assignment)
     }
@@ -143,14 +141,7 @@ impl Ast {
         };
         let place = Place::of_conditional(point, conditional);
         let node = self.new_conditional(condition);
-        self.grow(
-            place,
-            Arrivals {
-                terms: Terms::Nothing,
-                node: Node::Container(node),
-                block: true,
-            },
-        )?;
+        self.grow(place, Terms::Nothing, Node::Container(node), true)?;
         Ok(conditional)
     }
 }

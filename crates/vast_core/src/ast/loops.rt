@@ -13,7 +13,7 @@ ghost use Rattle.vast_core.specs.Scopes.{OwnsScope, with_scope_member};
 ghost use Rattle.vast_core.specs.View.{bench};
 
 use crate::ast::Ast;
-use crate::ast::arrivals::{Arrivals, Node, Terms};
+use crate::ast::arrivals::{Node, Terms};
 use crate::ast::scope::Scope;
 use crate::handle::{Expr, GenerateLoop, LogicRef};
 use crate::node::{ExprNode, LoopNode, Member, Nest};
@@ -62,11 +62,9 @@ impl Ast {
         self.grow_in(
             scope,
             Member::Loop(generate_loop),
-            Arrivals {
-                terms: Terms::One(ExprNode::Name(variable, None)),
-                node: Node::Container(Nest::Loop(node)),
-                block: false,
-            },
+            Terms::One(ExprNode::Name(variable, None)),
+            Node::Container(Nest::Loop(node)),
+            false,
         )?;
         Ok(generate_loop)
     }

@@ -9,7 +9,7 @@ ghost use Rattle.vast_core.specs.Hoisting.{members_of};
 ghost use Rattle.vast_core.specs.View.{bench};
 
 use crate::ast::Ast;
-use crate::ast::arrivals::{Arrivals, Node, Terms};
+use crate::ast::arrivals::{Node, Terms};
 use crate::ast::growth::Place;
 use crate::handle::VastModule;
 use crate::node::{FileItem, Module};
@@ -39,17 +39,15 @@ impl Ast {
         };
         self.grow(
             Place::File(FileItem::Module(handle)),
-            Arrivals {
-                terms: Terms::Nothing,
-                node: Node::Module(Module {
-                    name,
-                    parameters: Vec::new(self.alloc),
-                    ports: Vec::new(self.alloc),
-                    members: Vec::new(self.alloc),
-                    names: NameTable::new(self.alloc),
-                }),
-                block: false,
-            },
+            Terms::Nothing,
+            Node::Module(Module {
+                name,
+                parameters: Vec::new(self.alloc),
+                ports: Vec::new(self.alloc),
+                members: Vec::new(self.alloc),
+                names: NameTable::new(self.alloc),
+            }),
+            false,
         )?;
         Ok(handle)
     }
@@ -59,7 +57,7 @@ impl Ast {
         requires { EntrySound (bench self.old) item }
         ensures { GrowsBy self.old self.new result (with_item item) }
     {
-        self.grow(Place::File(item), Arrivals::none())
+        self.grow(Place::File(item), Terms::Nothing, Node::Nothing, false)
     }
 
     /// Adds the inclusion of a file as the last item.

@@ -2,13 +2,13 @@
 //! several times as much.
 
 ghost use Rattle.std.specs.Prelude.{Some, None};
-ghost use Rattle.vast_core.specs.Internal.Containers.{InModule, GrowthSound, after_growth, no_fresh};
+ghost use Rattle.vast_core.specs.Internal.Containers.{MembersGain, InModule, GrowthSound, after_growth, no_fresh};
 ghost use Rattle.vast_core.specs.Internal.Fresh.{fresh_term};
 ghost use Rattle.vast_core.specs.Growth.{GrowsBy};
 ghost use Rattle.vast_core.specs.View.{bench};
 
 use crate::ast::Ast;
-use crate::ast::growth::enter_module;
+use crate::ast::growth::{ModuleEntry, enter_module};
 use crate::handle::VastModule;
 use crate::node::{ExprNode, Member};
 use std::alloc::AllocError;
@@ -25,14 +25,18 @@ impl Ast {
         name: &str,
         node: ExprNode,
     ) -> Result<(), AllocError>
-        requires { GrowthSound (bench self.old) (InModule owner member (Some name.now))
-            (fresh_term node) }
+        requires { GrowthSound (bench self.old)
+            (InModule owner (MembersGain member (Some name.now))) (fresh_term node) }
         ensures { GrowsBy self.old self.new result
-            (after_growth (InModule owner member (Some name.now))
+            (after_growth (InModule owner (MembersGain member (Some name.now)))
             (fresh_term node)) }
     {
         self.terms.reserve(1)?;
-        enter_module(&mut self.modules, owner, member, Some(name))?;
+        enter_module(
+            &mut self.modules,
+            owner,
+            ModuleEntry::Member(member, Some(name)),
+        )?;
         self.terms.push(node).unwrap();
         Ok(())
     }
@@ -46,11 +50,11 @@ impl Ast {
         owner: VastModule,
         member: Member,
     ) -> Result<(), AllocError>
-        requires { GrowthSound (bench self.old) (InModule owner member None) no_fresh }
+        requires { GrowthSound (bench self.old) (InModule owner (MembersGain member None)) no_fresh }
         ensures { GrowsBy self.old self.new result
-            (after_growth (InModule owner member None) no_fresh) }
+            (after_growth (InModule owner (MembersGain member None)) no_fresh) }
     {
-        enter_module(&mut self.modules, owner, member, None)?;
+        enter_module(&mut self.modules, owner, ModuleEntry::Member(member, None))?;
         Ok(())
     }
 }

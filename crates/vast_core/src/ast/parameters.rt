@@ -11,8 +11,8 @@ ghost use Rattle.vast_core.specs.Scopes.{OwnsScope, with_scope_parameter};
 ghost use Rattle.vast_core.specs.View.{bench};
 
 use crate::ast::Ast;
-use crate::ast::arrivals::{Arrivals, Node, Terms};
-use crate::ast::growth::Place;
+use crate::ast::arrivals::{Node, Terms};
+use crate::ast::growth::{ModuleEntry, Place};
 use crate::ast::scope::Scope;
 use crate::handle::{Expr, LocalparamRef, LogicRef, ParameterRef, VastDataType, VastModule};
 use crate::node::{ExprNode, Member, ParameterForm, ParameterPort};
@@ -50,12 +50,10 @@ impl Ast {
             id: self.next_term(),
         };
         self.grow(
-            Place::Header(owner, port),
-            Arrivals {
-                terms: Terms::One(ExprNode::Name(node_name, data_type)),
-                node: Node::Nothing,
-                block: false,
-            },
+            Place::Module(owner, ModuleEntry::Parameter(port)),
+            Terms::One(ExprNode::Name(node_name, data_type)),
+            Node::Nothing,
+            false,
         )?;
         Ok(logic_ref)
     }
@@ -97,11 +95,9 @@ impl Ast {
         self.grow_in(
             scope,
             Member::Parameter(local, form, value),
-            Arrivals {
-                terms: Terms::One(ExprNode::Name(name, data_type)),
-                node: Node::Nothing,
-                block: false,
-            },
+            Terms::One(ExprNode::Name(name, data_type)),
+            Node::Nothing,
+            false,
         )?;
         Ok(expr)
     }

@@ -4,8 +4,7 @@ ghost use Rattle.std.specs.Prelude.{◌≡◌, ◌<◌, ◌^◌, ◌↔◌, IsTr
 ghost use Rattle.std.specs.Option.{option_copied};
 ghost use Rattle.vast_core.specs.Nodes.{is_expr_root, is_type_root, is_name, is_index, is_slice, is_macro};
 ghost use Rattle.vast_core.specs.Bench.{has_root, is_continuous, is_blank_line, is_comment, is_inline, is_macro_statement};
-ghost use Rattle.vast_core.specs.Nests.{nest_kind, is_kind, BlockKind, ConditionalKind, CaseStatementKind, LoopKind};
-ghost use Rattle.vast_core.specs.Nests.{nest_record};
+ghost use Rattle.vast_core.specs.Nests.{nest_kind, is_kind, BlockKind, ConditionalKind, CaseStatementKind, LoopKind, nest_record};
 ghost use Rattle.vast_core.specs.Sound.{ArtifactSound, NestSound};
 ghost use Rattle.vast_core.specs.FileTree.{family, families};
 ghost use Rattle.vast_core.specs.View.{bench};

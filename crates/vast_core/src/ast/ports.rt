@@ -6,8 +6,8 @@ ghost use Rattle.vast_core.specs.Growth.{Grows, next_logic_ref, with_port};
 ghost use Rattle.vast_core.specs.View.{bench};
 
 use crate::ast::Ast;
-use crate::ast::arrivals::{Arrivals, Node, Terms};
-use crate::ast::growth::Place;
+use crate::ast::arrivals::{Node, Terms};
+use crate::ast::growth::{ModuleEntry, Place};
 use crate::handle::{LogicRef, ModulePort, VastDataType, VastModule};
 use crate::node::{ExprNode, Port};
 use std::alloc::AllocError;
@@ -43,18 +43,16 @@ impl Ast {
             id: self.next_port(),
         };
         self.grow(
-            Place::Ports(owner, port, name),
-            Arrivals {
-                terms: Terms::One(ExprNode::Name(node_name, Some(data_type))),
-                node: Node::Port(Port {
-                    direction,
-                    kind,
-                    name: port_name,
-                    data_type,
-                    logic_ref,
-                }),
-                block: false,
-            },
+            Place::Module(owner, ModuleEntry::Port(port, name)),
+            Terms::One(ExprNode::Name(node_name, Some(data_type))),
+            Node::Port(Port {
+                direction,
+                kind,
+                name: port_name,
+                data_type,
+                logic_ref,
+            }),
+            false,
         )?;
         Ok(logic_ref)
     }

@@ -10,8 +10,8 @@ ghost use Rattle.vast_core.specs.Sound.{MemberSound};
 ghost use Rattle.vast_core.specs.View.{bench};
 
 use crate::ast::Ast;
-use crate::ast::arrivals::Arrivals;
-use crate::ast::growth::{Entry, Place};
+use crate::ast::arrivals::{Node, Terms};
+use crate::ast::growth::{Entry, ModuleEntry, Place};
 use crate::handle::{GenerateLoop, VastModule};
 use crate::node::Member;
 use std::alloc::AllocError;
@@ -32,7 +32,7 @@ impl<'a> Place<'a> {
         ensures { listing_of result ≡ listing_in scope member }
     {
         match scope {
-            Scope::Module(owner) => Place::Module(owner, member, None),
+            Scope::Module(owner) => Place::Module(owner, ModuleEntry::Member(member, None)),
             Scope::Loop(owner) => Place::Nest(owner.id.index, Entry::Member(member)),
         }
     }
@@ -48,15 +48,17 @@ impl Ast {
         &mut self,
         scope: Scope,
         member: Member,
-        arrivals: Arrivals,
+        terms: Terms,
+        node: Node,
+        block: bool,
     ) -> Result<(), AllocError>
         requires { GrowthSound (bench self.old) (listing_in scope member)
-            (fresh_of arrivals) }
+            (fresh_of terms node block) }
         ensures { GrowsBy self.old self.new result
             (λ b. with_scope_member scope member
-            (with_fresh (fresh_of arrivals) b)) }
+            (with_fresh (fresh_of terms node block) b)) }
     {
-        self.grow(Place::in_scope(scope, member), arrivals)
+        self.grow(Place::in_scope(scope, member), terms, node, block)
     }
 
     /// Appends a member to the scope's: an assignment, a parameter, a blank line, a comment, a text, a use of a macro or
@@ -73,7 +75,7 @@ impl Ast {
     {
         match scope {
             Scope::Module(owner) => self.grow_listed(owner, member),
-            Scope::Loop(_) => self.grow_in(scope, member, Arrivals::none()),
+            Scope::Loop(_) => self.grow_in(scope, member, Terms::Nothing, Node::Nothing, false),
         }
     }
 }

@@ -12,7 +12,7 @@ ghost use Rattle.vast_core.specs.Internal.Arrivals.{terms_of};
 ghost use Rattle.vast_core.specs.View.{bench};
 
 use crate::ast::Ast;
-use crate::ast::arrivals::{Arrivals, Node, Terms};
+use crate::ast::arrivals::{Node, Terms};
 use crate::ast::growth::Place;
 use crate::handle::{Expr, VastDataType};
 use crate::node::{ExprNode, TypeNode};
@@ -34,14 +34,7 @@ impl Ast {
         requires { TermsSound (bench self.old).nodes (terms_of terms) }
         ensures { GrowsBy self.old self.new result (with_terms (terms_of terms)) }
     {
-        self.grow(
-            Place::Nowhere,
-            Arrivals {
-                terms,
-                node: Node::Nothing,
-                block: false,
-            },
-        )
+        self.grow(Place::Nowhere, terms, Node::Nothing, false)
     }
 
     pub(crate) fn node(&self, index: usize) -> Option<&ExprNode>

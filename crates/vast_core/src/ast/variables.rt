@@ -10,7 +10,7 @@ ghost use Rattle.vast_core.specs.Functions.{with_listed_variable, with_variable}
 ghost use Rattle.vast_core.specs.View.{bench};
 
 use crate::ast::Ast;
-use crate::ast::arrivals::{Arrivals, Node, Terms};
+use crate::ast::arrivals::{Node, Terms};
 use crate::ast::growth::Place;
 use crate::handle::{LogicRef, VastDataType, VastFunction};
 use crate::node::{ExprNode, Function, FunctionVariable};
@@ -109,11 +109,9 @@ impl Ast {
                     data_type,
                 },
             ),
-            Arrivals {
-                terms: Terms::One(ExprNode::Name(node_name, Some(data_type))),
-                node: Node::Nothing,
-                block: false,
-            },
+            Terms::One(ExprNode::Name(node_name, Some(data_type))),
+            Node::Nothing,
+            false,
         )?;
         Ok(logic_ref)
     }

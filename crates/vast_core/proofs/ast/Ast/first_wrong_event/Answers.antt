@@ -1,6 +1,6 @@
 use Rattle.std.proofs.Common.{◌≡◌, ℕ, suc, zero, ◌<◌, true, IsTrue, List, [], ◌∷◌, length, get_or, take, All, refl, sym, ◌∙◌, subst, arith, add-one}
 use Rattle.std.proofs.lemmas.List.{get_or_default, take_all}
-use Rattle.vast_core.specs.declared.handle.Expr.{Expr}
+use Rattle.vast_core.specs.Handles.{Expr}
 use Rattle.vast_core.specs.Bench.{Bench, tree_of}
 use Rattle.vast_core.specs.Sound.{is_event, EventSound}
 use Rattle.vast_core.specs.View.{bench}

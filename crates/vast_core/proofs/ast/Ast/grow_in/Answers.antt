@@ -10,5 +10,5 @@ grow-requires c = rw c.in_scope.ensures c.requires
 
 pub returns : goal.returns
 returns c =
-    let grown = scope-grown (bench c.args.self.now) c.args.scope c.args.member (fresh_of c.args.arrivals) in
+    let grown = scope-grown (bench c.args.self.now) c.args.scope c.args.member (fresh_of c.args.terms c.args.node c.args.block) in
     leaves-same _ _ c.grow.result _ _ _ grown (rw c.in_scope.ensures at c.grow.ensures)
