@@ -3,11 +3,11 @@
 ghost use Rattle.std.specs.Prelude.{IfOk};
 ghost use Rattle.vast_check.specs.Internal.Check.{Answers};
 
-use crate::expected::{Expected, expected_behind};
+use crate::expected::{Expected, expected_of};
 use crate::place::{Place, place_of};
 use std::alloc::{AllocError, Global};
 use std::str;
-use vast_read::{first_token, underived_at};
+use vast_read::{first_token, longest_front, underived_at};
 
 /// What is found.
 #[derive(Drop)]
@@ -40,12 +40,13 @@ fn answer_text(alloc: Global, text: &str) -> Result<Answer<'_>, AllocError>
 {
     match underived_at(alloc, text)? {
         None => Ok(Answer::Derived),
-        Some(at) => {
-            let (before, rest) = text.split_at(at);
+        Some(_) => {
+            let front = longest_front(alloc, text)?;
+            let (_, rest) = text.split_at(front.place);
             Ok(Answer::Underived {
-                place: place_of(text.as_bytes(), at),
+                place: place_of(text.as_bytes(), front.place),
                 token: first_token(rest),
-                expected: expected_behind(alloc, before)?,
+                expected: expected_of(alloc, front.next)?,
             })
         }
     }

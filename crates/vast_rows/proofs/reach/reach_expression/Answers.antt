@@ -1,6 +1,0 @@
-use Rattle.vast_rows.specs.Rows.{rows_view}
-use Rattle.vast_rows.proofs.Reached.{expression_rows}
-use Rattle.vast_rows.proofs.reach.reach_expression.Goals as goal
-
-pub reach_by-requires-clause-spells : goal.reach_by-requires-clause-spells
-reach_by-requires-clause-spells g c = expression_rows (rows_view c.expressions.result.items.now c.expressions.result.rows.now) c.expressions.ensures.page
