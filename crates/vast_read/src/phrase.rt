@@ -139,10 +139,7 @@ impl<'t> Source for Reader<'t> {
 /// The reader sees whole tokens.
 impl<'t> Fronts for Reader<'t> {
     fn is_name(&self, name: &&'t str) -> bool {
-        match self.first() {
-            Some(token) => token.is(Token::Word(name)),
-            None => false,
-        }
+        self.is_first(Token::Word(*name))
     }
 
     fn is_path(&self) -> bool {
@@ -153,10 +150,7 @@ impl<'t> Fronts for Reader<'t> {
     }
 
     fn is_one(&self) -> bool {
-        match self.first() {
-            Some(token) => token.is(Token::Number("1")),
-            None => false,
-        }
+        self.is_first(Token::Number("1"))
     }
 }
 
