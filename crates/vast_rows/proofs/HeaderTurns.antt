@@ -1,6 +1,7 @@
 -- The turns of the reader of headers.
-use Rattle.std.proofs.Common.{◌≡◌, ◌↔◌, ℕ, suc, ◌<◌, ◌≤◌, ◌+◌, List, [], ◌∷◌, ◌++◌, length, Bool, ◌&&◌, nat_lt, true, false, cond, codes, Option, Some, None, refl, sym, ap, ◌∙◌, ◌⊎◌, inl, inr, subst, arith, lit<}
+use Rattle.std.proofs.Common.{◌≡◌, ◌↔◌, ℕ, suc, ◌<◌, ◌≤◌, ◌+◌, List, [], ◌∷◌, ◌++◌, length, Bool, ◌&&◌, nat_lt, true, false, cond, codes, Option, Some, None, Result, Ok, Err, IfOk, refl, sym, ap, ◌∙◌, ◌⊎◌, inl, inr, subst, arith, lit<}
 use Rattle.std.specs.Int.Bits.{bit_or}
+use Rattle.std.specs.Prelude.{MatchOption}
 use Rattle.vast_literal.specs.Grammar.{Spells}
 use Rattle.vast_literal.specs.Tokens as tokens
 use Rattle.vast_literal.proofs.Levels.{lower}
@@ -208,40 +209,49 @@ variable_leads v s before left false d = (d.0, λ t us rest e c. d.1 t us e (is 
 
 -- A condition.
 
-pub condition_opens : {v : Option (List ℕ)} (s : List Part) (before left : List tokens.Token) → Eaten (HasKind (kind.Mark OpenParen)) before left true → Leads v (part.Condition ∷ s) before v (part.Condition ∷ (part.Closing ∷ s)) left (Whole 0)
-condition_opens {v} s before left d = eaten d.0 d.1 (λ rest. (off d.0 rest d.2, opens d.0 d.2)) (λ h. h)
+pub condition_opens : (v : Option (List ℕ)) (s p q : List Part) (before left : List tokens.Token) → p ≡ part.Closing ∷ s → q ≡ part.Condition ∷ p → Eaten (HasKind (kind.Mark OpenParen)) before left true →
+    Leads v (part.Condition ∷ s) before v q left (Whole 0)
+condition_opens v s p q before left e f d = rw (f, e) (eaten d.0 d.1 (λ rest. (off d.0 rest d.2, opens d.0 d.2)) (λ h. h))
   where
     off : (t : tokens.Token) (rest : List tokens.Token) → HasKind (kind.Mark OpenParen) t → Coming v (part.Condition ∷ s) (t ∷ rest) → Coming v (part.Condition ∷ (part.Closing ∷ s)) rest
     off t rest k (opens _ _ c) = c
     off t rest k (named w f c) = absurd (cc k)
 
-pub condition_named : {v w : Option (List ℕ)} (s : List Part) (before left : List tokens.Token) → Eaten (MayBe v) before left true → w ≡ first_name before → Leads v (part.Condition ∷ s) before w (part.Comparison ∷ s) left (Whole 0)
-condition_named {v} s before left d new =
+pub condition_named : (v w : Option (List ℕ)) (s p : List Part) (before left : List tokens.Token) → p ≡ part.Comparison ∷ s → Eaten (MayBe v) before left true → w ≡ first_name before → Leads v (part.Condition ∷ s) before w p left (Whole 0)
+condition_named v w s p before left f d new =
     let e : before ≡ tokens.Word (d.2).0 ∷ left = d.1 ∙ ap (λ (t : tokens.Token). t ∷ left) (d.2).1 in
-    rw (new, e) (eaten {w = Some (d.2).0} (tokens.Word (d.2).0) refl (λ rest. (off (d.2).0 rest, named (d.2).0 (d.2).2)) (λ h. h))
+    rw (f, new, e) (eaten {w = Some (d.2).0} (tokens.Word (d.2).0) refl (λ rest. (off (d.2).0 rest, named (d.2).0 (d.2).2)) (λ h. h))
   where
     off : (w : List ℕ) (rest : List tokens.Token) → Coming v (part.Condition ∷ s) (tokens.Word w ∷ rest) → Coming (Some w) (part.Comparison ∷ s) rest
     off w rest (named _ _ c) = c
     off w rest (opens _ k c) = absurd (cc k)
 
-pub condition_refused : {v : Option (List ℕ)} (s : List Part) (before : List tokens.Token) → ((t : tokens.Token) (us : List tokens.Token) → before ≡ t ∷ us → HasKind (kind.Mark OpenParen) t → ⊥) →
+pub condition_refused : (v : Option (List ℕ)) (s : List Part) (before : List tokens.Token) → ((t : tokens.Token) (us : List tokens.Token) → before ≡ t ∷ us → HasKind (kind.Mark OpenParen) t → ⊥) →
     ((t : tokens.Token) (us : List tokens.Token) → before ≡ t ∷ us → MayBe v t → ⊥) → Refuses (Coming v (part.Condition ∷ s)) before
-condition_refused {v} s before no_paren no_name t us rest e (opens _ k c) = no_paren t us e k
-condition_refused {v} s before no_paren no_name t us rest e (named w f c) = no_name t us e (w, refl, f)
+condition_refused v s before no_paren no_name t us rest e (opens _ k c) = no_paren t us e k
+condition_refused v s before no_paren no_name t us rest e (named w f c) = no_name t us e (w, refl, f)
 
-pub comparison_less : {v : Option (List ℕ)} (s : List Part) (before left : List tokens.Token) → Eaten (HasKind (kind.Operator Less)) before left true → Leads v (part.Comparison ∷ s) before v (part.Bound ∷ s) left (Whole 0)
-comparison_less {v} s before left d = eaten d.0 d.1 (λ rest. (off s d.0 rest d.2, compares d.0 d.2)) (λ h. h)
+pub comparison_less : (v : Option (List ℕ)) (s p : List Part) (before left : List tokens.Token) → p ≡ part.Bound ∷ s → Eaten (HasKind (kind.Operator Less)) before left true → Leads v (part.Comparison ∷ s) before v p left (Whole 0)
+comparison_less v s p before left f d = rw f (eaten d.0 d.1 (λ rest. (off s d.0 rest d.2, compares d.0 d.2)) (λ h. h))
   where
     off : (s : List Part) (t : tokens.Token) (rest : List tokens.Token) → HasKind (kind.Operator Less) t → Coming v (part.Comparison ∷ s) (t ∷ rest) → Coming v (part.Bound ∷ s) rest
     off s t rest k (compares _ _ c) = c
     off _ t rest k (closes _ j c) = absurd (cc (k, j))
 
-pub comparison_closes : {v : Option (List ℕ)} (s : List Part) (before left : List tokens.Token) → Eaten (HasKind (kind.Mark CloseParen)) before left true → Leads v (part.Comparison ∷ (part.Closing ∷ s)) before v (part.Comparison ∷ s) left (Whole 0)
-comparison_closes {v} s before left d = eaten d.0 d.1 (λ rest. (off d.0 rest d.2, closes d.0 d.2)) (λ h. h)
+popped : (o : Option Part) (p q s : List Part) → MatchOption o ((p ≡ []) × (q ≡ [])) (λ x. p ≡ (x ∷ q)) → p ≡ part.Closing ∷ s → q ≡ s
+popped None p q s m e = absurd (let f = m.0 in cc (e, f))
+popped (Some x) p q s m e = cc (m, e)
+
+closed_there : (v : Option (List ℕ)) (s : List Part) (before left : List tokens.Token) → Eaten (HasKind (kind.Mark CloseParen)) before left true → Leads v (part.Comparison ∷ (part.Closing ∷ s)) before v (part.Comparison ∷ s) left (Whole 0)
+closed_there v s before left d = eaten d.0 d.1 (λ rest. (off d.0 rest d.2, closes d.0 d.2)) (λ h. h)
   where
     off : (t : tokens.Token) (rest : List tokens.Token) → HasKind (kind.Mark CloseParen) t → Coming v (part.Comparison ∷ (part.Closing ∷ s)) (t ∷ rest) → Coming v (part.Comparison ∷ s) rest
     off t rest k (closes _ _ c) = c
     off t rest k (compares _ j c) = absurd (cc (k, j))
+
+pub comparison_closes : (v : Option (List ℕ)) (o : Option Part) (p q r : List Part) (before left : List tokens.Token) → (s : List Part) × (p ≡ part.Closing ∷ s) → MatchOption o ((p ≡ []) × (q ≡ [])) (λ x. p ≡ (x ∷ q)) → r ≡ part.Comparison ∷ q →
+    Eaten (HasKind (kind.Mark CloseParen)) before left true → Leads v (part.Comparison ∷ p) before v r left (Whole 0)
+comparison_closes v o p q r before left c m f d = rw (f, popped o p q c.0 m c.1, c.1) (closed_there v c.0 before left d)
 
 pub comparison_refused : {v : Option (List ℕ)} (s : List Part) (before : List tokens.Token) → ((t : tokens.Token) (us : List tokens.Token) → before ≡ t ∷ us → HasKind (kind.Operator Less) t → ⊥) →
     ((r : List Part) → s ≡ part.Closing ∷ r → (t : tokens.Token) (us : List tokens.Token) → before ≡ t ∷ us → HasKind (kind.Mark CloseParen) t → ⊥) → Refuses (Coming v (part.Comparison ∷ s)) before
@@ -291,7 +301,7 @@ expression_leads v s before left Nowhere d = (d.0, none)
   where
     none : Refuses (Coming v (part.Expression ∷ s)) before
     none t us rest e (expression {ts = ts} xs f x c) = refuses (SpellsPhrase Expression) xs ts t us rest before (λ m. no_end Expression (phrase_begins Expression [] [] m.0 m.1)) d.1 e f (as_phrase 0 xs (omega arith) x)
-expression_leads v s before left (PartOf kinds) d = λ all more h. reads_part (expression_due h) kinds d
+expression_leads v s before left (PartOf kinds) d = (d.fewer, λ all more h. reads_part (expression_due h) kinds d)
 expression_leads v s before left (Whole kinds) d = (d.fewer, λ all more h. record { residue = reads_whole (expression_due h) kinds d; good = (both (stop_it s) (are_good s) h.good).1 })
 
 pub bound_leads : (v : Option (List ℕ)) (s : List Part) (before left : List tokens.Token) (r : Reach) → Reaches (IsAt 8) before left r → Leads v (part.Bound ∷ s) before v s left r
@@ -299,7 +309,7 @@ bound_leads v s before left Nowhere d = (d.0, none)
   where
     none : Refuses (Coming v (part.Bound ∷ s)) before
     none t us rest e (bound {ts = ts} xs f x c) = refuses (IsAt 8) xs ts t us rest before (none_empty 8 (omega arith)) d.1 e f x
-bound_leads v s before left (PartOf kinds) d = λ all more h. reads_part (bound_due h) kinds d
+bound_leads v s before left (PartOf kinds) d = (d.fewer, λ all more h. reads_part (bound_due h) kinds d)
 bound_leads v s before left (Whole kinds) d = (d.fewer, λ all more h. record { residue = reads_whole (bound_due h) kinds d; good = (both (stop_it s) (are_good s) h.good).1 })
 
 -- The whole.
@@ -346,3 +356,15 @@ header_stands v p s all before left more own e fewer h d = let r = sample v (p �
   longest = rw (d.0, e) (stands h.residue (part_kinds (p ∷ s)) false (λ k. (begins_so v (p ∷ s) k h.good, begun_so v (p ∷ s) k)) (λ e. absurd (cc e), λ c. absurd (not_over [] refl c)) r.0 r.1 (refused h.residue d.1));
   fewer = rw d.0 fewer;
 }
+
+-- Part of a part was read.
+pub header_part : (v w : Option (List ℕ)) (s p : List Part) (all before left : List tokens.Token) (more kinds : ℕ) → length before < length all → InHeader v s all before more → Leads v s before w p left (PartOf kinds) → PartRead (SpellsPhrase LoopHead) all left kinds
+header_part v w s p all before left more kinds fewer h d = record { longest = d.1 all more h; fewer = let l = d.0 in omega (arith, fewer, l) }
+
+pub fewer_still : (all before left : List tokens.Token) → length before < length all → length left < length before → length left < length all
+fewer_still all before left a b = omega (arith, a, b)
+
+-- Where something is made.
+pub for_ok : {A E : Type 0} {P Q : A → Type 0} (r : Result A E) → ((x : A) → P x → Q x) → IfOk r P → IfOk r Q
+for_ok (Ok x) f p = f x p
+for_ok (Err e) f p = tt

@@ -112,5 +112,5 @@ pub record InHeader (variable : Option (List ℕ)) (parts : List Part) (all left
 -- From some parts to others.
 abbrev pub Leads : (v : Option (List ℕ)) (parts : List Part) (left : List tokens.Token) (w : Option (List ℕ)) (others : List Part) (after : List tokens.Token) → Reach → Type 0
 Leads v parts left w others after reach.Nowhere = (after ≡ left) × Refuses (Coming v parts) left
-Leads v parts left w others after (reach.Part kinds) = (all : List tokens.Token) (more : ℕ) → InHeader v parts all left more → LongestFront (SpellsPhrase LoopHead) all after kinds false
+Leads v parts left w others after (reach.Part kinds) = (length after < length left) × ((all : List tokens.Token) (more : ℕ) → InHeader v parts all left more → LongestFront (SpellsPhrase LoopHead) all after kinds false)
 Leads v parts left w others after (reach.Whole kinds) = (length after < length left) × ((all : List tokens.Token) (more : ℕ) → InHeader v parts all left more → InHeader w others all after kinds)

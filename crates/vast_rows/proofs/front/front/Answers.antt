@@ -59,9 +59,9 @@ tokens-smaller-in-Token g c = eats_fewer (λ s es t. tt) c.args.table.now.firsts
     c.in_ok-open.ensures
     _ c.take.ensures.left
 
-pub returns-in-Nowhere : goal.returns-in-Nowhere
-returns-in-Nowhere g c =
-    let r : Reaches (SpellsPhrase c.in-Phrase.phrase) (g.S.Source.left c.tokens.source) (g.S.Source.left c.reach.new.source) Nowhere = rw c.in-Nowhere.is at c.in_ok-reach-in-Phrase.ensures in record {
+pub returns-in-Ok-Nowhere : goal.returns-in-Ok-Nowhere
+returns-in-Ok-Nowhere g c =
+    let r : Reaches (SpellsPhrase c.in-Phrase.phrase) (g.S.Source.left c.tokens.source) (g.S.Source.left c.reach.new.source) Nowhere = rw c.in-Ok-Nowhere.field-0-is at (rw c.in-Ok-Nowhere.is at c.in_ok-reach-in-Phrase.ensures) in record {
       told = rw r.0 (stands c.args.table.now.firsts.now (facts_view c.args.table.now.facts.now) (rows_view c.args.table.now.items.now c.args.table.now.rows.now) c.args.start
           (exact c.args.table.now.firsts.now (facts_view c.args.table.now.facts.now) (rows_view c.args.table.now.items.now c.args.table.now.rows.now) c.args.table.now.exact) c.args.table.now.checked
           c.next_of-own.result.kinds c.next_of-own.result.ends c.tokens.invariant c.next_of-own.ensures.kinds c.next_of-own.ensures.ends
@@ -81,16 +81,16 @@ returns-in-Nowhere g c =
           h c.in-Phrase.phrase c.in-Phrase.is);
     }
 
-pub returns-in-Part : goal.returns-in-Part
-returns-in-Part g c =
-    let r : PartRead (SpellsPhrase c.in-Phrase.phrase) (g.S.Source.left c.tokens.source) (g.S.Source.left c.reach.new.source) c.in-Part.kinds = rw c.in-Part.is at c.in_ok-reach-in-Phrase.ensures in record {
+pub returns-in-Ok-Part : goal.returns-in-Ok-Part
+returns-in-Ok-Part g c =
+    let r : PartRead (SpellsPhrase c.in-Phrase.phrase) (g.S.Source.left c.tokens.source) (g.S.Source.left c.reach.new.source) c.in-Ok-Part.kinds = rw c.in-Ok-Part.field-0-is at (rw c.in-Ok-Part.is at c.in_ok-reach-in-Phrase.ensures) in record {
       told = reads_part c.args.table.now.checked (phrase_is_due (λ s es t. tt) c.args.table.now.firsts.now (facts_view c.args.table.now.facts.now) (rows_view c.args.table.now.items.now c.args.table.now.rows.now) c.args.start
           (exact c.args.table.now.firsts.now (facts_view c.args.table.now.facts.now) (rows_view c.args.table.now.items.now c.args.table.now.rows.now) c.args.table.now.exact) c.args.table.now.checked
           (g.S.Source.left c.args.source.now) (g.S.Source.left c.tokens.source) c.tokens.stack c.open.new.stack c.tokens.more c.number-kind.result _ _ c.in_ok-open.field-0 c.tokens.invariant
           (fitting c.args.table.now.firsts.now (facts_view c.args.table.now.facts.now) (rows_view c.args.table.now.items.now c.args.table.now.rows.now) c.args.start
           (g.S.Source.left c.args.source.now) (g.S.Source.left c.tokens.source) c.tokens.stack c.tokens.more c.next_of-own.result.kinds c.number-kind.result c.tokens.invariant c.next_of-own.ensures.kinds (c.number-kind.ensures.number ∙ ap number c.kind.ensures) (sym c.is_in.ensures ∙ c.if-not-is_in.false))
           c.in_ok-open.ensures
-          c.in-Phrase.phrase c.in-Phrase.is) c.in-Part.kinds r;
+          c.in-Phrase.phrase c.in-Phrase.is) c.in-Ok-Part.kinds r;
       plain = λ h. absurd (never_phrase (λ s es t. tt) c.args.table.now.firsts.now (facts_view c.args.table.now.facts.now) (rows_view c.args.table.now.items.now c.args.table.now.rows.now) c.args.start
           (exact c.args.table.now.firsts.now (facts_view c.args.table.now.facts.now) (rows_view c.args.table.now.items.now c.args.table.now.rows.now) c.args.table.now.exact) c.args.table.now.checked
           (g.S.Source.left c.args.source.now) (g.S.Source.left c.tokens.source) c.tokens.stack c.open.new.stack c.tokens.more c.number-kind.result _ _ c.in_ok-open.field-0 c.tokens.invariant
@@ -102,23 +102,20 @@ returns-in-Part g c =
 
 pub tokens-preserved : goal.tokens-preserved
 tokens-preserved g c =
-    let r : WholeRead (SpellsPhrase c.in-Phrase.phrase) (g.S.Source.left c.tokens.source) (g.S.Source.left c.reach.new.source) c.in-Whole.kinds = rw c.in-Whole.is at c.in_ok-reach-in-Phrase.ensures in
+    let r : WholeRead (SpellsPhrase c.in-Phrase.phrase) (g.S.Source.left c.tokens.source) (g.S.Source.left c.reach.new.source) c.in-Ok-Whole.kinds = rw c.in-Ok-Whole.field-0-is at (rw c.in-Ok-Whole.is at c.in_ok-reach-in-Phrase.ensures) in
     reads_whole c.args.table.now.checked (phrase_is_due (λ s es t. tt) c.args.table.now.firsts.now (facts_view c.args.table.now.facts.now) (rows_view c.args.table.now.items.now c.args.table.now.rows.now) c.args.start
     (exact c.args.table.now.firsts.now (facts_view c.args.table.now.facts.now) (rows_view c.args.table.now.items.now c.args.table.now.rows.now) c.args.table.now.exact) c.args.table.now.checked
     (g.S.Source.left c.args.source.now) (g.S.Source.left c.tokens.source) c.tokens.stack c.open.new.stack c.tokens.more c.number-kind.result _ _ c.in_ok-open.field-0 c.tokens.invariant
     (fitting c.args.table.now.firsts.now (facts_view c.args.table.now.facts.now) (rows_view c.args.table.now.items.now c.args.table.now.rows.now) c.args.start
     (g.S.Source.left c.args.source.now) (g.S.Source.left c.tokens.source) c.tokens.stack c.tokens.more c.next_of-own.result.kinds c.number-kind.result c.tokens.invariant c.next_of-own.ensures.kinds (c.number-kind.ensures.number ∙ ap number c.kind.ensures) (sym c.is_in.ensures ∙ c.if-not-is_in.false))
     c.in_ok-open.ensures
-    c.in-Phrase.phrase c.in-Phrase.is) c.in-Whole.kinds r
+    c.in-Phrase.phrase c.in-Phrase.is) c.in-Ok-Whole.kinds r
 
-pub returns-in-Err : goal.returns-in-Err
-returns-in-Err g c = record {
-  told = tt;
-  plain = λ h. absurd (never_phrase (λ s es t. tt) c.args.table.now.firsts.now (facts_view c.args.table.now.facts.now) (rows_view c.args.table.now.items.now c.args.table.now.rows.now) c.args.start
+pub returns-in-Err-clause-plain : goal.returns-in-Err-clause-plain
+returns-in-Err-clause-plain g c = λ h. absurd (never_phrase (λ s es t. tt) c.args.table.now.firsts.now (facts_view c.args.table.now.facts.now) (rows_view c.args.table.now.items.now c.args.table.now.rows.now) c.args.start
           (exact c.args.table.now.firsts.now (facts_view c.args.table.now.facts.now) (rows_view c.args.table.now.items.now c.args.table.now.rows.now) c.args.table.now.exact) c.args.table.now.checked
           (g.S.Source.left c.args.source.now) (g.S.Source.left c.tokens.source) c.tokens.stack c.open.new.stack c.tokens.more c.number-kind.result _ _ c.in_ok-open.field-0 c.tokens.invariant
           (fitting c.args.table.now.firsts.now (facts_view c.args.table.now.facts.now) (rows_view c.args.table.now.items.now c.args.table.now.rows.now) c.args.start
           (g.S.Source.left c.args.source.now) (g.S.Source.left c.tokens.source) c.tokens.stack c.tokens.more c.next_of-own.result.kinds c.number-kind.result c.tokens.invariant c.next_of-own.ensures.kinds (c.number-kind.ensures.number ∙ ap number c.kind.ensures) (sym c.is_in.ensures ∙ c.if-not-is_in.false))
           c.in_ok-open.ensures
-          h c.in-Phrase.phrase c.in-Phrase.is);
-}
+          h c.in-Phrase.phrase c.in-Phrase.is)

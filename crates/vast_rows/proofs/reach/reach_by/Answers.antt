@@ -12,9 +12,6 @@ pub returns-then-not-is_in : goal.returns-then-not-is_in
 returns-then-not-is_in g c = (refl, none_begins c.args.table.now.firsts.now (facts_view c.args.table.now.facts.now) (rows_view c.args.table.now.items.now c.args.table.now.rows.now) c.args.start (exact c.args.table.now.firsts.now (facts_view c.args.table.now.facts.now) (rows_view c.args.table.now.items.now c.args.table.now.rows.now) c.args.table.now.exact) c.args.table.now.checked
     (g.S.Source.left c.args.source.now) c.number.result (c.number.ensures.number ∙ ap number c.kind.ensures) (rw c.kinds_of.ensures at (sym c.is_in.ensures ∙ c.if-not-is_in.true)))
 
-pub returns-in-Err : goal.returns-in-Err
-returns-in-Err g c = absurd ((rw c.in-Err.is at c.in_ok-front.ensures.plain) c.requires.plain)
-
 pub returns-then-next : goal.returns-then-next
 returns-then-next g c =
     let told : LongestFront (SpellsRule (rows_view c.args.table.now.items.now c.args.table.now.rows.now) c.args.start) (g.S.Source.left c.args.source.now) (g.S.Source.left c.front.new.source) c.in-Ok.next.kinds c.in-Ok.next.ends = rw c.in-Ok.is at c.in_ok-front.ensures.told in
