@@ -1,8 +1,7 @@
 -- The turns of the reader of headers.
-use Rattle.std.proofs.Common.{◌≡◌, ◌↔◌, ℕ, suc, ◌<◌, ◌≤◌, ◌+◌, List, [], ◌∷◌, ◌++◌, length, Bool, ◌&&◌, nat_lt, true, false, cond, codes, Option, Some, None, Result, Ok, Err, IfOk, refl, sym, ap, ◌∙◌, ◌⊎◌, inl, inr, subst, arith, lit<}
+use Rattle.std.proofs.Common.{◌≡◌, ◌↔◌, ℕ, suc, ◌<◌, ◌≤◌, List, [], ◌∷◌, ◌++◌, length, Bool, ◌&&◌, nat_lt, true, false, cond, codes, Option, Some, None, Result, Ok, Err, IfOk, refl, sym, ap, ◌∙◌, ◌⊎◌, inl, inr, arith}
 use Rattle.std.specs.Int.Bits.{bit_or}
 use Rattle.std.specs.Prelude.{MatchOption}
-use Rattle.vast_literal.specs.Grammar.{Spells}
 use Rattle.vast_literal.specs.Tokens as tokens
 use Rattle.vast_literal.proofs.Levels.{lower}
 use Rattle.vast_rows.specs.declared.grammar.Phrase.TheVariants.{Expression, LoopHead}
@@ -13,7 +12,7 @@ use Rattle.vast_rows.specs.declared.kind.Kind.TheVariants as kind
 use Rattle.vast_rows.specs.declared.reach.Reach.{Reach}
 use Rattle.vast_rows.specs.declared.reach.Reach.TheVariants.{Nowhere, Part as PartOf, Whole}
 use Rattle.vast_rows.specs.Fronts.{SpellsPhrase, GoesOn, LongestFront}
-use Rattle.vast_rows.specs.Internal.Headers.{IsAt, HasKind, MayBe, IsOne, Eaten, may_be, Coming, nothing, token, variable, one, expression, bound, opens, named, closes, compares, closing, header, closing_kinds, part_kinds, stop_it, are_good, Residue, InHeader, Leads}
+use Rattle.vast_rows.specs.Internal.Headers.{IsAt, HasKind, MayBe, IsOne, Eaten, may_be, Coming, nothing, token, variable, one, expression, bound, opens, named, closes, compares, closing, header, closing_kinds, part_kinds, stop_it, are_good, InHeader, Leads}
 use Rattle.vast_rows.specs.Internal.PhraseKinds.{firsts, stops}
 use Rattle.vast_rows.specs.Internal.Reaches.{Refuses, PartRead, WholeRead, Reaches}
 use Rattle.vast_rows.specs.Internal.Sets.{only}
@@ -358,8 +357,9 @@ header_stands v p s all before left more own e fewer h d = let r = sample v (p �
 }
 
 -- Part of a part was read.
-pub header_part : (v w : Option (List ℕ)) (s p : List Part) (all before left : List tokens.Token) (more kinds : ℕ) → length before < length all → InHeader v s all before more → Leads v s before w p left (PartOf kinds) → PartRead (SpellsPhrase LoopHead) all left kinds
-header_part v w s p all before left more kinds fewer h d = record { longest = d.1 all more h; fewer = let l = d.0 in omega (arith, fewer, l) }
+pub header_part : (v : Option (List ℕ)) (s : List Part) (all before left : List tokens.Token) (more kinds : ℕ) → length before < length all → InHeader v s all before more →
+    (length left < length before) × ((all : List tokens.Token) (more : ℕ) → InHeader v s all before more → LongestFront (SpellsPhrase LoopHead) all left kinds false) → PartRead (SpellsPhrase LoopHead) all left kinds
+header_part v s all before left more kinds fewer h d = record { longest = d.1 all more h; fewer = let l = d.0 in omega (arith, fewer, l) }
 
 pub fewer_still : (all before left : List tokens.Token) → length before < length all → length left < length before → length left < length all
 fewer_still all before left a b = omega (arith, a, b)

@@ -1,5 +1,5 @@
 -- Headers of loops are what their parts are.
-use Rattle.std.proofs.Common.{◌≡◌, ◌↔◌, ℕ, suc, zero, List, [], ◌∷◌, ◌++◌, codes, Option, Some, None, refl, sym, ap, ◌∙◌, subst, arith, append_assoc}
+use Rattle.std.proofs.Common.{◌≡◌, ℕ, suc, zero, List, [], ◌∷◌, ◌++◌, codes, Some, None, refl, sym, ap, ◌∙◌, subst, arith, append_assoc}
 use Rattle.vast_literal.specs.Grammar.{Spells, up, binary, name, paren}
 use Rattle.vast_literal.specs.NormalExpr.{NormalExpr, Name, Binary}
 use Rattle.vast_literal.specs.Tokens.{level, Token, Reserved, Word, Number, Operator, Mark}
@@ -11,7 +11,7 @@ use Rattle.vast_rows.specs.declared.kind.Kind.TheVariants as kind
 use Rattle.vast_rows.specs.Fronts.{SpellsPhrase}
 use Rattle.vast_rows.specs.Internal.Sources.{tail}
 use Rattle.vast_rows.specs.Internal.Headers.{Coming, nothing, token, variable, one, expression, bound, opens, named, closes, compares, closing, header}
-use Rattle.vast_rows.specs.Kinds.{number, token_kind}
+use Rattle.vast_rows.specs.Kinds.{token_kind}
 use Rattle.vast_rows.specs.Numbers.{Less, Plus, OpenParen, CloseParen, Semicolon, Assign, GenvarKey}
 use Rattle.vast_rows.specs.Phrases.{IsPhrase, Meaning, IsLoop, loop_head}
 use Rattle.vast_rows.proofs.Means.{ForToken, for_token}

@@ -9,7 +9,7 @@ use Rattle.vast_rows.specs.Facts.{Fact, fact_in}
 use Rattle.vast_rows.specs.Fronts.{SpellsPhrase, GoesOn, LongestFront, IsPathNext}
 use Rattle.vast_rows.specs.Internal.ExpressionPage.{expression_page, part_number}
 use Rattle.vast_rows.specs.Internal.ExpressionPage as part
-use Rattle.vast_rows.specs.Internal.Firsts.{firsts_in, first_kinds}
+use Rattle.vast_rows.specs.Internal.Firsts.{firsts_in}
 use Rattle.vast_rows.specs.Internal.Headers.{IsAt}
 use Rattle.vast_rows.specs.Internal.Predictive.{lead, is_predictive}
 use Rattle.vast_rows.specs.Internal.Reaches.{SpellsRule, IsQuiet, Refuses, PartRead, WholeRead, Reaches}
@@ -25,7 +25,6 @@ use Rattle.vast_rows.proofs.Ending.{Exact}
 use Rattle.vast_rows.proofs.ExpressionMeans.{MeantBy, makes}
 use Rattle.vast_rows.proofs.ExpressionRows.{expression_spelled, target_spelled, bound_spelled}
 use Rattle.vast_rows.proofs.Means.{folds}
-use Rattle.vast_rows.proofs.PhraseStarts.{an_operand}
 use Rattle.vast_rows.proofs.Residues.{no_end_kind, unless_true, quiet_always}
 use Rattle.vast_rows.proofs.Sets.{has_or, or_first, no_kind}
 use Rattle.vast_rows.proofs.Starting.{begun}

@@ -17,7 +17,7 @@ pub returns-in-Nowhere : goal.returns-in-Nowhere
 returns-in-Nowhere g c = header_stands _ _ _ _ _ _ _ _ c.kinds_of.ensures c.parts.invariant.fewer (rw c.in-Some.ensures at c.parts.invariant.header) (rw c.in-Nowhere.is at c.in_ok-reach_part.ensures)
 
 pub returns-in-Part : goal.returns-in-Part
-returns-in-Part g c = header_part _ _ _ _ _ _ _ _ _ c.parts.invariant.fewer (rw c.in-Some.ensures at c.parts.invariant.header) (rw c.in-Part.is at c.in_ok-reach_part.ensures)
+returns-in-Part g c = header_part _ _ _ _ _ _ _ c.parts.invariant.fewer (rw c.in-Some.ensures at c.parts.invariant.header) (rw c.in-Part.is at c.in_ok-reach_part.ensures)
 
 pub parts-preserved : goal.parts-preserved
 parts-preserved g c =
