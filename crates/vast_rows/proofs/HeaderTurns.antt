@@ -252,11 +252,6 @@ pub comparison_closes : (v : Option (List ℕ)) (o : Option Part) (p q r : List 
     Eaten (HasKind (kind.Mark CloseParen)) before left true → Leads v (part.Comparison ∷ p) before v r left (Whole 0)
 comparison_closes v o p q r before left c m f d = rw (f, popped o p q c.0 m c.1, c.1) (closed_there v c.0 before left d)
 
-pub comparison_refused : {v : Option (List ℕ)} (s : List Part) (before : List tokens.Token) → ((t : tokens.Token) (us : List tokens.Token) → before ≡ t ∷ us → HasKind (kind.Operator Less) t → ⊥) →
-    ((r : List Part) → s ≡ part.Closing ∷ r → (t : tokens.Token) (us : List tokens.Token) → before ≡ t ∷ us → HasKind (kind.Mark CloseParen) t → ⊥) → Refuses (Coming v (part.Comparison ∷ s)) before
-comparison_refused {v} s before no_less no_close t us rest e (compares _ k c) = no_less t us e k
-comparison_refused {v} s before no_less no_close t us rest e (closes {s = r} _ k c) = no_close r refl t us e k
-
 -- Expressions.
 
 module _ {v : Option (List ℕ)} {s : List Part} {all left : List tokens.Token} {more : ℕ} where

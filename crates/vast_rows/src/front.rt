@@ -17,9 +17,9 @@ ghost use Rattle.vast_rows.specs.Tables.{facts_of, rows_of};
 use crate::grammar::{Item, Phrase, Table};
 use crate::kind::Kind;
 use crate::machine::{Due, is_in, open};
+use crate::reach::{Reach, reach_phrase};
 use crate::rule::Rule;
 use crate::sink::Nothing;
-use crate::reach::{Reach, reach_phrase};
 use crate::source::{Fronts, Source};
 use crate::stack::Stack;
 use crate::table::files;
@@ -153,11 +153,7 @@ pub(crate) struct NoPhrases;
 impl<S: Source> Phrases<S> for NoPhrases {
     type Unread = ();
 
-    fn reach(
-        &mut self,
-        _source: &mut S,
-        _phrase: Phrase,
-    ) -> Result<Result<Reach, ()>, AllocError> {
+    fn reach(&mut self, _source: &mut S, _phrase: Phrase) -> Result<Result<Reach, ()>, AllocError> {
         Ok(Err(()))
     }
 }

@@ -196,10 +196,7 @@ fn reach_condition<S: Fronts>(
 }
 
 /// Reads what follows the variable of a condition: what closes a parenthesis, or `<`.
-fn reach_comparison<S: Source>(
-    source: &mut S,
-    stack: &mut Stack<Part>,
-) -> Result<Reach, AllocError>
+fn reach_comparison<S: Source>(source: &mut S, stack: &mut Stack<Part>) -> Result<Reach, AllocError>
     ensures { IfOk result (λ reach. (v : Option (List ℕ)) → Leads
         v (Comparison ∷ stack.old) (S.left source.old) v stack.new (S.left source.new) reach) }
 {
@@ -242,10 +239,7 @@ fn reach_part<S: Fronts>(
 }
 
 /// Reads a header as far as some header goes on with what stands there.
-pub(crate) fn reach_loop_head<S: Fronts>(
-    alloc: Global,
-    source: &mut S,
-) -> Result<Reach, AllocError>
+pub(crate) fn reach_loop_head<S: Fronts>(alloc: Global, source: &mut S) -> Result<Reach, AllocError>
     ensures { IfOk result
         (Reaches (SpellsPhrase LoopHead) (S.left source.old) (S.left source.new)) }
 {

@@ -113,9 +113,9 @@ tokens-preserved g c =
 
 pub returns-in-Err-clause-plain : goal.returns-in-Err-clause-plain
 returns-in-Err-clause-plain g c = λ h. absurd (never_phrase (λ s es t. tt) c.args.table.now.firsts.now (facts_view c.args.table.now.facts.now) (rows_view c.args.table.now.items.now c.args.table.now.rows.now) c.args.start
-          (exact c.args.table.now.firsts.now (facts_view c.args.table.now.facts.now) (rows_view c.args.table.now.items.now c.args.table.now.rows.now) c.args.table.now.exact) c.args.table.now.checked
-          (g.S.Source.left c.args.source.now) (g.S.Source.left c.tokens.source) c.tokens.stack c.open.new.stack c.tokens.more c.number-kind.result _ _ c.in_ok-open.field-0 c.tokens.invariant
-          (fitting c.args.table.now.firsts.now (facts_view c.args.table.now.facts.now) (rows_view c.args.table.now.items.now c.args.table.now.rows.now) c.args.start
-          (g.S.Source.left c.args.source.now) (g.S.Source.left c.tokens.source) c.tokens.stack c.tokens.more c.next_of-own.result.kinds c.number-kind.result c.tokens.invariant c.next_of-own.ensures.kinds (c.number-kind.ensures.number ∙ ap number c.kind.ensures) (sym c.is_in.ensures ∙ c.if-not-is_in.false))
-          c.in_ok-open.ensures
-          h c.in-Phrase.phrase c.in-Phrase.is)
+    (exact c.args.table.now.firsts.now (facts_view c.args.table.now.facts.now) (rows_view c.args.table.now.items.now c.args.table.now.rows.now) c.args.table.now.exact) c.args.table.now.checked
+    (g.S.Source.left c.args.source.now) (g.S.Source.left c.tokens.source) c.tokens.stack c.open.new.stack c.tokens.more c.number-kind.result _ _ c.in_ok-open.field-0 c.tokens.invariant
+    (fitting c.args.table.now.firsts.now (facts_view c.args.table.now.facts.now) (rows_view c.args.table.now.items.now c.args.table.now.rows.now) c.args.start
+    (g.S.Source.left c.args.source.now) (g.S.Source.left c.tokens.source) c.tokens.stack c.tokens.more c.next_of-own.result.kinds c.number-kind.result c.tokens.invariant c.next_of-own.ensures.kinds (c.number-kind.ensures.number ∙ ap number c.kind.ensures) (sym c.is_in.ensures ∙ c.if-not-is_in.false))
+    c.in_ok-open.ensures
+    h c.in-Phrase.phrase c.in-Phrase.is)

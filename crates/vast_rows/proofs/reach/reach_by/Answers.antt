@@ -9,8 +9,11 @@ use Rattle.vast_rows.proofs.Reached.{none_begins, whole, part_of}
 use Rattle.vast_rows.proofs.reach.reach_by.Goals as goal
 
 pub returns-then-not-is_in : goal.returns-then-not-is_in
-returns-then-not-is_in g c = (refl, none_begins c.args.table.now.firsts.now (facts_view c.args.table.now.facts.now) (rows_view c.args.table.now.items.now c.args.table.now.rows.now) c.args.start (exact c.args.table.now.firsts.now (facts_view c.args.table.now.facts.now) (rows_view c.args.table.now.items.now c.args.table.now.rows.now) c.args.table.now.exact) c.args.table.now.checked
-    (g.S.Source.left c.args.source.now) c.number.result (c.number.ensures.number ∙ ap number c.kind.ensures) (rw c.kinds_of.ensures at (sym c.is_in.ensures ∙ c.if-not-is_in.true)))
+returns-then-not-is_in g c = (
+  refl,
+  none_begins c.args.table.now.firsts.now (facts_view c.args.table.now.facts.now) (rows_view c.args.table.now.items.now c.args.table.now.rows.now) c.args.start (exact c.args.table.now.firsts.now (facts_view c.args.table.now.facts.now) (rows_view c.args.table.now.items.now c.args.table.now.rows.now) c.args.table.now.exact) c.args.table.now.checked
+      (g.S.Source.left c.args.source.now) c.number.result (c.number.ensures.number ∙ ap number c.kind.ensures) (rw c.kinds_of.ensures at (sym c.is_in.ensures ∙ c.if-not-is_in.true)),
+)
 
 pub returns-then-next : goal.returns-then-next
 returns-then-next g c =
