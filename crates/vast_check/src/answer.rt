@@ -3,11 +3,11 @@
 ghost use Rattle.std.specs.Prelude.{IfOk};
 ghost use Rattle.vast_check.specs.Internal.Check.{Answers};
 
-use crate::expected::{Expected, expected_behind};
+use crate::expected::{Expected, expected_of};
 use crate::place::{Place, place_of};
 use std::alloc::{AllocError, Global};
 use std::str;
-use vast_read::{first_token, underived_at};
+use vast_read::{first_token, is_derived, longest_front};
 
 /// What is found.
 #[derive(Drop)]
@@ -38,15 +38,14 @@ pub(crate) fn answer_of(alloc: Global, bytes: &[u8]) -> Result<Answer<'_>, Alloc
 fn answer_text(alloc: Global, text: &str) -> Result<Answer<'_>, AllocError>
     ensures { IfOk result (Answers text.now) }
 {
-    match underived_at(alloc, text)? {
-        None => Ok(Answer::Derived),
-        Some(at) => {
-            let (before, rest) = text.split_at(at);
-            Ok(Answer::Underived {
-                place: place_of(text.as_bytes(), at),
-                token: first_token(rest),
-                expected: expected_behind(alloc, before)?,
-            })
-        }
+    if is_derived(alloc, text)? {
+        return Ok(Answer::Derived);
     }
+    let front = longest_front(alloc, text)?;
+    let (_, rest) = text.split_at(front.place);
+    Ok(Answer::Underived {
+        place: place_of(text.as_bytes(), front.place),
+        token: first_token(rest),
+        expected: expected_of(alloc, front.next)?,
+    })
 }

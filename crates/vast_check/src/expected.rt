@@ -1,121 +1,128 @@
 //! What could stand after the beginning of a file.
 
 use std::alloc::{AllocError, Global};
-use vast_read::underived_at;
+use vast_literal::{Key, Mark, Sign};
+use vast_rows::{Kind, Next};
 
-/// A token that is tried after a beginning, how what it stands for is told, and by which other words it is told too.
-type Trial = (&'static str, &'static str, &'static [&'static str]);
+/// A kind of token, how what it stands for is told, and by which other words it is told too.
+type Word = (Kind, &'static str, &'static [&'static str]);
 
-/// What is tried, in the order in which it is told.
-const TRIALS: [Trial; 47] = [
-    ("always_comb", "a member", &[]),
-    ("case", "a statement", &[]),
-    ("$f", "a value", &["a statement"]),
-    ("*", "an operator", &[]),
-    (";", "';'", &[]),
-    ("a", "a name", &["a member", "a statement", "a value"]),
-    ("endmodule", "endmodule", &[]),
-    ("end", "end", &[]),
-    (")", "')'", &[]),
-    ("]", "']'", &[]),
-    ("}", "'}'", &[]),
-    (",", "','", &[]),
-    (":", "':'", &[]),
-    ("=", "'='", &[]),
-    ("<=", "'<='", &["an operator"]),
-    ("[", "'['", &[]),
-    ("(", "'('", &["a statement", "a value"]),
-    ("{", "'{'", &["a statement", "a value"]),
+/// The kinds that are looked for, in the order in which they are told.
+static WORDS: [Word; 48] = [
+    (Kind::Reserved(Key::AlwaysComb), "a member", &[]),
+    (Kind::Reserved(Key::Case), "a statement", &[]),
+    (Kind::SystemWord, "a value", &["a statement"]),
+    (Kind::Operator(Sign::Times), "an operator", &[]),
+    (Kind::Mark(Mark::Semicolon), "';'", &[]),
     (
-        "'(",
+        Kind::Word,
+        "a name",
+        &["a member", "a statement", "a value"],
+    ),
+    (Kind::Reserved(Key::EndModule), "endmodule", &[]),
+    (Kind::Reserved(Key::End), "end", &[]),
+    (Kind::Mark(Mark::CloseParen), "')'", &[]),
+    (Kind::Mark(Mark::CloseBracket), "']'", &[]),
+    (Kind::Mark(Mark::CloseBrace), "'}'", &[]),
+    (Kind::Mark(Mark::Comma), "','", &[]),
+    (Kind::Mark(Mark::Colon), "':'", &[]),
+    (Kind::Mark(Mark::Assign), "'='", &[]),
+    (Kind::Operator(Sign::LessEqual), "'<='", &["an operator"]),
+    (Kind::Mark(Mark::OpenBracket), "'['", &[]),
+    (
+        Kind::Mark(Mark::OpenParen),
+        "'('",
+        &["a statement", "a value"],
+    ),
+    (
+        Kind::Mark(Mark::OpenBrace),
+        "'{'",
+        &["a statement", "a value"],
+    ),
+    (
+        Kind::Mark(Mark::Apostrophe),
         "an apostrophe",
         &["an operator", "a statement", "a value"],
     ),
-    ("0", "a number", &["a statement", "a value"]),
-    ("\"a\"", "a string", &["a statement", "a value"]),
-    ("module", "module", &[]),
+    (Kind::Number, "a number", &["a statement", "a value"]),
+    (Kind::Quoted, "a string", &["a statement", "a value"]),
+    (Kind::Reserved(Key::Module), "module", &[]),
     (
-        "`include",
+        Kind::IncludeWord,
         "`include",
         &["a member", "a statement", "a value"],
     ),
-    ("begin", "begin", &[]),
-    ("else", "else", &[]),
-    ("if", "if", &["a member", "a statement"]),
-    ("default", "default", &[]),
-    ("endcase", "endcase", &[]),
-    ("endfunction", "endfunction", &[]),
-    ("output", "a port", &[]),
-    ("input", "an input", &["a port"]),
-    ("reg", "a kind", &["a member"]),
-    ("signed", "signed", &["a statement", "a value"]),
-    ("parameter", "parameter", &["a member"]),
-    ("posedge", "an edge", &[]),
-    ("casez", "casez", &["a statement"]),
-    ("unique", "unique", &["a statement"]),
-    ("genvar", "genvar", &["a kind"]),
-    ("automatic", "automatic", &[]),
-    ("or", "or", &[]),
-    (".", "'.'", &[]),
-    ("#", "'#'", &[]),
-    ("@", "'@'", &[]),
-    ("+:", "'+:'", &[]),
-    ("::", "'::'", &["an operator"]),
-    ("1", "1", &["a number", "a value"]),
-    ("", "end of file", &[]),
+    (Kind::Reserved(Key::Begin), "begin", &[]),
+    (Kind::Reserved(Key::Else), "else", &[]),
+    (Kind::Reserved(Key::If), "if", &["a member", "a statement"]),
+    (Kind::Reserved(Key::Default), "default", &[]),
+    (Kind::Reserved(Key::EndCase), "endcase", &[]),
+    (Kind::Reserved(Key::EndFunction), "endfunction", &[]),
+    (Kind::Reserved(Key::Output), "a port", &[]),
+    (Kind::Reserved(Key::Input), "an input", &["a port"]),
+    (Kind::Reserved(Key::Reg), "a kind", &["a member"]),
+    (
+        Kind::Reserved(Key::Signed),
+        "signed",
+        &["a statement", "a value"],
+    ),
+    (Kind::Reserved(Key::Parameter), "parameter", &["a member"]),
+    (Kind::Reserved(Key::Posedge), "an edge", &[]),
+    (Kind::Reserved(Key::Casez), "casez", &["a statement"]),
+    (Kind::Reserved(Key::Unique), "unique", &["a statement"]),
+    (Kind::Reserved(Key::Genvar), "genvar", &["a kind"]),
+    (Kind::Reserved(Key::Automatic), "automatic", &[]),
+    (Kind::Reserved(Key::Or), "or", &[]),
+    (Kind::Mark(Mark::Dot), "'.'", &[]),
+    (Kind::Mark(Mark::Hash), "'#'", &[]),
+    (Kind::Mark(Mark::At), "'@'", &[]),
+    (Kind::Mark(Mark::PlusColon), "'+:'", &[]),
+    (Kind::Mark(Mark::DoubleColon), "'::'", &["an operator"]),
+    (Kind::Operator(Sign::Less), "'<'", &["an operator"]),
+    (Kind::Operator(Sign::Plus), "'+'", &["an operator"]),
+    (Kind::End, "end of file", &[]),
 ];
 
 /// So many words are told at most.
 const MOST_TOLD: usize = 6;
 
-/// So many bytes are read in all trials.
-const MOST_READ: usize = 1 << 27;
-
 /// What could stand next.
 #[derive(Drop)]
 pub(crate) struct Expected {
-    /// What was tried and goes on, at most six words.
+    /// Words for the kinds, at most six.
     pub(crate) words: Vec<&'static str>,
-    /// Whether that is all that was found.
+    /// Whether that is all that could stand there.
     pub(crate) is_all: bool,
 }
 
-/// What could stand after this beginning of a text: words for tokens that the reader takes there.
-///
-/// Of long texts few are tried.
-pub(crate) fn expected_behind(alloc: Global, before: &str) -> Result<Expected, AllocError> {
+/// The words for what could stand next.
+pub(crate) fn expected_of(alloc: Global, next: Next) -> Result<Expected, AllocError> {
     let mut words = Vec::new(alloc);
-    let most = MOST_READ / (before.len() + 1);
-    for (token, told, within) in TRIALS.iter().take(most) {
-        if !is_told(&words, within) && goes_on(alloc, before, token)? {
+    for (kind, told, within) in &WORDS {
+        if goes_on(next, *kind) && !is_told(&words, within) {
             if words.len() == MOST_TOLD {
                 return Ok(Expected {
                     words,
                     is_all: false,
                 });
             }
-            words.push(told)?;
+            words.push(*told)?;
         }
     }
     Ok(Expected {
         words,
-        is_all: TRIALS.len() <= most,
+        is_all: true,
     })
+}
+
+/// Whether a token of the kind could stand next, or nothing more where it is the end.
+fn goes_on(next: Next, kind: Kind) -> bool {
+    match kind {
+        Kind::End => next.ends,
+        _ => next.has(kind),
+    }
 }
 
 fn is_told(words: &[&'static str], within: &[&'static str]) -> bool {
     within.iter().any(|word| words.contains(word))
-}
-
-/// Whether the reader takes this token after this beginning.
-fn goes_on(alloc: Global, before: &str, token: &str) -> Result<bool, AllocError> {
-    let mut text = String::with_capacity(alloc, before.len() + token.len() + 1)?;
-    text.push_str(before)?;
-    // A line comment ends.
-    text.push('\n')?;
-    text.push_str(token)?;
-    match underived_at(alloc, &text)? {
-        None => Ok(true),
-        Some(at) => Ok(!token.is_empty() && at == text.len()),
-    }
 }

@@ -13,7 +13,7 @@ use crate::reader::{Reader, path_of};
 use crate::token::Token;
 use std::alloc::{AllocError, Global};
 use std::marker::PhantomData;
-use vast_rows::{Kind, Phrase, Source};
+use vast_rows::{Fronts, Kind, Phrase, Source};
 
 /// What is made of a phrase.
 ///
@@ -133,6 +133,24 @@ impl<'t> Source for Reader<'t> {
 
     fn phrase(&mut self, phrase: Phrase) -> Result<Option<Self::Made>, AllocError> {
         self.made::<Unbuilt>(phrase)
+    }
+}
+
+/// The reader sees whole tokens.
+impl<'t> Fronts for Reader<'t> {
+    fn is_name(&self, name: &&'t str) -> bool {
+        self.is_first(Token::Word(*name))
+    }
+
+    fn is_path(&self) -> bool {
+        match self.first() {
+            Some(Token::Quoted(text)) => path_of(text).is_some(),
+            _ => false,
+        }
+    }
+
+    fn is_one(&self) -> bool {
+        self.is_first(Token::Number("1"))
     }
 }
 

@@ -24,7 +24,7 @@ mod run;
 mod sign;
 mod word;
 
-pub(crate) use place::{first_and_behind, place_before};
+pub(crate) use place::{first_and_behind, place_before, place_of};
 pub(crate) use position::Position;
 
 /// The first token of a text, and what is after it; where no token fits, one that stands for what is left. It takes no

@@ -8,17 +8,18 @@ use Rattle.vast_literal.proofs.Levels.{level_small}
 use Rattle.vast_rows.specs.Numbers.{Op, LogicOr, LogicAnd, BitOr, BitXor, BitAnd, NotEqual, CaseNotEqual, Equal, CaseEqual, GreaterEqual, Greater, LessEqual, Less, ShiftLeft, ShiftRightSigned, ShiftRight, Plus, Minus, Times, Divide, Modulo, Power, BitNot, LogicNot, OpenParen, CloseParen, OpenBracket, OpenBrace, CloseBrace, Comma, Colon, Question, DoubleColon, Apostrophe, Key, LogicKey, SignedKey, UnsignedKey, IntegerKey, IntKey}
 use Rattle.vast_rows.specs.Internal.ExpressionPage.{Part, expression_page}
 use Rattle.vast_rows.specs.Internal.ExpressionPage as part
+use Rattle.vast_rows.specs.Internal.Headers.{IsAt}
 use Rattle.vast_rows.proofs.Means.{AllMake, ◌&◌}
-
--- An expression of the level.
-abbrev pub IsAt : ℕ → List Token → Type 0
-IsAt k ts = (x : NormalExpr) × Spells k ts x
 
 abbrev AreIn : List Token → Type 0
 AreIn ts = (xs : NormalExprs) × SpellsList ts xs
 
 abbrev cast_of : List Token → List Token
 cast_of ts = Mark Apostrophe ∷ (Mark OpenParen ∷ (ts ++ (Mark CloseParen ∷ [])))
+
+-- An operator that joins an operand to what stands before it.
+abbrev Joins : ℕ → List Token → Type 0
+Joins k ts = (ls rs : List Token) → IsAt k ls → IsAt 12 rs → IsAt k (ls ++ (ts ++ rs))
 
 -- What tokens of a part make of the tokens before or after them.
 abbrev pub Meant : Part → List Token → Type 0
@@ -27,7 +28,7 @@ Meant part.Target ts = IsAt 13 ts
 Meant part.Operand ts = IsAt 12 ts
 Meant part.Sign ts = (us : List Token) → IsAt 12 us → IsAt 12 (ts ++ us)
 Meant part.Rest ts = (cs : List Token) → IsAt 1 cs → IsAt 0 (cs ++ ts)
-Meant part.Infix ts = (ls rs : List Token) → IsAt 1 ls → IsAt 12 rs → IsAt 1 (ls ++ (ts ++ rs))
+Meant part.Infix ts = Joins 1 ts
 Meant part.Selects ts = (ss : List Token) → IsAt 13 ss → IsAt 13 (ss ++ ts)
 Meant part.SelectEnd ts = (ss is : List Token) → IsAt 13 ss → IsAt 0 is → IsAt 13 (ss ++ (Mark OpenBracket ∷ (is ++ ts)))
 Meant part.Primary ts = IsAt 14 ts
@@ -41,9 +42,12 @@ Meant part.More ts = (es : List Token) → IsAt 0 es → (xs : NormalExprs) × S
 Meant part.Braces ts = IsAt 14 (Mark OpenBrace ∷ ts)
 Meant part.BraceEnd ts = (es : List Token) → IsAt 0 es → IsAt 14 (Mark OpenBrace ∷ (es ++ ts))
 Meant part.CastWord ts = (es : List Token) → IsAt 0 es → IsAt 14 (ts ++ cast_of es)
+Meant part.Bound ts = IsAt 8 ts
+Meant part.TightRest ts = (cs : List Token) → IsAt 8 cs → IsAt 8 (cs ++ ts)
+Meant part.TightInfix ts = Joins 8 ts
 
 abbrev parts : List Part
-parts = part.Expression ∷ part.Target ∷ part.Operand ∷ part.Sign ∷ part.Rest ∷ part.Infix ∷ part.Selects ∷ part.SelectEnd ∷ part.Primary ∷ part.Cast ∷ part.AnyMacro ∷ part.MacroList ∷ part.AfterName ∷ part.MaybeCast ∷ part.Listed ∷ part.More ∷ part.Braces ∷ part.BraceEnd ∷ part.CastWord ∷ []
+parts = part.Expression ∷ part.Target ∷ part.Operand ∷ part.Sign ∷ part.Rest ∷ part.Infix ∷ part.Selects ∷ part.SelectEnd ∷ part.Primary ∷ part.Cast ∷ part.AnyMacro ∷ part.MacroList ∷ part.AfterName ∷ part.MaybeCast ∷ part.Listed ∷ part.More ∷ part.Braces ∷ part.BraceEnd ∷ part.CastWord ∷ part.Bound ∷ part.TightRest ∷ part.TightInfix ∷ []
 
 abbrev pub MeantBy : ℕ → List Token → Type 0
 MeantBy n ts = Meant (get_or parts n part.Expression) ts
@@ -102,15 +106,22 @@ joined (word_cast w hh e) rs r o one h pos q = absurd (let s : level o ≤ 11 = 
 sign : (o : Op) → IsTrue (is_unary o) → Meant part.Sign (Operator o ∷ [])
 sign o h us x = (_, unary o h x.1)
 
-infix_of : (o : Op) → 0 < level o → Meant part.Infix (Operator o ∷ [])
-infix_of o pos ls rs l r = joined l.1 rs r.0 o (lit≤ tt) (omega (arith, pos)) pos r.1
+joins : (k : ℕ) (o : Op) → 1 ≤ k → k ≤ level o → Joins k (Operator o ∷ [])
+joins k o one below ls rs l r = let pos : 0 < level o = omega (arith, one, below) in joined l.1 rs r.0 o one below pos r.1
+
+infix_of : (o : Op) → 0 < level o → Joins 1 (Operator o ∷ [])
+infix_of o pos = joins 1 o (lit≤ tt) (omega (arith, pos))
+
+tight : (o : Op) → 8 ≤ level o → Joins 8 (Operator o ∷ [])
+tight o below = joins 8 o (lit≤ tt) below
 
 cast_word : (k : Key) → IsTrue (is_cast_word k) → Meant part.CastWord (Reserved k ∷ [])
 cast_word k h es x = (_, word_cast k h x.1)
 
-rest_more : (ts : List Token) → Meant part.Infix ts → (us : List Token) → Meant part.Operand us → (vs : List Token) → Meant part.Rest vs → Meant part.Rest (ts ++ (us ++ vs))
-rest_more ts i us o vs r cs c =
-    let x : IsAt 0 ((cs ++ (ts ++ us)) ++ vs) = r (cs ++ (ts ++ us)) (i cs us c o) in
+rest_more : (k j : ℕ) (ts : List Token) → Joins k ts → (us : List Token) → Meant part.Operand us → (vs : List Token) → ((cs : List Token) → IsAt k cs → IsAt j (cs ++ vs)) →
+    (cs : List Token) → IsAt k cs → IsAt j (cs ++ (ts ++ (us ++ vs)))
+rest_more k j ts i us o vs r cs c =
+    let x : IsAt j ((cs ++ (ts ++ us)) ++ vs) = r (cs ++ (ts ++ us)) (i cs us c o) in
     rw (← append_assoc ts us vs, ← append_assoc cs (ts ++ us) vs) x
 
 rest_choice : (ts : List Token) → IsAt 0 ts → (us : List Token) → IsAt 0 us → Meant part.Rest (Mark Question ∷ (ts ++ (Mark Colon ∷ us)))
@@ -148,7 +159,7 @@ makes =
     (λ ts p us s. let x = s ts (_, up (lit< tt) p.1) in (x.0, up (lit< tt) x.1)) &
     sign Minus refl & sign BitNot refl & sign LogicNot refl & sign BitAnd refl & sign BitOr refl & sign BitXor refl &
     (λ cs c. rw (append-nil cs) (c.0, up (lit< tt) c.1)) &
-    rest_more & rest_choice &
+    rest_more 1 0 & rest_choice &
     infix_of LogicOr (lit< tt) & infix_of LogicAnd (lit< tt) & infix_of BitOr (lit< tt) & infix_of BitXor (lit< tt) & infix_of BitAnd (lit< tt) &
     infix_of NotEqual (lit< tt) & infix_of CaseNotEqual (lit< tt) & infix_of Equal (lit< tt) & infix_of CaseEqual (lit< tt) & infix_of GreaterEqual (lit< tt) &
     infix_of Greater (lit< tt) & infix_of LessEqual (lit< tt) & infix_of Less (lit< tt) & infix_of ShiftLeft (lit< tt) & infix_of ShiftRightSigned (lit< tt) &
@@ -186,4 +197,9 @@ makes =
     (λ ts x us b. b ts x) &
     (λ ts more es e. let r = more es e in let x : IsAt 14 (Mark OpenBrace ∷ ((es ++ ts) ++ (Mark CloseBrace ∷ []))) = (_, concat (some r.1)) in rw append_assoc at x) &
     (λ ts es ns n. (_, replicated n.1 es.1)) &
-    cast_word LogicKey refl & cast_word SignedKey refl & cast_word UnsignedKey refl & cast_word IntegerKey refl & cast_word IntKey refl & tt
+    cast_word LogicKey refl & cast_word SignedKey refl & cast_word UnsignedKey refl & cast_word IntegerKey refl & cast_word IntKey refl &
+    (λ ts o us r. r ts (o.0, from_12 8 ts o.0 (lit≤ tt) o.1)) &
+    (λ cs c. rw (append-nil cs) c) &
+    rest_more 8 8 &
+    tight ShiftLeft (lit≤ tt) & tight ShiftRightSigned (lit≤ tt) & tight ShiftRight (lit≤ tt) & tight Plus (lit≤ tt) & tight Minus (lit≤ tt) & tight Times (lit≤ tt) & tight Divide (lit≤ tt) &
+    tight Modulo (lit≤ tt) & tight Power (lit≤ tt) & tt

@@ -35,33 +35,52 @@ tok t p fs = let x = p fs in (named_by (name_of t) x.0, a_token t refl x.1)
 by_row : {ts : List Token} (p : Part) (n : ℕ) (row : Row) → slice_get expression_page n ≡ Some row → row.rule ≡ part_number p → Fit row.items ts → Fit (rule p ∷ []) ts
 by_row {ts} p n row at ruled q fs = let x = q fs in (made_by row.action x.0, rw (← append-nil ts) (a_rule n row at ruled x.1 no_items))
 
+-- What operators join operands from a level on, and how the rows call it.
+data Chain : Type 0 where
+  Loose Tight : Chain
+
+abbrev from_level : Chain → ℕ
+from_level Loose = 1
+from_level Tight = 8
+
+abbrev rest_of : Chain → Part
+rest_of Loose = part.Rest
+rest_of Tight = part.TightRest
+
+chained : (c : Chain) → (1 ≤ from_level c) × (from_level c ≤ 12)
+chained Loose = (lit≤ tt, lit≤ tt)
+chained Tight = (lit≤ tt, lit≤ tt)
+
+abbrev Chains : Chain → List Token → Type 0
+Chains c ts = (us : List Token) → Fit (rule (rest_of c) ∷ []) us → Fit (rule part.Operand ∷ rule (rest_of c) ∷ []) (ts ++ us)
+
 -- What the grammar spells at a level, by rows.
 record Fits (k : ℕ) (ts : List Token) : Type 0 where
   primary : 14 ≤ k → Fit (rule part.Primary ∷ []) ts
   selects : 13 ≤ k → (us : List Token) → Fit (rule part.Selects ∷ []) us → Fit (rule part.Primary ∷ rule part.Selects ∷ []) (ts ++ us)
   operand : 12 ≤ k → Fit (rule part.Operand ∷ []) ts
-  chain : 1 ≤ k → (us : List Token) → Fit (rule part.Rest ∷ []) us → Fit (rule part.Operand ∷ rule part.Rest ∷ []) (ts ++ us)
+  chain : (c : Chain) → from_level c ≤ k → Chains c ts
   whole : Fit (rule part.Expression ∷ []) ts
 
 by_whole : (k : ℕ) (ts : List Token) → k < 1 → Fit (rule part.Expression ∷ []) ts → Fits k ts
-by_whole k ts h w = record { primary = λ l. absurd (omega (arith, h, l)); selects = λ l us q. absurd (omega (arith, h, l)); operand = λ l. absurd (omega (arith, h, l)); chain = λ l us q. absurd (omega (arith, h, l)); whole = w }
+by_whole k ts h w = record { primary = λ l. absurd (omega (arith, h, l)); selects = λ l us q. absurd (omega (arith, h, l)); operand = λ l. absurd (omega (arith, h, l)); chain = λ c l us q. absurd (let one = (chained c).0 in omega (arith, h, l, one)); whole = w }
 
-by_chain : (k : ℕ) (ts : List Token) → k < 12 → ((us : List Token) → Fit (rule part.Rest ∷ []) us → Fit (rule part.Operand ∷ rule part.Rest ∷ []) (ts ++ us)) → Fits k ts
-by_chain k ts h c = record {
+by_chain : (k : ℕ) (ts : List Token) → k < 12 → 1 ≤ k → ((c : Chain) → from_level c ≤ k → Chains c ts) → Fits k ts
+by_chain k ts h one c = record {
   primary = λ l. absurd (omega (arith, h, l));
   selects = λ l us q. absurd (omega (arith, h, l));
   operand = λ l. absurd (omega (arith, h, l));
-  chain = λ l us q. c us q;
-  whole = by_row part.Expression 0 _ refl refl (let d : Fit (rule part.Operand ∷ rule part.Rest ∷ []) (ts ++ []) = c [] (by_row part.Rest 10 _ refl refl nil) in rw (append-nil ts) at d);
+  chain = c;
+  whole = by_row part.Expression 0 _ refl refl (let d : Fit (rule part.Operand ∷ rule part.Rest ∷ []) (ts ++ []) = c Loose one [] (by_row part.Rest 10 _ refl refl nil) in rw (append-nil ts) at d);
 }
 
 by_operand : (k : ℕ) (ts : List Token) → k < 13 → Fit (rule part.Operand ∷ []) ts → Fits k ts
-by_operand k ts h o = let c : Fits 1 ts = by_chain 1 ts (lit< tt) (λ us q. o then q) in record {
+by_operand k ts h o = let w : Fits 1 ts = by_chain 1 ts (lit< tt) (lit≤ tt) (λ c l us q. o then q) in record {
   primary = λ l. absurd (omega (arith, h, l));
   selects = λ l us q. absurd (omega (arith, h, l));
   operand = λ l. o;
-  chain = λ l us q. c.chain (lit≤ tt) us q;
-  whole = c.whole;
+  chain = λ c l us q. o then q;
+  whole = w.whole;
 }
 
 by_selects : (k : ℕ) (ts : List Token) → k < 14 → ((us : List Token) → Fit (rule part.Selects ∷ []) us → Fit (rule part.Primary ∷ rule part.Selects ∷ []) (ts ++ us)) → Fits k ts
@@ -70,7 +89,7 @@ by_selects k ts h c =
       primary = λ l. absurd (omega (arith, h, l));
       selects = λ l us q. c us q;
       operand = λ l. o.operand (lit≤ tt);
-      chain = λ l us q. o.chain (lit≤ tt) us q;
+      chain = λ c l. o.chain c (chained c).1;
       whole = o.whole;
     }
 
@@ -79,7 +98,7 @@ by_primary k ts p = let s : Fits 13 ts = by_selects 13 ts (lit< tt) (λ us q. p 
   primary = λ l. p;
   selects = λ l us q. s.selects (lit≤ tt) us q;
   operand = λ l. s.operand (lit≤ tt);
-  chain = λ l us q. s.chain (lit≤ tt) us q;
+  chain = λ c l. s.chain c (let small = (chained c).1 in omega (arith, small));
   whole = s.whole;
 }
 
@@ -88,7 +107,7 @@ by_up k ts h f = record {
   primary = λ l. absurd (omega (arith, h, l));
   selects = λ l us q. f.selects (omega (arith, l)) us q;
   operand = λ l. f.operand (omega (arith, l));
-  chain = λ l us q. f.chain (omega (arith, l)) us q;
+  chain = λ c l. f.chain c (omega (arith, l));
   whole = f.whole;
 }
 
@@ -118,6 +137,25 @@ infixes Modulo h = by_row part.Infix 33 _ refl refl (tok (Operator Modulo) nil)
 infixes Power h = by_row part.Infix 34 _ refl refl (tok (Operator Power) nil)
 infixes BitNot h = absurd (omega (arith, h))
 infixes LogicNot h = absurd (omega (arith, h))
+
+tight_infixes : (o : Op) → 8 ≤ level o → Fit (rule part.TightInfix ∷ []) (Operator o ∷ [])
+unfolding level
+tight_infixes ShiftLeft h = by_row part.TightInfix 76 _ refl refl (tok (Operator ShiftLeft) nil)
+tight_infixes ShiftRightSigned h = by_row part.TightInfix 77 _ refl refl (tok (Operator ShiftRightSigned) nil)
+tight_infixes ShiftRight h = by_row part.TightInfix 78 _ refl refl (tok (Operator ShiftRight) nil)
+tight_infixes Plus h = by_row part.TightInfix 79 _ refl refl (tok (Operator Plus) nil)
+tight_infixes Minus h = by_row part.TightInfix 80 _ refl refl (tok (Operator Minus) nil)
+tight_infixes Times h = by_row part.TightInfix 81 _ refl refl (tok (Operator Times) nil)
+tight_infixes Divide h = by_row part.TightInfix 82 _ refl refl (tok (Operator Divide) nil)
+tight_infixes Modulo h = by_row part.TightInfix 83 _ refl refl (tok (Operator Modulo) nil)
+tight_infixes Power h = by_row part.TightInfix 84 _ refl refl (tok (Operator Power) nil)
+tight_infixes LogicOr h = absurd (omega (arith, h))
+tight_infixes _ h = absurd (omega (arith, h))
+
+-- An operator, an operand and more after it.
+linked : {ts : List Token} (c : Chain) (o : Op) → from_level c ≤ level o → 0 < level o → Fit (rule part.Operand ∷ rule (rest_of c) ∷ []) ts → Fit (rule (rest_of c) ∷ []) (Operator o ∷ ts)
+linked Loose o low pos p = by_row part.Rest 11 _ refl refl (infixes o pos then p)
+linked Tight o low pos p = by_row part.TightRest 75 _ refl refl (tight_infixes o low then p)
 
 signs : (o : Op) → IsTrue (is_unary o) → Fit (rule part.Sign ∷ []) (Operator o ∷ [])
 unfolding is_unary
@@ -163,11 +201,10 @@ no_cast = by_row part.MaybeCast 58 _ refl refl nil
 mutual
   fits : {k : ℕ} {ts : List Token} {x : NormalExpr} → Spells k ts x → Fits k ts
   fits {ts = ts} (up {k = k} small e) = by_up k ts small (fits e)
-  fits (ternary {cs = cs} {us = us} {bs = bs} c a b) = by_whole 0 _ (lit< tt) (by_row part.Expression 0 _ refl refl ((fits c).chain (lit≤ tt) (Mark Question ∷ (us ++ (Mark Colon ∷ bs))) (by_row part.Rest 12 _ refl refl (tok (Mark Question) ((fits a).whole then tok (Mark Colon) (fits b).whole)))))
+  fits (ternary {cs = cs} {us = us} {bs = bs} c a b) = by_whole 0 _ (lit< tt) (by_row part.Expression 0 _ refl refl ((fits c).chain Loose (lit≤ tt) (Mark Question ∷ (us ++ (Mark Colon ∷ bs))) (by_row part.Rest 12 _ refl refl (tok (Mark Question) ((fits a).whole then tok (Mark Colon) (fits b).whole)))))
   fits (binary {ls = ls} {rs = rs} o pos l r) = let small : level o ≤ 11 = level_small o in
-      by_chain (level o) _ (omega (arith, small)) (λ us q.
-      let right : Fit (rule part.Rest ∷ []) (Operator o ∷ (rs ++ us)) = by_row part.Rest 11 _ refl refl (infixes o pos then (fits r).chain (omega arith) us q) in
-      rw (append_assoc ls (Operator o ∷ rs) us) ((fits l).chain (omega (arith, pos)) (Operator o ∷ (rs ++ us)) right))
+      by_chain (level o) _ (omega (arith, small)) (omega (arith, pos)) (λ c low us q.
+      rw (append_assoc ls (Operator o ∷ rs) us) ((fits l).chain c low (Operator o ∷ (rs ++ us)) (linked c o low pos ((fits r).chain c (omega (arith, low)) us q))))
   fits (unary o h e) = by_operand 12 _ (lit< tt) (by_row part.Operand 2 _ refl refl (signs o h then (fits e).operand (lit≤ tt)))
   fits (index {ss = ss} {is = is} s i) = by_selects 13 _ (lit< tt) (λ us q. rw append_assoc ((fits s).selects (lit≤ tt) (Mark OpenBracket ∷ ((is ++ (Mark CloseBracket ∷ [])) ++ us))
       (let z : Fit (rule part.Selects ∷ []) (Mark OpenBracket ∷ (is ++ (Mark CloseBracket ∷ us))) = by_row part.Selects 36 _ refl refl (tok (Mark OpenBracket) ((fits i).whole then by_row part.SelectEnd 37 _ refl refl (tok (Mark CloseBracket) nil) then q)) in rw (append_assoc is (Mark CloseBracket ∷ []) us) z)))
@@ -216,3 +253,9 @@ target_spelled {ts} e =
     let d : Fit (rule part.Primary ∷ rule part.Selects ∷ []) (ts ++ []) = (fits e).selects (lit≤ tt) [] (by_row part.Selects 35 _ refl refl nil) in
     let f : Fit (rule part.Primary ∷ rule part.Selects ∷ []) ts = rw (append-nil ts) at d in
     let g : Fit (rule part.Target ∷ []) ts = by_row part.Target 1 _ refl refl f in g []
+
+pub bound_spelled : {ts : List Token} {x : NormalExpr} → Spells 8 ts x → (es : List Event) × Rowed expression_page (rule part.Bound ∷ []) ts es []
+bound_spelled {ts} e =
+    let d : Fit (rule part.Operand ∷ rule part.TightRest ∷ []) (ts ++ []) = (fits e).chain Tight (lit≤ tt) [] (by_row part.TightRest 74 _ refl refl nil) in
+    let f : Fit (rule part.Operand ∷ rule part.TightRest ∷ []) ts = rw (append-nil ts) at d in
+    let g : Fit (rule part.Bound ∷ []) ts = by_row part.Bound 73 _ refl refl f in g []

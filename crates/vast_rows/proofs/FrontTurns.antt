@@ -24,19 +24,12 @@ use Rattle.vast_rows.proofs.Ending.{Exact}
 use Rattle.vast_rows.proofs.PhraseDue.{PhraseDue}
 use Rattle.vast_rows.proofs.PhraseLaws.{begins as phrase_begins}
 use Rattle.vast_rows.proofs.Plain.{no_reads, plain_tells, never_read}
+use Rattle.vast_rows.proofs.Residues.{quiet_always, quiet_other, no_end_kind, unless_true}
 use Rattle.vast_rows.proofs.Sets.{has_or, no_kind}
-use Rattle.vast_rows.proofs.Standing.{Standing, Leaves, leaves_other, unless_true, no_end_kind, onto, begins_at}
+use Rattle.vast_rows.proofs.Standing.{Standing, residue, begins_at}
 use Rattle.vast_rows.proofs.Starting.{Begun}
 use Rattle.vast_rows.proofs.Steps.{begun as reading_begun, ate, took, phrased, left_over}
 use Rattle.vast_rows.proofs.Turns.{led, front}
-
--- No token has a kind of none.
-none_leave : (ts : List tokens.Token) → Leaves 0 ts
-none_leave ts t us e = go (has 0 (token_kind t)) refl
-  where
-    go : (b : Bool) → has 0 (token_kind t) ≡ b → has 0 (token_kind t) ≡ false
-    go true h = absurd (no_kind (token_kind t) h)
-    go false h = h
 
 pub stands_first : (rows : List Row) (facts : ℕ → Fact) (start : ℕ) (all : List tokens.Token) → has (facts start).follow 0 ≡ true → ((ts : List tokens.Token) × SpellsRule rows start ts) → Standing rows facts start all all (Rule start ∷ []) 0
 stands_first rows facts start all h c = record {
@@ -45,7 +38,7 @@ stands_first rows facts start all h c = record {
   reading = λ rest l. ([], reading_begun rows facts start rest h);
   longer = λ k g. absurd (no_kind k g);
   closes = (c.0, (c.1).0, whole_derived rows start c.0 (c.1).0 (c.1).1);
-  leaves = none_leave all;
+  quiet = quiet_always all;
 }
 
 -- The next token is one by which the stack goes on, and no phrase goes on with it.
@@ -60,7 +53,7 @@ fitting begin facts rows start all left stack more own k w kinds kind h = record
   where
     no : (ts : List tokens.Token) → left ≡ ts → has more k ≡ true → ⊥
     no [] e g = let z = w.longer k g in no_end_kind z.0 (z.2 ∙ (kind ∙ ap head_kind e))
-    no (t ∷ us) e g = unless_true (has more k) g (let f : has more (token_kind t) ≡ false = w.leaves t us e in let same : k ≡ token_kind t = kind ∙ ap head_kind e in rw same f)
+    no (t ∷ us) e g = unless_true (has more k) g (let f : has more (token_kind t) ≡ false = w.quiet t us e in let same : k ≡ token_kind t = kind ∙ ap head_kind e in rw same f)
 
     other : (b : Bool) → has more k ≡ b → has more k ≡ false
     other true e = absurd (no left refl e)
@@ -75,7 +68,7 @@ module _ {K : Type 0} {after : K → List Event → K → Type 0} (silent : (s :
     (opens : (rest : List tokens.Token) → k ≡ head_kind rest → LeadsTo after rows (fact_in facts) rest stack first new now d) where
   due_at : (e : Due) → d ≡ e → (t : tokens.Token) (us : List tokens.Token) → token_kind t ≡ k → IsDue after rows (fact_in facts) start (w.before ++ (t ∷ us)) (t ∷ us) new first now e
   due_at e same t us kind =
-      let r = w.reading (t ∷ us) (leaves_other more k t us f.other kind) in
+      let r = w.reading (t ∷ us) (quiet_other more k t us f.other kind) in
       led rows (fact_in facts) (t ∷ us) stack first new now d e (opens (t ∷ us) (sym kind)) same start (w.before ++ (t ∷ us)) first (record { done = r.0; reading = r.1; heard = silent first r.0 first })
 
   -- Something of the whole that goes on so.
@@ -86,7 +79,7 @@ module _ {K : Type 0} {after : K → List Event → K → Type 0} (silent : (s :
   sampled = sample.first ∷ sample.others
 
   told : SpellsRule rows start (w.before ++ sampled)
-  told = onto begin facts rows start x p w sampled (leaves_other more k sample.first sample.others f.other sample.kinds) sample.events sample.derives
+  told = (residue w).onto sampled (quiet_other more k sample.first sample.others f.other sample.kinds) (sample.events, sample.derives)
 
   derived_whole : Derives rows (Rule start ∷ []) (w.before ++ sampled) told.0
   derived_whole = whole_derived rows start (w.before ++ sampled) told.0 told.1
@@ -124,7 +117,7 @@ module _ {K : Type 0} {after : K → List Event → K → Type 0} (silent : (s :
             (v.done ++ named_by (name_of n.0) [], rw (append_assoc w.before (n.0 ∷ []) rest) (ate rows (fact_in facts) start (w.before ++ (n.0 ∷ rest)) n.0 rest j new v.done v.reading (n.2 ∙ same)));
         longer = λ i g. absurd (no_kind i g);
         closes = (o.behind, o.more, o.rest);
-        leaves = none_leave after;
+        quiet = quiet_always after;
       }
 
   pub eats_fewer : (after : List tokens.Token) → after ≡ tail left → length after < length left

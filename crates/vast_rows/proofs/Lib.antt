@@ -12,6 +12,9 @@ pub mod Begins
 pub mod Starting
 pub mod Standing
 pub mod Overlaps
+pub mod Residues
+pub mod Headers
+pub mod HeaderTurns
 pub mod PhraseDue
 pub mod Plain
 pub mod FrontTurns

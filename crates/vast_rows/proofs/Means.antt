@@ -46,7 +46,7 @@ made None k F = texted k F
 abbrev pub ForToken : ℕ → (tokens.Token → Type 0) → Type 0
 ForToken k F = made (fixed k) k F
 
-for_token : (t : tokens.Token) (F : tokens.Token → Type 0) → ForToken (token_kind t) F → F t
+pub for_token : (t : tokens.Token) (F : tokens.Token → Type 0) → ForToken (token_kind t) F → F t
 for_token (tokens.Word w) F m = m w
 for_token (tokens.MacroWord w) F m = go (bytes_eq w (codes "include")) refl
   where

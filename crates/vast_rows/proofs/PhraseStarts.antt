@@ -1,12 +1,14 @@
 -- Phrases of each sort and with each first token, and that none goes on with what may stand after one.
-use Rattle.std.proofs.Common.{◌≡◌, ℕ, suc, ◌+◌, List, [], ◌∷◌, ◌++◌, length, true, codes, refl, sym, ap, ◌⊎◌, inl, inr, arith, append_assoc, length-append, lit<}
+use Rattle.std.proofs.Common.{◌≡◌, ℕ, suc, ◌≤◌, ◌+◌, List, [], ◌∷◌, ◌++◌, length, true, codes, refl, sym, ap, ◌⊎◌, inl, inr, arith, append_assoc, length-append, lit<}
 use Rattle.std.specs.Int.Bits.{bit_or}
 use Rattle.vast_literal.specs.Tokens.{Token, Word, SystemWord, MacroWord, Number, Based, Quoted, Operator, Mark, Reserved, is_unary, level}
 use Rattle.vast_literal.specs.NormalExpr.{NormalExpr, Name, Literal, Binary}
-use Rattle.vast_literal.specs.Grammar.{Spells, up, binary, unary, name, number, based, quoted, paren, system_call, concat, array_pattern, macro_alone, word_cast, none, is_cast_word}
+use Rattle.vast_literal.specs.Grammar.{Spells, binary, unary, name, number, based, quoted, paren, system_call, concat, array_pattern, macro_alone, word_cast, none, is_cast_word}
+use Rattle.vast_literal.proofs.Levels.{lower}
 use Rattle.vast_rows.specs.declared.grammar.Phrase.{Phrase}
 use Rattle.vast_rows.specs.declared.grammar.Phrase.TheVariants.{Expression, Target, LoopHead, Path}
 use Rattle.vast_rows.specs.Fronts.{SpellsPhrase}
+use Rattle.vast_rows.specs.Internal.Headers.{IsAt}
 use Rattle.vast_rows.specs.Internal.PhraseKinds.{firsts, stops}
 use Rattle.vast_rows.specs.Internal.Sets.{only}
 use Rattle.vast_rows.specs.Internal.Sources.{head_kind}
@@ -17,20 +19,17 @@ use Rattle.vast_rows.proofs.PhraseLaws.{begins, apart}
 use Rattle.vast_rows.proofs.Sets.{has_or, only_has, no_kind}
 
 -- What stands at a level stands at lower ones.
-eighth : {ts : List Token} {x : NormalExpr} → Spells 12 ts x → Spells 8 ts x
-eighth p = up (lit< tt) (up (lit< tt) (up (lit< tt) (up (lit< tt) p)))
+from_14 : (k : ℕ) {ts : List Token} {x : NormalExpr} → k ≤ 14 → Spells 14 ts x → Spells k ts x
+from_14 k small p = lower 14 k _ _ small (omega arith) p
 
-lowest : {ts : List Token} {x : NormalExpr} → Spells 7 ts x → Spells 0 ts x
-lowest p = up (lit< tt) (up (lit< tt) (up (lit< tt) (up (lit< tt) (up (lit< tt) (up (lit< tt) (up (lit< tt) p))))))
+from_13 : (k : ℕ) {ts : List Token} {x : NormalExpr} → k ≤ 13 → Spells 13 ts x → Spells k ts x
+from_13 k small p = lower 13 k _ _ small (omega arith) p
+
+from_12 : (k : ℕ) {ts : List Token} {x : NormalExpr} → k ≤ 12 → Spells 12 ts x → Spells k ts x
+from_12 k small p = lower 12 k _ _ small (omega arith) p
 
 high : {ts : List Token} {x : NormalExpr} → Spells 14 ts x → Spells 13 ts x
-high p = up (lit< tt) p
-
-signed : {ts : List Token} {x : NormalExpr} → Spells 13 ts x → Spells 12 ts x
-signed p = up (lit< tt) p
-
-whole : {ts : List Token} {x : NormalExpr} → Spells 12 ts x → Spells 0 ts x
-whole p = lowest (up (lit< tt) (eighth p))
+high p = from_14 13 (omega arith) p
 
 -- A name, and its bound: i < 0.
 a_name : Spells 13 (Word [] ∷ []) (Name [])
@@ -38,13 +37,23 @@ a_name = high (name [])
 
 a_bound : Spells 0 (Word [] ∷ (Operator Less ∷ (Number [] ∷ []))) (Binary Less (Name []) (Literal []))
 unfolding level
-a_bound = lowest (binary Less (lit< tt) (up (lit< tt) (eighth (signed a_name))) (eighth (signed (high (number [])))))
+a_bound = lower 7 0 _ _ (omega arith) (omega arith) (binary Less (lit< tt) (from_13 7 (omega arith) a_name) (from_14 8 (omega arith) (number [])))
+
+-- An operand.
+pub an_operand : (k : ℕ) → k ≤ 13 → IsAt k (Word [] ∷ [])
+an_operand k small = (Name [], from_13 k small a_name)
+
+an_expression : Spells 0 (Word [] ∷ []) (Name [])
+an_expression = from_13 0 (omega arith) a_name
+
+a_number : Spells 0 (Number [] ∷ []) (Literal [])
+a_number = from_14 0 (omega arith) (number [])
 
 -- A phrase of each sort.
 pub one_phrase : (p : Phrase) → (ts : List Token) × SpellsPhrase p ts
-one_phrase Expression = (Word [] ∷ [], (IsExpression (Name []), expression (whole (signed a_name))))
+one_phrase Expression = (Word [] ∷ [], (IsExpression (Name []), expression an_expression))
 one_phrase Target = (Word [] ∷ [], (IsExpression (Name []), target a_name))
-one_phrase LoopHead = (_, (_, loop_head [] (whole (signed (high (number [])))) a_bound))
+one_phrase LoopHead = (_, (_, loop_head [] a_number a_bound))
 one_phrase Path = (_, (IsPath [], path []))
 
 -- The tokens with which operands begin, and an operand with each; and the same of signs.
@@ -77,7 +86,7 @@ operands =
     ∷ Reserved LogicKey ∷ Reserved SignedKey ∷ Reserved UnsignedKey ∷ Reserved IntegerKey ∷ Reserved IntKey ∷ []
 
 cast : (k : Key) → is_cast_word k ≡ true → Headed 13 (Reserved k)
-cast k h = (_, _, high (word_cast k h (whole (signed a_name))))
+cast k h = (_, _, high (word_cast k h an_expression))
 
 operand_heads : Heads 13 operands
 unfolding is_cast_word
@@ -96,7 +105,7 @@ operand_heads = (
             (
               (_, _, high (macro_alone (codes "include"))),
               (
-                (_, _, high (paren (whole (signed a_name)))),
+                (_, _, high (paren an_expression)),
                 (
                   (_, _, high (concat none)),
                   (
@@ -119,31 +128,34 @@ signs = Operator Minus ∷ Operator BitNot ∷ Operator LogicNot ∷ Operator Bi
 sign_heads : Heads 12 signs
 unfolding is_unary
 sign_heads = (
-  (_, _, unary Minus refl (signed a_name)),
+  (_, _, unary Minus refl (from_13 12 (omega arith) a_name)),
   (
-    (_, _, unary BitNot refl (signed a_name)),
+    (_, _, unary BitNot refl (from_13 12 (omega arith) a_name)),
     (
-      (_, _, unary LogicNot refl (signed a_name)),
-      ((_, _, unary BitAnd refl (signed a_name)), ((_, _, unary BitOr refl (signed a_name)), ((_, _, unary BitXor refl (signed a_name)), tt))),
+      (_, _, unary LogicNot refl (from_13 12 (omega arith) a_name)),
+      ((_, _, unary BitAnd refl (from_13 12 (omega arith) a_name)), ((_, _, unary BitOr refl (from_13 12 (omega arith) a_name)), ((_, _, unary BitXor refl (from_13 12 (omega arith) a_name)), tt))),
     ),
   ),
 )
 
--- A phrase that begins with a token of the kind.
-pub record Starts (p : Phrase) (kind : ℕ) : Type 0 where
+-- Something of a language that begins with a token of the kind.
+pub record Starts (Q : List Token → Type 0) (kind : ℕ) : Type 0 where
   pub first : Token
   pub others : List Token
   pub kinds : token_kind first ≡ kind
-  pub spelled : SpellsPhrase p (first ∷ others)
+  pub spelled : Q (first ∷ others)
 
-pub starts : (p : Phrase) (kind : ℕ) → has (firsts p) kind ≡ true → Starts p kind
-starts Expression kind h = go (has_or (kinds operands) (kinds signs) kind h)
+pub operand_starts : (k : ℕ) → k ≤ 12 → (kind : ℕ) → has (firsts Expression) kind ≡ true → Starts (IsAt k) kind
+operand_starts k small kind h = go (has_or (kinds operands) (kinds signs) kind h)
   where
-    go : (has (kinds operands) kind ≡ true) ⊎ (has (kinds signs) kind ≡ true) → Starts Expression kind
-    go (inl a) = let b = headed 13 operands operand_heads kind a in record { first = b.0; others = (b.2).0; kinds = b.1; spelled = (IsExpression (b.2).1, expression (whole (signed (b.2).2))) }
-    go (inr a) = let b = headed 12 signs sign_heads kind a in record { first = b.0; others = (b.2).0; kinds = b.1; spelled = (IsExpression (b.2).1, expression (whole (b.2).2)) }
+    go : (has (kinds operands) kind ≡ true) ⊎ (has (kinds signs) kind ≡ true) → Starts (IsAt k) kind
+    go (inl a) = let b = headed 13 operands operand_heads kind a in record { first = b.0; others = (b.2).0; kinds = b.1; spelled = ((b.2).1, from_13 k (omega (arith, small)) (b.2).2) }
+    go (inr a) = let b = headed 12 signs sign_heads kind a in record { first = b.0; others = (b.2).0; kinds = b.1; spelled = ((b.2).1, from_12 k small (b.2).2) }
+
+pub starts : (p : Phrase) (kind : ℕ) → has (firsts p) kind ≡ true → Starts (SpellsPhrase p) kind
+starts Expression kind h = let o = operand_starts 0 (omega arith) kind h in record { first = o.first; others = o.others; kinds = o.kinds; spelled = (IsExpression (o.spelled).0, expression (o.spelled).1) }
 starts Target kind h = let b = headed 13 operands operand_heads kind h in record { first = b.0; others = (b.2).0; kinds = b.1; spelled = (IsExpression (b.2).1, target (b.2).2) }
-starts LoopHead kind h = record { first = Mark OpenParen; others = _; kinds = only_has (token_kind (Mark OpenParen)) kind h; spelled = (_, loop_head [] (whole (signed (high (number [])))) a_bound) }
+starts LoopHead kind h = record { first = Mark OpenParen; others = _; kinds = only_has (token_kind (Mark OpenParen)) kind h; spelled = (_, loop_head [] a_number a_bound) }
 starts Path kind h = record { first = _; others = _; kinds = only_has 8 kind h; spelled = (IsPath [], path []) }
 
 -- No phrase begins with the end.

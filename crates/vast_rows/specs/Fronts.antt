@@ -1,12 +1,9 @@
 -- How far tokens are the beginning of something, and how that goes on.
-use Rattle.std.specs.Prelude.{◌≡◌, ◌↔◌, ◌<◌, ℕ, List, ◌∷◌, ◌++◌, length, Bool, true, false}
+use Rattle.std.specs.Prelude.{◌≡◌, ◌↔◌, ℕ, List, [], ◌∷◌, ◌++◌, Bool, true, codes}
 use Rattle.vast_literal.specs.FileGrammar.{IsFile}
 use Rattle.vast_literal.specs.NormalFile.{NormalFile}
-use Rattle.vast_literal.specs.Tokens.{Token}
+use Rattle.vast_literal.specs.Tokens.{Token, Word, Number, Quoted}
 use Rattle.vast_rows.specs.declared.grammar.Phrase.{Phrase}
-use Rattle.vast_rows.specs.declared.grammar.Phrase.TheVariants.{LoopHead}
-use Rattle.vast_rows.specs.declared.source.Reach.{Reach}
-use Rattle.vast_rows.specs.declared.source.Reach.TheVariants.{Nowhere, Part, Whole, Untold}
 use Rattle.vast_rows.specs.Kinds.{has, token_kind}
 use Rattle.vast_rows.specs.Phrases.{Meaning, IsPhrase}
 
@@ -36,31 +33,13 @@ pub record LongestFront (L : List Token → Type 0) (ts left : List Token) (kind
   pub ended : (ends ≡ true) ↔ L front
   pub stops : (t : Token) (us rest : List Token) → left ≡ t ∷ us → L (front ++ (t ∷ rest)) → ⊥
 
--- The next token has none of the kinds.
-abbrev pub IsQuiet : (left : List Token) → (kinds : ℕ) → Type 0
-IsQuiet left kinds = (t : Token) (us : List Token) → left ≡ t ∷ us → has kinds (token_kind t) ≡ false
+-- The first token is this name; a path, in its quotes; the number 1.
 
--- Some tokens were read, which are a front of phrases and no phrase; or which are one, and no token of the kind that is left
--- goes on with it.
-pub record PartRead (phrase : Phrase) (before left : List Token) (kinds : ℕ) : Type 0 where
-  pub longest : LongestFront (SpellsPhrase phrase) before left kinds false
-  pub fewer : length left < length before
+abbrev pub IsNameNext : (name : List ℕ) → List Token → Type 0
+IsNameNext name ts = (us : List Token) × (ts ≡ Word name ∷ us)
 
-pub record WholeRead (phrase : Phrase) (before left : List Token) (kinds : ℕ) : Type 0 where
-  pub longest : LongestFront (SpellsPhrase phrase) before left kinds true
-  pub fewer : length left < length before
-  pub quiet : IsQuiet left kinds
+abbrev pub IsPathNext : List Token → Type 0
+IsPathNext ts = (path : List ℕ) × (us : List Token) × (ts ≡ Quoted (34 ∷ (path ++ (34 ∷ []))) ∷ us)
 
--- How far a phrase was read; of some phrases it may not be told.
-abbrev pub Reaches : (untold : Phrase → Type 0) → Phrase → (before left : List Token) → Reach → Type 0
-Reaches untold phrase before left Nowhere = (left ≡ before) × ((t : Token) (us rest : List Token) → before ≡ t ∷ us → SpellsPhrase phrase (t ∷ rest) → ⊥)
-Reaches untold phrase before left (Part kinds) = PartRead phrase before left kinds
-Reaches untold phrase before left (Whole kinds) = WholeRead phrase before left kinds
-Reaches untold phrase before left Untold = untold phrase
-
--- Something of the language goes on with any loop's header where the tokens no longer go on.
-pub record AtLoopHead (L : List Token → Type 0) (ts : List Token) : Type 0 where
-  pub front : List Token
-  pub behind : List Token
-  pub split : ts ≡ front ++ behind
-  pub due : (head : List Token) → SpellsPhrase LoopHead head → IsBegun L (front ++ head)
+abbrev pub IsOneNext : List Token → Type 0
+IsOneNext ts = (us : List Token) × (ts ≡ Number (codes "1") ∷ us)

@@ -7,6 +7,7 @@ pub mod Predictive
 pub mod Firsts
 pub mod ExpressionPage
 pub mod Reaches
+pub mod Headers
 pub mod Derives
 pub mod Reading
 pub mod Actions

@@ -4,7 +4,7 @@
 
 ghost use Rattle.std.specs.Prelude.{◌≡◌, true};
 ghost use Rattle.vast_rows.specs.Facts.{fact_in, facts_view};
-ghost use Rattle.vast_rows.specs.Internal.ExpressionPage.{Expression, Target, expression_page, part_number};
+ghost use Rattle.vast_rows.specs.Internal.ExpressionPage.{Bound, Expression, Target, expression_page, part_number};
 ghost use Rattle.vast_rows.specs.Internal.Reaches.{are_plain};
 ghost use Rattle.vast_rows.specs.Kinds.{has};
 ghost use Rattle.vast_rows.specs.Rows.{bare, rows_view};
@@ -13,7 +13,7 @@ use crate::grammar::Item::{self, Rule, Token};
 use crate::grammar::{Fact, Row, Table};
 
 #[rattlefmt::skip]
-static ITEMS: [Item; 114] = [
+static ITEMS: [Item; 128] = [
     Rule(2), Rule(4), Rule(8), Rule(6), Rule(3), Rule(2), Rule(8), Rule(6), Token(43), Token(48), Token(49),
     Token(30), Token(28), Token(29), Rule(5), Rule(2), Rule(4), Token(21), Rule(0), Token(16), Rule(0), Token(26),
     Token(27), Token(28), Token(29), Token(30), Token(31), Token(32), Token(33), Token(34), Token(35), Token(36),
@@ -24,11 +24,12 @@ static ITEMS: [Item; 114] = [
     Rule(16), Rule(18), Rule(9), Token(25), Token(9), Rule(0), Token(10), Token(4), Token(5), Token(9), Rule(14),
     Token(10), Rule(13), Token(9), Rule(14), Token(10), Token(22), Token(1), Rule(9), Rule(9), Rule(0), Rule(15),
     Token(15), Rule(0), Rule(15), Token(14), Rule(0), Rule(17), Rule(15), Token(14), Token(13), Rule(14), Token(14),
-    Token(14), Token(63), Token(67), Token(68), Token(64), Token(65),
+    Token(14), Token(63), Token(67), Token(68), Token(64), Token(65), Rule(2), Rule(20), Rule(21), Rule(2), Rule(20),
+    Token(39), Token(40), Token(41), Token(42), Token(43), Token(44), Token(45), Token(46), Token(47),
 ];
 
 #[rattlefmt::skip]
-static ROWS: [Row; 73] = [
+static ROWS: [Row; 85] = [
     Row { rule: 0, action: None, looks: 0x1b80030800720023fa, items: 0, items_end: 2 },
     Row { rule: 1, action: None, looks: 0x1b80000000020023fa, items: 2, items_end: 4 },
     Row { rule: 2, action: None, looks: 0x3080070000000, items: 4, items_end: 6 },
@@ -102,10 +103,22 @@ static ROWS: [Row; 73] = [
     Row { rule: 18, action: None, looks: 0x100000000000000000, items: 111, items_end: 112 },
     Row { rule: 18, action: None, looks: 0x10000000000000000, items: 112, items_end: 113 },
     Row { rule: 18, action: None, looks: 0x20000000000000000, items: 113, items_end: 114 },
+    Row { rule: 19, action: None, looks: 0x1b80030800720023fa, items: 114, items_end: 116 },
+    Row { rule: 20, action: None, looks: 0x1, items: 116, items_end: 116 },
+    Row { rule: 20, action: None, looks: 0xff8000000000, items: 116, items_end: 119 },
+    Row { rule: 21, action: None, looks: 0x8000000000, items: 119, items_end: 120 },
+    Row { rule: 21, action: None, looks: 0x10000000000, items: 120, items_end: 121 },
+    Row { rule: 21, action: None, looks: 0x20000000000, items: 121, items_end: 122 },
+    Row { rule: 21, action: None, looks: 0x40000000000, items: 122, items_end: 123 },
+    Row { rule: 21, action: None, looks: 0x80000000000, items: 123, items_end: 124 },
+    Row { rule: 21, action: None, looks: 0x100000000000, items: 124, items_end: 125 },
+    Row { rule: 21, action: None, looks: 0x200000000000, items: 125, items_end: 126 },
+    Row { rule: 21, action: None, looks: 0x400000000000, items: 126, items_end: 127 },
+    Row { rule: 21, action: None, looks: 0x800000000000, items: 127, items_end: 128 },
 ];
 
 #[rattlefmt::skip]
-static FACTS: [Fact; 19] = [
+static FACTS: [Fact; 22] = [
     Fact { begins: 0x1b80030800720023fa, follow: 0x81f401, empty: false, rank: 3, first_row: 0 },
     Fact { begins: 0x1b80000000020023fa, follow: 0x1, empty: false, rank: 2, first_row: 1 },
     Fact { begins: 0x1b80030800720023fa, follow: 0xfffffca1f401, empty: false, rank: 2, first_row: 2 },
@@ -125,13 +138,16 @@ static FACTS: [Fact; 19] = [
     Fact { begins: 0x1b80030800720063fa, follow: 0xfffffca1fc01, empty: false, rank: 4, first_row: 64 },
     Fact { begins: 0xe400, follow: 0xfffffca1fc01, empty: false, rank: 1, first_row: 66 },
     Fact { begins: 0x1b8000000000000000, follow: 0x2000000, empty: false, rank: 0, first_row: 68 },
+    Fact { begins: 0x1b80030800720023fa, follow: 0x1, empty: false, rank: 3, first_row: 73 },
+    Fact { begins: 0xff8000000001, follow: 0x1, empty: true, rank: 1, first_row: 74 },
+    Fact { begins: 0xff8000000000, follow: 0x1b80030800720023fa, empty: false, rank: 0, first_row: 76 },
 ];
 
 #[rattlefmt::skip]
-static FIRSTS: [u128; 19] = [
+static FIRSTS: [u128; 22] = [
     0x1b80030800720023fa, 0x1b80000000020023fa, 0x1b80030800720023fa, 0x3080070000000, 0xfffffc200000, 0xfffffc000000,
     0x800, 0x811000, 0x1b80000000020023fa, 0x2000000, 0x30, 0x200, 0x2400200, 0x2000000, 0x1b80030800720023fa, 0x8000,
-    0x1b80030800720063fa, 0xe000, 0x1b8000000000000000,
+    0x1b80030800720063fa, 0xe000, 0x1b8000000000000000, 0x1b80030800720023fa, 0xff8000000000, 0xff8000000000,
 ];
 
 /// The tokens of expressions.
@@ -139,6 +155,7 @@ pub(crate) fn expressions() -> Table
     ensures page { bare (rows_view result.items.now result.rows.now) ≡ expression_page }
     ensures expression_stands_last { has (fact_in (facts_view result.facts.now) (part_number Expression)).follow 0 ≡ true }
     ensures target_stands_last { has (fact_in (facts_view result.facts.now) (part_number Target)).follow 0 ≡ true }
+    ensures bound_stands_last { has (fact_in (facts_view result.facts.now) (part_number Bound)).follow 0 ≡ true }
     ensures plain { are_plain (rows_view result.items.now result.rows.now) ≡ true }
 {
     Table {

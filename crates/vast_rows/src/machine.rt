@@ -1,7 +1,7 @@
 //! The machine: a stack of items that are still to be read. It neither recurs nor makes a tree.
 
-ghost use Rattle.std.specs.Prelude.{◌≡◌, ◌<◌, ◌++◌, List, [], true, None};
-ghost use Rattle.std.specs.Prelude.{IfOk, MatchBool, MatchOption, OnOk};
+ghost use Rattle.std.specs.Prelude.{◌≡◌, ◌<◌, List, [], true, None};
+ghost use Rattle.std.specs.Prelude.{IfOk, MatchBool, MatchOption};
 ghost use Rattle.vast_literal.specs.FileGrammar.{IsFile};
 ghost use Rattle.vast_literal.specs.NormalFile.{NormalFile};
 ghost use Rattle.vast_literal.specs.Tokens.{Token};
@@ -95,18 +95,6 @@ pub(crate) fn taken(table: &Table, rule: u8, kind: u8) -> Option<Choice>
     None
 }
 
-/// Puts the items on the stack, the first on top.
-pub(crate) fn push_all(stack: &mut Stack<Item>, items: &[Item]) -> Result<(), AllocError>
-    ensures { OnOk result (stack.new ≡ items.now ++ stack.old) }
-{
-    let mut at = items.len();
-    while at > 0 {
-        at -= 1;
-        stack.push(items[at])?;
-    }
-    Ok(())
-}
-
 /// What is due.
 #[derive(Clone, Copy)]
 pub(crate) enum Due {
@@ -163,7 +151,7 @@ pub(crate) fn open<S: Source, K: Sink<S>>(
                 None => return Ok(Due::Wrong),
                 Some(row) => {
                     tell(sink, row.action)?;
-                    push_all(stack, row.items)?;
+                    stack.push_all(row.items)?;
                 }
             },
         }

@@ -1,10 +1,8 @@
 //! From where the machine takes tokens.
 
-ghost use Rattle.std.specs.Prelude.{◌≡◌, ℕ, List, IfOk, MatchOption, Some, None, ⊤};
+ghost use Rattle.std.specs.Prelude.{◌≡◌, ℕ, List, IfOk, MatchBool, MatchOption, Some, None};
 ghost use Rattle.vast_literal.specs.Tokens.{Token};
-ghost use Rattle.vast_rows.specs.Fronts.{Reaches};
-ghost use Rattle.vast_rows.specs.declared.grammar.Phrase.{Phrase as SpecPhrase};
-ghost use Rattle.vast_rows.specs.declared.grammar.Phrase.TheVariants.{LoopHead};
+ghost use Rattle.vast_rows.specs.Fronts.{IsNameNext, IsOneNext, IsPathNext};
 ghost use Rattle.vast_rows.specs.Phrases.{Meaning};
 ghost use Rattle.vast_rows.specs.Internal.Sources.{tail, HasRead, HasNone, first_name, kind_of_first};
 
@@ -44,57 +42,21 @@ pub trait Source {
             (λ m. HasRead phrase (left self.old) (sees m) (left self.new))) };
 }
 
-/// How far a phrase was read.
-#[derive(Clone, Copy, Debug, PartialEq, Eq)]
-pub enum Reach {
-    /// Not at all: none begins with the next token.
-    Nowhere,
-    /// As far as some go on, and no whole one: they go on with tokens of these kinds.
-    Part(u128),
-    /// A whole one, as far as some go on: others go on with tokens of these kinds.
-    Whole(u128),
-    /// It is not told.
-    Untold,
-}
-
-/// A source that tells how far phrases go.
+/// A source that sees more of the next token than its kind.
 pub trait Fronts: Source {
-    /// Reads a phrase as far as some phrase goes on with what stands there. Of a loop's header it
-    /// may not tell how far that is.
-    fn reach(&mut self, phrase: Phrase) -> Result<Reach, AllocError>
-        ensures { IfOk result (Reaches (λ p. p ≡ LoopHead) phrase
-            (Self.left self.old) (Self.left self.new)) };
-}
+    /// Whether the next token is this name.
+    fn is_name(&self, name: &Self::Name) -> bool
+        ensures { MatchBool result
+            (IsNameNext (Self.text name.now) (Self.left self.now))
+            (IsNameNext (Self.text name.now) (Self.left self.now) → ⊥) };
 
-/// Who reads the phrases of a table. `untold` says of which it may not tell how far they go.
-pub(crate) trait Phrases<S: Source> {
-    ghost untold: { SpecPhrase → Type 0 };
+    /// Whether the next token is the path of an include.
+    fn is_path(&self) -> bool
+        ensures { MatchBool result
+            (IsPathNext (Self.left self.now)) (IsPathNext (Self.left self.now) → ⊥) };
 
-    /// Reads a phrase as far as some phrase goes on with what stands there.
-    fn reach(&mut self, source: &mut S, phrase: Phrase) -> Result<Reach, AllocError>
-        ensures { IfOk result (Reaches untold phrase (S.left source.old) (S.left source.new)) };
-}
-
-/// The source itself.
-#[derive(Clone, Copy)]
-pub(crate) struct OwnPhrases;
-
-impl<S: Fronts> Phrases<S> for OwnPhrases {
-    ghost untold = { λ p. p ≡ LoopHead };
-
-    fn reach(&mut self, source: &mut S, phrase: Phrase) -> Result<Reach, AllocError> {
-        source.reach(phrase)
-    }
-}
-
-/// Nobody, where the table has no phrases.
-#[derive(Clone, Copy)]
-pub(crate) struct NoPhrases;
-
-impl<S: Source> Phrases<S> for NoPhrases {
-    ghost untold = { λ p. ⊤ };
-
-    fn reach(&mut self, _source: &mut S, _phrase: Phrase) -> Result<Reach, AllocError> {
-        Ok(Reach::Untold)
-    }
+    /// Whether the next token is the number 1.
+    fn is_one(&self) -> bool
+        ensures { MatchBool result
+            (IsOneNext (Self.left self.now)) (IsOneNext (Self.left self.now) → ⊥) };
 }

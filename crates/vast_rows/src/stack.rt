@@ -1,6 +1,6 @@
 //! A stack.
 
-ghost use Rattle.std.specs.Prelude.{◌≡◌, [], ◌∷◌, reverse, OnOk, OnErr, MatchOption};
+ghost use Rattle.std.specs.Prelude.{◌≡◌, [], ◌∷◌, ◌++◌, reverse, OnOk, OnErr, MatchOption};
 ghost use Rattle.vast_rows.specs.Internal.Stack.{below};
 
 use std::alloc::{AllocError, Global};
@@ -67,6 +67,20 @@ impl<T: Drop> Stack<T> {
         ensures err { OnErr result (self.new ≡ self.old) }
     {
         self.items.push(item)?;
+        Ok(())
+    }
+}
+
+impl<T: Copy + Drop> Stack<T> {
+    /// These items on top, the first one topmost.
+    pub(crate) fn push_all(&mut self, items: &[T]) -> Result<(), AllocError>
+        ensures { OnOk result (self.new ≡ items.now ++ self.old) }
+    {
+        let mut at = items.len();
+        while at > 0 {
+            at -= 1;
+            self.push(items[at])?;
+        }
         Ok(())
     }
 }

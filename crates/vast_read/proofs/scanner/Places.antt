@@ -18,10 +18,8 @@ behind_suffix text rest (apostrophe {c} {behind} l h) =
     let s = behind_suffix (c ∷ behind) rest h in
     (39 ∷ s.0, ap (λ x. 39 ∷ x) s.1)
 
-pub no_other_rest : {T : Type 0} (P : T → Type 0) (text rest : List ℕ) → Behind text rest → (o : Option T) → o ≡ None → MatchOption o ((before : List ℕ) → text ≢ before ++ rest) P → ⊥
-no_other_rest P text rest h o e n =
-    let s = behind_suffix text rest h in
-    subst (λ x. MatchOption x ((before : List ℕ) → text ≢ before ++ rest) P) e n s.0 s.1
+pub no_other_rest : {T : Type 0} (P : T → Type 0) (text rest : List ℕ) → (before : List ℕ) × (text ≡ before ++ rest) → (o : Option T) → o ≡ None → MatchOption o ((before : List ℕ) → text ≢ before ++ rest) P → ⊥
+no_other_rest P text rest s o e n = subst (λ x. MatchOption x ((before : List ℕ) → text ≢ before ++ rest) P) e n s.0 s.1
 
 -- after the first token: where none fits, and where none is left
 pub behind_unspelled : (text rest : List ℕ) → lex Gap rest ≡ lex Gap text → lex Gap rest ≡ (unspelled ∷ []) → IsBehindFirst text []

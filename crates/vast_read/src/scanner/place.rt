@@ -1,6 +1,6 @@
 //! Places of a text by what is after them.
 
-ghost use Rattle.std.specs.Prelude.{◌≡◌, ℕ, List, ◌++◌, IsCharBoundary};
+ghost use Rattle.std.specs.Prelude.{◌≡◌, ℕ, List, ◌++◌, drop, IsCharBoundary};
 ghost use Rattle.vast_literal.specs.Scan.{Gap};
 ghost use Rattle.vast_read.specs.Behind.{Behind};
 ghost use Rattle.vast_read.specs.Lexed.{lex};
@@ -38,9 +38,9 @@ fn from_token<'t>(text: &'t str, bytes: usize) -> &'t str
 }
 
 /// The place from which on this is the rest of the text.
-fn place_of(text: &str, rest: &str) -> usize
-    requires { Behind text.now rest.now }
-    ensures between { IsBetweenTokens text.now result }
+pub(crate) fn place_of(text: &str, rest: &str) -> usize
+    requires { (before : List ℕ) × (text.now ≡ before ++ rest.now) }
+    ensures rest { drop result text.now ≡ rest.now }
     ensures boundary { IsCharBoundary text.now result }
 {
     match text.strip_suffix(rest) {
@@ -53,6 +53,7 @@ fn place_of(text: &str, rest: &str) -> usize
 /// The text from its first token on, and what is after that token; nothing, where there is none.
 pub(crate) fn first_and_behind<'t>(text: &'t str) -> (&'t str, &'t str)
     ensures tokens { lex Gap result.0.now ≡ lex Gap text.now }
+    ensures from { (before : List ℕ) × (text.now ≡ before ++ result.0.now) }
     ensures front { BeginsWithoutGap result.0.now }
     ensures behind { IsBehindFirst text.now result.1.now }
     ensures rest { (before : List ℕ) × (text.now ≡ before ++ result.1.now) }

@@ -1,4 +1,5 @@
--- The tokens of expressions row by row, whatever trees they have: which operator binds more tightly is not said here.
+-- The tokens of expressions row by row, whatever trees they have: which operator binds more tightly is said only of what stands
+-- on the right of `<`, as the bound of a loop does.
 -- `tools/rows` reads this page as it reads that of files.
 use Rattle.std.specs.Prelude.{ℕ, List, [], ◌∷◌, None}
 use Rattle.vast_rows.specs.Numbers.{LogicOr, LogicAnd, BitOr, BitXor, BitAnd, NotEqual, CaseNotEqual, Equal, CaseEqual, GreaterEqual, Greater, LessEqual, Less, ShiftLeft, ShiftRightSigned, ShiftRight, Plus, Minus, Times, Divide, Modulo, Power, BitNot, LogicNot}
@@ -11,7 +12,7 @@ use Rattle.vast_rows.specs.Symbols.{key, mark, op, word, macro_word, include_wor
 
 -- The parts of expressions, and their numbers as rules.
 pub data Part : Type 0 where
-  Expression Target Operand Sign Rest Infix Selects SelectEnd Primary Cast AnyMacro MacroList AfterName MaybeCast Listed More Braces BraceEnd CastWord : Part
+  Expression Target Operand Sign Rest Infix Selects SelectEnd Primary Cast AnyMacro MacroList AfterName MaybeCast Listed More Braces BraceEnd CastWord Bound TightRest TightInfix : Part
 
 abbrev pub part_number : Part → ℕ
 part_number Expression = 0
@@ -33,6 +34,9 @@ part_number More = 15
 part_number Braces = 16
 part_number BraceEnd = 17
 part_number CastWord = 18
+part_number Bound = 19
+part_number TightRest = 20
+part_number TightInfix = 21
 
 abbrev pub rule : Part → Item
 rule part = Rule (part_number part)
@@ -116,4 +120,16 @@ expression_page =
     ∷ (CastWord ⟶ key UnsignedKey ∷ [])
     ∷ (CastWord ⟶ key IntegerKey ∷ [])
     ∷ (CastWord ⟶ key IntKey ∷ [])
+    ∷ (Bound ⟶ rule Operand ∷ rule TightRest ∷ [])
+    ∷ (TightRest ⟶ [])
+    ∷ (TightRest ⟶ rule TightInfix ∷ rule Operand ∷ rule TightRest ∷ [])
+    ∷ (TightInfix ⟶ op ShiftLeft ∷ [])
+    ∷ (TightInfix ⟶ op ShiftRightSigned ∷ [])
+    ∷ (TightInfix ⟶ op ShiftRight ∷ [])
+    ∷ (TightInfix ⟶ op Plus ∷ [])
+    ∷ (TightInfix ⟶ op Minus ∷ [])
+    ∷ (TightInfix ⟶ op Times ∷ [])
+    ∷ (TightInfix ⟶ op Divide ∷ [])
+    ∷ (TightInfix ⟶ op Modulo ∷ [])
+    ∷ (TightInfix ⟶ op Power ∷ [])
     ∷ []

@@ -1,13 +1,12 @@
 -- How far phrases are read.
-use Rattle.std.specs.Prelude.{◌≡◌, ℕ, List, [], ◌∷◌, ◌++◌, Bool, ◌&&◌, true, false}
+use Rattle.std.specs.Prelude.{◌≡◌, ◌<◌, ℕ, List, [], ◌∷◌, length, Bool, ◌&&◌, true, false}
 use Rattle.vast_literal.specs.Tokens.{Token}
 use Rattle.vast_rows.specs.declared.grammar.Item.{Item}
 use Rattle.vast_rows.specs.declared.grammar.Item.TheVariants as item
-use Rattle.vast_rows.specs.declared.grammar.Phrase.{Phrase}
+use Rattle.vast_rows.specs.declared.reach.Reach.{Reach}
+use Rattle.vast_rows.specs.declared.reach.Reach.TheVariants.{Nowhere, Part, Whole}
 use Rattle.vast_rows.specs.Events.{Event}
-use Rattle.vast_rows.specs.Fronts.{SpellsPhrase, IsBegun}
-use Rattle.vast_rows.specs.Internal.PhraseKinds.{firsts}
-use Rattle.vast_rows.specs.Internal.Sources.{head_kind}
+use Rattle.vast_rows.specs.Fronts.{LongestFront}
 use Rattle.vast_rows.specs.Kinds.{has, token_kind}
 use Rattle.vast_rows.specs.Laws.{Tells}
 use Rattle.vast_rows.specs.Rows.{Row}
@@ -16,15 +15,30 @@ use Rattle.vast_rows.specs.Rows.{Row}
 abbrev pub SpellsRule : List Row → (rule : ℕ) → List Token → Type 0
 SpellsRule rows rule ts = (es : List Event) × Tells rows rule ts es
 
--- Something of the language goes on with any phrase of a sort that is not told of, if it begins as what is left does.
-pub record AtUntold (untold : Phrase → Type 0) (L : List Token → Type 0) (ts : List Token) : Type 0 where
-  pub phrase : Phrase
-  pub not_told : untold phrase
-  pub front : List Token
-  pub behind : List Token
-  pub split : ts ≡ front ++ behind
-  pub fits : has (firsts phrase) (head_kind behind) ≡ true
-  pub due : (t : Token) (part : List Token) → token_kind t ≡ head_kind behind → SpellsPhrase phrase (t ∷ part) → IsBegun L (front ++ (t ∷ part))
+-- The next token has none of the kinds.
+abbrev pub IsQuiet : (left : List Token) → (kinds : ℕ) → Type 0
+IsQuiet left kinds = (t : Token) (us : List Token) → left ≡ t ∷ us → has kinds (token_kind t) ≡ false
+
+-- Some tokens were read, which are a front of the language and nothing of it; or which are of it, and no token of the kind that
+-- is left goes on with them.
+pub record PartRead (L : List Token → Type 0) (before left : List Token) (kinds : ℕ) : Type 0 where
+  pub longest : LongestFront L before left kinds false
+  pub fewer : length left < length before
+
+pub record WholeRead (L : List Token → Type 0) (before left : List Token) (kinds : ℕ) : Type 0 where
+  pub longest : LongestFront L before left kinds true
+  pub fewer : length left < length before
+  pub quiet : IsQuiet left kinds
+
+-- Nothing of the language begins with the next token.
+abbrev pub Refuses : (L : List Token → Type 0) → List Token → Type 0
+Refuses L ts = (t : Token) (us rest : List Token) → ts ≡ t ∷ us → L (t ∷ rest) → ⊥
+
+-- How far something of a language was read.
+abbrev pub Reaches : (L : List Token → Type 0) → (before left : List Token) → Reach → Type 0
+Reaches L before left Nowhere = (left ≡ before) × Refuses L before
+Reaches L before left (Part kinds) = PartRead L before left kinds
+Reaches L before left (Whole kinds) = WholeRead L before left kinds
 
 -- Rows that have no phrases.
 abbrev pub plain_items : List Item → Bool

@@ -1,4 +1,4 @@
-//! What a file may begin with, and expressions where nothing stands.
+//! What a file may begin with.
 
 ghost use Rattle.std.specs.Prelude.{[]};
 ghost use Rattle.vast_rows.specs.Phrases.{IsPath};
@@ -6,8 +6,7 @@ ghost use Rattle.vast_rows.specs.Phrases.{IsPath};
 use super::file_front;
 use crate::grammar::Phrase;
 use crate::kind::Kind;
-use crate::reach::{reach_expression, reach_target};
-use crate::source::{Fronts, Reach, Source};
+use crate::source::{Fronts, Source};
 use std::alloc::AllocError;
 use vast_literal::Key;
 
@@ -40,32 +39,24 @@ impl Source for NoTokens {
 }
 
 impl Fronts for NoTokens {
-    fn reach(&mut self, _phrase: Phrase) -> Result<Reach, AllocError> {
-        Ok(Reach::Nowhere)
+    fn is_name(&self, _name: &()) -> bool {
+        false
+    }
+
+    fn is_path(&self) -> bool {
+        false
+    }
+
+    fn is_one(&self) -> bool {
+        false
     }
 }
 
 #[test]
 fn a_file_begins_with_a_module_or_an_include(rt: HostRuntime) {
-    let Some(next) = file_front(rt.alloc(), &mut NoTokens).expect(&rt, "memory") else {
-        assert!(rt; false);
-        return;
-    };
+    let next = file_front(rt.alloc(), &mut NoTokens).expect(&rt, "memory");
     assert!(rt; next.has(Kind::IncludeWord));
     assert!(rt; next.has(Kind::Reserved(Key::Module)));
     assert!(rt; !next.has(Kind::Reserved(Key::EndModule)));
     assert!(rt; next.ends);
-}
-
-#[test]
-fn no_expression_stands_before_nothing(rt: HostRuntime) {
-    let alloc = rt.alloc();
-    assert_eq!(rt;
-        reach_expression(alloc, &mut NoTokens).expect(&rt, "memory"),
-        Reach::Nowhere
-    );
-    assert_eq!(rt;
-        reach_target(alloc, &mut NoTokens).expect(&rt, "memory"),
-        Reach::Nowhere
-    );
 }

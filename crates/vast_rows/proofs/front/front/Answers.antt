@@ -1,13 +1,15 @@
 use Rattle.std.proofs.Common.{ap, sym, ◌∙◌, inl, inr}
-use Rattle.vast_rows.specs.Fronts.{Reaches, PartRead, WholeRead}
+use Rattle.vast_rows.specs.Fronts.{SpellsPhrase}
+use Rattle.vast_rows.specs.Internal.Reaches.{Reaches, PartRead, WholeRead}
 use Rattle.vast_rows.specs.Facts.{facts_view}
 use Rattle.vast_rows.specs.Kinds.{number}
 use Rattle.vast_rows.specs.Rows.{rows_view}
-use Rattle.vast_rows.specs.declared.source.Reach.TheVariants.{Nowhere}
+use Rattle.vast_rows.specs.declared.reach.Reach.TheVariants.{Nowhere}
 use Rattle.vast_rows.proofs.Ending.{exact}
 use Rattle.vast_rows.proofs.FrontTurns.{stands_first, fitting, never_wrong, never_nothing, never_phrase, eats_next, eats_fewer, phrase_is_due}
-use Rattle.vast_rows.proofs.PhraseDue.{nowhere, reads_part, reads_whole, at_untold}
-use Rattle.vast_rows.proofs.Standing.{stands, stands_before, quiet_before}
+use Rattle.vast_rows.proofs.PhraseDue.{nowhere, reads_part, reads_whole}
+use Rattle.vast_rows.proofs.Standing.{stands, stands_before}
+use Rattle.vast_rows.proofs.Residues.{quiet_before}
 use Rattle.vast_rows.proofs.front.front.Goals as goal
 
 pub tokens-init : goal.tokens-init
@@ -57,9 +59,9 @@ tokens-smaller-in-Token g c = eats_fewer (λ s es t. tt) c.args.table.now.firsts
     c.in_ok-open.ensures
     _ c.take.ensures.left
 
-pub returns-in-Nowhere : goal.returns-in-Nowhere
-returns-in-Nowhere g c =
-    let r : Reaches (g.P.Phrases.untold) c.in-Phrase.phrase (g.S.Source.left c.tokens.source) (g.S.Source.left c.reach.new.source) Nowhere = rw c.in-Nowhere.is at c.in_ok-reach-in-Phrase.ensures in record {
+pub returns-in-Ok-Nowhere : goal.returns-in-Ok-Nowhere
+returns-in-Ok-Nowhere g c =
+    let r : Reaches (SpellsPhrase c.in-Phrase.phrase) (g.S.Source.left c.tokens.source) (g.S.Source.left c.reach.new.source) Nowhere = rw c.in-Ok-Nowhere.field-0-is at (rw c.in-Ok-Nowhere.is at c.in_ok-reach-in-Phrase.ensures) in record {
       told = rw r.0 (stands c.args.table.now.firsts.now (facts_view c.args.table.now.facts.now) (rows_view c.args.table.now.items.now c.args.table.now.rows.now) c.args.start
           (exact c.args.table.now.firsts.now (facts_view c.args.table.now.facts.now) (rows_view c.args.table.now.items.now c.args.table.now.rows.now) c.args.table.now.exact) c.args.table.now.checked
           c.next_of-own.result.kinds c.next_of-own.result.ends c.tokens.invariant c.next_of-own.ensures.kinds c.next_of-own.ensures.ends
@@ -79,16 +81,16 @@ returns-in-Nowhere g c =
           h c.in-Phrase.phrase c.in-Phrase.is);
     }
 
-pub returns-in-Part : goal.returns-in-Part
-returns-in-Part g c =
-    let r : PartRead c.in-Phrase.phrase (g.S.Source.left c.tokens.source) (g.S.Source.left c.reach.new.source) c.in-Part.kinds = rw c.in-Part.is at c.in_ok-reach-in-Phrase.ensures in record {
+pub returns-in-Ok-Part : goal.returns-in-Ok-Part
+returns-in-Ok-Part g c =
+    let r : PartRead (SpellsPhrase c.in-Phrase.phrase) (g.S.Source.left c.tokens.source) (g.S.Source.left c.reach.new.source) c.in-Ok-Part.kinds = rw c.in-Ok-Part.field-0-is at (rw c.in-Ok-Part.is at c.in_ok-reach-in-Phrase.ensures) in record {
       told = reads_part c.args.table.now.checked (phrase_is_due (λ s es t. tt) c.args.table.now.firsts.now (facts_view c.args.table.now.facts.now) (rows_view c.args.table.now.items.now c.args.table.now.rows.now) c.args.start
           (exact c.args.table.now.firsts.now (facts_view c.args.table.now.facts.now) (rows_view c.args.table.now.items.now c.args.table.now.rows.now) c.args.table.now.exact) c.args.table.now.checked
           (g.S.Source.left c.args.source.now) (g.S.Source.left c.tokens.source) c.tokens.stack c.open.new.stack c.tokens.more c.number-kind.result _ _ c.in_ok-open.field-0 c.tokens.invariant
           (fitting c.args.table.now.firsts.now (facts_view c.args.table.now.facts.now) (rows_view c.args.table.now.items.now c.args.table.now.rows.now) c.args.start
           (g.S.Source.left c.args.source.now) (g.S.Source.left c.tokens.source) c.tokens.stack c.tokens.more c.next_of-own.result.kinds c.number-kind.result c.tokens.invariant c.next_of-own.ensures.kinds (c.number-kind.ensures.number ∙ ap number c.kind.ensures) (sym c.is_in.ensures ∙ c.if-not-is_in.false))
           c.in_ok-open.ensures
-          c.in-Phrase.phrase c.in-Phrase.is) c.in-Part.kinds r;
+          c.in-Phrase.phrase c.in-Phrase.is) c.in-Ok-Part.kinds r;
       plain = λ h. absurd (never_phrase (λ s es t. tt) c.args.table.now.firsts.now (facts_view c.args.table.now.facts.now) (rows_view c.args.table.now.items.now c.args.table.now.rows.now) c.args.start
           (exact c.args.table.now.firsts.now (facts_view c.args.table.now.facts.now) (rows_view c.args.table.now.items.now c.args.table.now.rows.now) c.args.table.now.exact) c.args.table.now.checked
           (g.S.Source.left c.args.source.now) (g.S.Source.left c.tokens.source) c.tokens.stack c.open.new.stack c.tokens.more c.number-kind.result _ _ c.in_ok-open.field-0 c.tokens.invariant
@@ -100,30 +102,20 @@ returns-in-Part g c =
 
 pub tokens-preserved : goal.tokens-preserved
 tokens-preserved g c =
-    let r : WholeRead c.in-Phrase.phrase (g.S.Source.left c.tokens.source) (g.S.Source.left c.reach.new.source) c.in-Whole.kinds = rw c.in-Whole.is at c.in_ok-reach-in-Phrase.ensures in
+    let r : WholeRead (SpellsPhrase c.in-Phrase.phrase) (g.S.Source.left c.tokens.source) (g.S.Source.left c.reach.new.source) c.in-Ok-Whole.kinds = rw c.in-Ok-Whole.field-0-is at (rw c.in-Ok-Whole.is at c.in_ok-reach-in-Phrase.ensures) in
     reads_whole c.args.table.now.checked (phrase_is_due (λ s es t. tt) c.args.table.now.firsts.now (facts_view c.args.table.now.facts.now) (rows_view c.args.table.now.items.now c.args.table.now.rows.now) c.args.start
     (exact c.args.table.now.firsts.now (facts_view c.args.table.now.facts.now) (rows_view c.args.table.now.items.now c.args.table.now.rows.now) c.args.table.now.exact) c.args.table.now.checked
     (g.S.Source.left c.args.source.now) (g.S.Source.left c.tokens.source) c.tokens.stack c.open.new.stack c.tokens.more c.number-kind.result _ _ c.in_ok-open.field-0 c.tokens.invariant
     (fitting c.args.table.now.firsts.now (facts_view c.args.table.now.facts.now) (rows_view c.args.table.now.items.now c.args.table.now.rows.now) c.args.start
     (g.S.Source.left c.args.source.now) (g.S.Source.left c.tokens.source) c.tokens.stack c.tokens.more c.next_of-own.result.kinds c.number-kind.result c.tokens.invariant c.next_of-own.ensures.kinds (c.number-kind.ensures.number ∙ ap number c.kind.ensures) (sym c.is_in.ensures ∙ c.if-not-is_in.false))
     c.in_ok-open.ensures
-    c.in-Phrase.phrase c.in-Phrase.is) c.in-Whole.kinds r
+    c.in-Phrase.phrase c.in-Phrase.is) c.in-Ok-Whole.kinds r
 
-pub returns-in-Untold : goal.returns-in-Untold
-returns-in-Untold g c =
-    let r : g.P.Phrases.untold c.in-Phrase.phrase = rw c.in-Untold.is at c.in_ok-reach-in-Phrase.ensures in record {
-      told = at_untold c.args.table.now.checked (phrase_is_due (λ s es t. tt) c.args.table.now.firsts.now (facts_view c.args.table.now.facts.now) (rows_view c.args.table.now.items.now c.args.table.now.rows.now) c.args.start
-          (exact c.args.table.now.firsts.now (facts_view c.args.table.now.facts.now) (rows_view c.args.table.now.items.now c.args.table.now.rows.now) c.args.table.now.exact) c.args.table.now.checked
-          (g.S.Source.left c.args.source.now) (g.S.Source.left c.tokens.source) c.tokens.stack c.open.new.stack c.tokens.more c.number-kind.result _ _ c.in_ok-open.field-0 c.tokens.invariant
-          (fitting c.args.table.now.firsts.now (facts_view c.args.table.now.facts.now) (rows_view c.args.table.now.items.now c.args.table.now.rows.now) c.args.start
-          (g.S.Source.left c.args.source.now) (g.S.Source.left c.tokens.source) c.tokens.stack c.tokens.more c.next_of-own.result.kinds c.number-kind.result c.tokens.invariant c.next_of-own.ensures.kinds (c.number-kind.ensures.number ∙ ap number c.kind.ensures) (sym c.is_in.ensures ∙ c.if-not-is_in.false))
-          c.in_ok-open.ensures
-          c.in-Phrase.phrase c.in-Phrase.is) (g.P.Phrases.untold) r;
-      plain = λ h. absurd (never_phrase (λ s es t. tt) c.args.table.now.firsts.now (facts_view c.args.table.now.facts.now) (rows_view c.args.table.now.items.now c.args.table.now.rows.now) c.args.start
-          (exact c.args.table.now.firsts.now (facts_view c.args.table.now.facts.now) (rows_view c.args.table.now.items.now c.args.table.now.rows.now) c.args.table.now.exact) c.args.table.now.checked
-          (g.S.Source.left c.args.source.now) (g.S.Source.left c.tokens.source) c.tokens.stack c.open.new.stack c.tokens.more c.number-kind.result _ _ c.in_ok-open.field-0 c.tokens.invariant
-          (fitting c.args.table.now.firsts.now (facts_view c.args.table.now.facts.now) (rows_view c.args.table.now.items.now c.args.table.now.rows.now) c.args.start
-          (g.S.Source.left c.args.source.now) (g.S.Source.left c.tokens.source) c.tokens.stack c.tokens.more c.next_of-own.result.kinds c.number-kind.result c.tokens.invariant c.next_of-own.ensures.kinds (c.number-kind.ensures.number ∙ ap number c.kind.ensures) (sym c.is_in.ensures ∙ c.if-not-is_in.false))
-          c.in_ok-open.ensures
-          h c.in-Phrase.phrase c.in-Phrase.is);
-    }
+pub returns-in-Err-clause-plain : goal.returns-in-Err-clause-plain
+returns-in-Err-clause-plain g c = λ h. absurd (never_phrase (λ s es t. tt) c.args.table.now.firsts.now (facts_view c.args.table.now.facts.now) (rows_view c.args.table.now.items.now c.args.table.now.rows.now) c.args.start
+    (exact c.args.table.now.firsts.now (facts_view c.args.table.now.facts.now) (rows_view c.args.table.now.items.now c.args.table.now.rows.now) c.args.table.now.exact) c.args.table.now.checked
+    (g.S.Source.left c.args.source.now) (g.S.Source.left c.tokens.source) c.tokens.stack c.open.new.stack c.tokens.more c.number-kind.result _ _ c.in_ok-open.field-0 c.tokens.invariant
+    (fitting c.args.table.now.firsts.now (facts_view c.args.table.now.facts.now) (rows_view c.args.table.now.items.now c.args.table.now.rows.now) c.args.start
+    (g.S.Source.left c.args.source.now) (g.S.Source.left c.tokens.source) c.tokens.stack c.tokens.more c.next_of-own.result.kinds c.number-kind.result c.tokens.invariant c.next_of-own.ensures.kinds (c.number-kind.ensures.number ∙ ap number c.kind.ensures) (sym c.is_in.ensures ∙ c.if-not-is_in.false))
+    c.in_ok-open.ensures
+    h c.in-Phrase.phrase c.in-Phrase.is)

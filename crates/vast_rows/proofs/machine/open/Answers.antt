@@ -27,10 +27,10 @@ returns-in-None-taken g c rest e = refuses (rows_view c.args.table.now.items.now
     c.args.table.now.checked (c.rules.invariant rest e) (c.in-Some-Rule.ensures ∙ ap (λ (v : Item). v ∷ c.pop.new.self) c.in-Some-Rule.field-0-is) e c.in-None-taken.ensures
 
 pub rules-smaller : goal.rules-smaller
-rules-smaller g c = leads_items (rows_view c.args.table.now.items.now c.args.table.now.rows.now) (fact_in (facts_view c.args.table.now.facts.now)) c.rules.stack c.in-Some-Rule.rule c.args.kind c.in-Some.row.number c.in-Some.row.items.now c.pop.new.self c.push_all.new.stack c.in-Some.row.action
+rules-smaller g c = leads_items (rows_view c.args.table.now.items.now c.args.table.now.rows.now) (fact_in (facts_view c.args.table.now.facts.now)) c.rules.stack c.in-Some-Rule.rule c.args.kind c.in-Some.row.number c.in-Some.row.items.now c.pop.new.self c.push_all.new.self c.in-Some.row.action
     c.args.table.now.checked (c.in-Some-Rule.ensures ∙ ap (λ (v : Item). v ∷ c.pop.new.self) c.in-Some-Rule.field-0-is) c.in-Some.ensures c.in_ok-push_all-in-Some.ensures
 
 pub rules-preserved : goal.rules-preserved
-rules-preserved g c rest e = opens (rows_view c.args.table.now.items.now c.args.table.now.rows.now) (fact_in (facts_view c.args.table.now.facts.now)) rest c.args.stack.now c.rules.stack c.pop.new.self c.in-Some.row.items.now c.push_all.new.stack c.args.sink.now c.rules.sink c.tell.new.sink
+rules-preserved g c rest e = opens (rows_view c.args.table.now.items.now c.args.table.now.rows.now) (fact_in (facts_view c.args.table.now.facts.now)) rest c.args.stack.now c.rules.stack c.pop.new.self c.in-Some.row.items.now c.push_all.new.self c.args.sink.now c.rules.sink c.tell.new.sink
     c.in-Some-Rule.rule c.args.kind c.in-Some.row.number c.in-Some.row.action
     c.args.table.now.checked g.met.K.Sink.joined (c.rules.invariant rest e) (c.in-Some-Rule.ensures ∙ ap (λ (v : Item). v ∷ c.pop.new.self) c.in-Some-Rule.field-0-is) e c.in-Some.ensures c.in_ok-push_all-in-Some.ensures c.in_ok-tell-in-Some.ensures

@@ -30,3 +30,12 @@ returns-in-Token-clause-front c = no_gap c.loop-rest.rest.now c.in-Token.ensures
 
 pub returns-in-Unspelled-clause-front : goal.returns-in-Unspelled-clause-front
 returns-in-Unspelled-clause-front c = no_gap c.loop-rest.rest.now c.in-Unspelled.ensures.space c.in-Unspelled.ensures.comment
+
+pub returns-in-Token-clause-from : goal.returns-in-Token-clause-from
+returns-in-Token-clause-from c = behind_suffix c.args.text.now c.loop-rest.rest.now c.loop-rest.invariant.1
+
+pub returns-in-Unspelled-clause-from : goal.returns-in-Unspelled-clause-from
+returns-in-Unspelled-clause-from c = behind_suffix c.args.text.now c.loop-rest.rest.now c.loop-rest.invariant.1
+
+pub returns-clause-from : goal.returns-clause-from
+returns-clause-from c = behind_suffix c.args.text.now c.loop-rest.rest.now c.loop-rest.invariant.1
