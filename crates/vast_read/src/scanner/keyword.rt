@@ -3,11 +3,11 @@
 ghost use Rattle.std.specs.Prelude.{◌≡◌, ◌<◌, [], None, get_or};
 ghost use Rattle.vast_literal.specs.Keyword.{keywords};
 ghost use Rattle.vast_literal.specs.Tokens.{word_token};
-ghost use Rattle.vast_read.specs.Internal.TokenView.{token_view};
+ghost use Rattle.vast_expressions.specs.Internal.Views.{token_view};
 ghost use Rattle.vast_read.specs.Internal.KeywordSlots.{slot_of};
 
 use crate::scanner::run::byte_at;
-use crate::token::Token;
+use vast_expressions::Token;
 use vast_literal::{Key, system_verilog_keywords};
 
 /// The key of each keyword that the grammar uses.
