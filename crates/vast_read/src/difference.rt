@@ -14,7 +14,7 @@ use vast_rows::{Action, Sink, Source, read_file};
 pub struct Piece {
     /// Where it begins.
     pub start: usize,
-    /// Behind its last token. Where only the token there tells what the piece is, that belongs to it.
+    /// Behind its last token, or before the token by which it tells what follows.
     pub end: usize,
 }
 
@@ -42,15 +42,14 @@ pub fn first_difference(
     ensures pieces { IfOk result (λ o. IfSome o (λ d.
         IsPiece old.now d.old × IsPiece new.now d.new)) }
 {
-    let (found, count) = compared(alloc, old, new)?;
-    match found {
+    let mut count = 0;
+    match compared(alloc, old, new, &mut count)? {
         Comparison::Different => Ok(Some(Difference {
             old: piece_of(alloc, old, count)?,
             new: piece_of(alloc, new, count)?,
         })),
         Comparison::Same => Ok(None),
-        Comparison::OldUnderived => Ok(None),
-        Comparison::NewUnderived => Ok(None),
+        Comparison::OldUnderived | Comparison::NewUnderived => Ok(None),
     }
 }
 

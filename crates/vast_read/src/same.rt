@@ -30,24 +30,25 @@ pub enum Comparison {
 pub fn are_same(alloc: Global, old: &str, new: &str) -> Result<Comparison, AllocError>
     ensures { IfOk result (λ c. Compares c old.now new.now) }
 {
-    Ok(compared(alloc, old, new)?.0)
+    compared(alloc, old, new, &mut 0)
 }
 
-/// The same, and how many pieces both tell alike, before the first that they don't.
+/// The same. Where both are derived, `count` becomes how many pieces both tell alike before one that they don't.
 pub(crate) fn compared(
     alloc: Global,
     old: &str,
     new: &str,
-) -> Result<(Comparison, usize), AllocError>
-    ensures { IfOk result (λ r. Compares r.0 old.now new.now) }
+    count: &mut usize,
+) -> Result<Comparison, AllocError>
+    ensures { IfOk result (λ c. Compares c old.now new.now) }
 {
     let Some(told) = told_of(alloc, old)? else {
-        return Ok((Comparison::OldUnderived, 0));
+        return Ok(Comparison::OldUnderived);
     };
-    match tells(alloc, new, &told)? {
-        None => Ok((Comparison::NewUnderived, 0)),
-        Some((true, count)) => Ok((Comparison::Same, count)),
-        Some((false, count)) => Ok((Comparison::Different, count)),
+    match tells(alloc, new, &told, count)? {
+        None => Ok(Comparison::NewUnderived),
+        Some(true) => Ok(Comparison::Same),
+        Some(false) => Ok(Comparison::Different),
     }
 }
 
@@ -66,13 +67,14 @@ fn told_of<'t>(alloc: Global, text: &'t str) -> Result<Option<Transcript<'t>>, A
     }
 }
 
-/// Whether this is told of the file that the tokens of a text spell, and how many pieces were; nothing, where they spell
-/// none.
+/// Whether this is told of the file that the tokens of a text spell; nothing, where they spell none. `count` becomes how
+/// many pieces of it are.
 fn tells(
     alloc: Global,
     text: &str,
     told: &Transcript<'_>,
-) -> Result<Option<(bool, usize)>, AllocError>
+    count: &mut usize,
+) -> Result<Option<bool>, AllocError>
     ensures { IfOk result (IsFollowed text.now told.now) }
 {
     let mut source: Phrases<'_, Events> = Phrases::new(alloc, text);
@@ -83,7 +85,8 @@ fn tells(
         },
     };
     if read_file(alloc, &mut source, &mut telling)? {
-        Ok(Some((telling.hearer.is_over(), telling.hearer.count)))
+        *count = telling.hearer.count;
+        Ok(Some(telling.hearer.is_over()))
     } else {
         Ok(None)
     }

@@ -19,6 +19,6 @@ IsToldOf text None = IsFileless text
 IsToldOf text (Some told) = (t : NormalFile) × IsFile (lex Gap text) t × (written_in told ≡ written (entries (trace t [])))
 
 -- Whether a transcript is that of the file that the tokens of a text spell.
-abbrev pub IsFollowed : List ℕ → Transcript → Option (Bool × ℕ) → Type 0
+abbrev pub IsFollowed : List ℕ → Transcript → Option Bool → Type 0
 IsFollowed text told None = IsFileless text
-IsFollowed text told (Some (b, n)) = (t : NormalFile) × IsFile (lex Gap text) t × Tells b (written_in told) (written (entries (trace t [])))
+IsFollowed text told (Some b) = (t : NormalFile) × IsFile (lex Gap text) t × Tells b (written_in told) (written (entries (trace t [])))

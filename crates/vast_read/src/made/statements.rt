@@ -162,7 +162,10 @@ pub(crate) fn arm(values: &mut Values<'_>) -> Result<(), AllocError>
     let label = wanted!(first::<Box<NormalExpr>>(values));
     let block = wanted!(first::<Children<NormalStatement>>(values));
     let mut arms = wanted!(first::<Children<CaseArm>>(values));
-    arms.push(CaseArm::new(Some(label), block.reversed()))?;
+    arms.push(CaseArm {
+        label: Some(label),
+        block: block.reversed(),
+    })?;
     put(Value::Labels(arms), values)
 }
 
@@ -173,6 +176,9 @@ pub(crate) fn default_arm(values: &mut Values<'_>) -> Result<(), AllocError>
 {
     let block = wanted!(first::<Children<NormalStatement>>(values));
     let mut arms = wanted!(first::<Children<CaseArm>>(values));
-    arms.push(CaseArm::new(None, block.reversed()))?;
+    arms.push(CaseArm {
+        label: None,
+        block: block.reversed(),
+    })?;
     put(Value::Labels(arms), values)
 }

@@ -85,10 +85,20 @@ fn grown_operator<'t>(sign: Sign, byte: u8) -> Option<Growth<'t>>
             byte,
         ),
         Sign::Equal => longer_by(b'=', Growth::Closed(Token::Operator(Sign::CaseEqual)), byte),
-        Sign::Greater if byte == b'=' => Some(Growth::Closed(Token::Operator(Sign::GreaterEqual))),
-        Sign::Greater => longer_by(b'>', Growth::Open(Token::Operator(Sign::ShiftRight)), byte),
-        Sign::Less if byte == b'=' => Some(Growth::Closed(Token::Operator(Sign::LessEqual))),
-        Sign::Less => longer_by(b'<', Growth::Closed(Token::Operator(Sign::ShiftLeft)), byte),
+        Sign::Greater => {
+            if byte == b'=' {
+                Some(Growth::Closed(Token::Operator(Sign::GreaterEqual)))
+            } else {
+                longer_by(b'>', Growth::Open(Token::Operator(Sign::ShiftRight)), byte)
+            }
+        }
+        Sign::Less => {
+            if byte == b'=' {
+                Some(Growth::Closed(Token::Operator(Sign::LessEqual)))
+            } else {
+                longer_by(b'<', Growth::Closed(Token::Operator(Sign::ShiftLeft)), byte)
+            }
+        }
         Sign::ShiftRight => {
             longer_by(
                 b'>',
