@@ -22,9 +22,10 @@ Compares NewUnderived old new = (t : NormalFile) → DerivesFile new t → ⊥
 abbrev pub IsOneFile : (old new : List ℕ) → Type 0
 IsOneFile old new = (t u : NormalFile) → DerivesFile old t → DerivesFile new u → t ≡ u
 
--- A place between the tokens of a text, and a piece from one such place to another.
+-- A place between the tokens of a text, at which no character is cut.
 abbrev pub IsPlace : List ℕ → (place : ℕ) → Type 0
 IsPlace text place = IsBetweenTokens text place × IsCharBoundary text place
 
+-- A piece of a text, from one such place to another.
 abbrev pub IsPiece : List ℕ → Piece → Type 0
 IsPiece text piece = IsPlace text piece.start × IsPlace text piece.end
