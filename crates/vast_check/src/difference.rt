@@ -4,7 +4,7 @@ use crate::place::place_of;
 use crate::tokens::{behind_token, token_of, ungrouped};
 use std::alloc::{AllocError, Global};
 use std::fmt::Write;
-use vast_read::{Comparison, are_same};
+use vast_read::Difference;
 
 /// So many characters of a line are told.
 const MOST_SHOWN: usize = 80;
@@ -16,120 +16,62 @@ pub(crate) struct Pair<'t> {
     pub(crate) new: &'t str,
 }
 
+/// The tokens that are held against each other.
+#[derive(Clone, Copy)]
+enum Compared {
+    All,
+    /// Those that never are redundant.
+    Ungrouped,
+}
+
 impl<'t> Pair<'t> {
-    fn ungrouped(self) -> Pair<'t> {
+    /// What is left from these places on.
+    fn from_places(self, old: usize, new: usize) -> Pair<'t> {
         Pair {
-            old: ungrouped(self.old),
-            new: ungrouped(self.new),
+            old: self.old.get(old..).unwrap_or(""),
+            new: self.new.get(new..).unwrap_or(""),
         }
     }
 
-    fn behind_tokens(self) -> Pair<'t> {
-        Pair {
-            old: behind_token(self.old),
-            new: behind_token(self.new),
+    /// What is left from the first of these tokens on.
+    fn from_first(self, tokens: Compared) -> Pair<'t> {
+        match tokens {
+            Compared::All => self,
+            Compared::Ungrouped => Pair {
+                old: ungrouped(self.old),
+                new: ungrouped(self.new),
+            },
         }
     }
 
-    /// Whether both begin with the same token.
-    fn goes_on(self) -> bool {
-        !self.old.is_empty() && token_of(self.old) == token_of(self.new)
-    }
-}
-
-/// Two texts side by side, but for tokens that may be redundant.
-#[derive(Drop)]
-struct Aligned<'t> {
-    /// Where both begin, and what stands after each semicolon of both.
-    starts: Vec<Pair<'t>>,
-    /// From the first tokens on that are not the same.
-    other: Pair<'t>,
-}
-
-/// What is left of two derived texts that are not the same file, from where they begin to differ: the first tokens that
-/// are not the same, or in an earlier statement that is grouped otherwise the first parentheses.
-///
-/// Statements are those that end with a semicolon. Where groupings differ, the texts are compared again some twenty times.
-pub(crate) fn difference<'t>(alloc: Global, texts: Pair<'t>) -> Result<Pair<'t>, AllocError> {
-    let Aligned { starts, other } = side_by_side(alloc, texts)?;
-    let statement = first_regrouped(alloc, texts, &starts)?;
-    match starts.get(statement) {
-        Some(start) if statement.saturating_add(1) < starts.len() => Ok(behind_alike(*start)),
-        _ => Ok(other),
+    /// What is left from the first of these tokens on that are not the same.
+    fn from_first_other(self, tokens: Compared) -> Pair<'t> {
+        let mut rest = self.from_first(tokens);
+        for _ in 0..self.old.len() {
+            if rest.old.is_empty() || token_of(rest.old) != token_of(rest.new) {
+                break;
+            }
+            let behind = Pair {
+                old: behind_token(rest.old),
+                new: behind_token(rest.new),
+            };
+            rest = behind.from_first(tokens);
+        }
+        rest
     }
 }
 
-fn side_by_side<'t>(alloc: Global, texts: Pair<'t>) -> Result<Aligned<'t>, AllocError> {
-    let mut rest = texts.ungrouped();
-    let mut starts = Vec::new(alloc);
-    starts.push(rest)?;
-    for _ in 0..texts.old.len() {
-        if !rest.goes_on() {
-            break;
-        }
-        let ends = token_of(rest.old) == ";";
-        rest = rest.behind_tokens().ungrouped();
-        if ends {
-            starts.push(rest)?;
-        }
+/// What is left of two texts from where their files begin to differ: in the first pieces that do, the first tokens that
+/// are not the same, or where all are and only the grouping is another, the first parentheses.
+pub(crate) fn from_difference<'t>(texts: Pair<'t>, found: Difference) -> Pair<'t> {
+    let start = texts.from_places(found.old.start, found.new.start);
+    let end = texts.from_places(found.old.end, found.new.end);
+    let other = start.from_first_other(Compared::Ungrouped);
+    if other.old.len() < end.old.len() || other.new.len() < end.new.len() {
+        start.from_first_other(Compared::All)
+    } else {
+        other
     }
-    Ok(Aligned {
-        starts,
-        other: rest,
-    })
-}
-
-/// The number of the first statement that is grouped otherwise; that of the last one, where none before it is.
-fn first_regrouped(
-    alloc: Global,
-    texts: Pair<'_>,
-    starts: &[Pair<'_>],
-) -> Result<usize, AllocError> {
-    let mut alike = 0;
-    let mut end = starts.len();
-    let mut tried = end.saturating_sub(1);
-    for _ in 0..usize::BITS {
-        if tried <= alike || end <= tried {
-            break;
-        }
-        if is_same_before(alloc, texts, starts, tried)? {
-            alike = tried;
-        } else {
-            end = tried;
-        }
-        tried = alike.saturating_add(end) / 2;
-    }
-    Ok(alike)
-}
-
-/// Whether the new file stays the same with the old statements in place of those before this one.
-fn is_same_before(
-    alloc: Global,
-    texts: Pair<'_>,
-    starts: &[Pair<'_>],
-    number: usize,
-) -> Result<bool, AllocError> {
-    let Some(start) = starts.get(number) else {
-        return Ok(false);
-    };
-    let length = texts.old.len().saturating_sub(start.old.len());
-    let mut mixed = String::from_str(alloc, texts.old.get(..length).unwrap_or(""))?;
-    // Two words stay two.
-    mixed.push('\n')?;
-    mixed.push_str(start.new)?;
-    Ok(are_same(alloc, &mixed, texts.new)? == Comparison::Same)
-}
-
-/// What is left after the tokens that are the same.
-fn behind_alike(texts: Pair<'_>) -> Pair<'_> {
-    let mut rest = texts;
-    for _ in 0..texts.old.len() {
-        if !rest.goes_on() {
-            break;
-        }
-        rest = rest.behind_tokens();
-    }
-    rest
 }
 
 /// Appends the line of the text in which this rest of it begins, without the spaces around it, as far as it fits.

@@ -6,13 +6,13 @@ ghost use Rattle.vast_check.specs.Check.{AreSame};
 ghost use Rattle.vast_check.specs.Internal.Check.{Compares};
 
 use crate::answer::{Answer, answer_of};
-use crate::difference::{Pair, difference, push_line_at, push_number};
+use crate::difference::{Pair, from_difference, push_line_at, push_number};
 use crate::outcome::Outcome;
 use crate::program::{Trouble, tell, underived_line, write_made};
 use std::alloc::{AllocError, Global};
 use std::io::Write;
 use std::str;
-use vast_read::{Comparison, are_same};
+use vast_read::{Comparison, are_same, first_difference};
 
 /// A file that was read.
 #[derive(Clone, Copy)]
@@ -96,7 +96,10 @@ fn difference_line(
     new_name: &str,
     texts: Pair<'_>,
 ) -> Result<String, AllocError> {
-    let rest = difference(alloc, texts)?;
+    let rest = match first_difference(alloc, texts.old, texts.new)? {
+        Some(found) => from_difference(texts, found),
+        None => texts,
+    };
     let mut line = String::from_str(alloc, old_name)?;
     line.push(':')?;
     push_number(&mut line, texts.old, rest.old)?;

@@ -1,14 +1,15 @@
 -- What is found of two texts, by what is told of them.
-use Rattle.std.proofs.Common.{◌≡◌, ℕ, List, [], Bool, true, false, Option, Some, None, sym, ap, subst, ◌∙◌}
+use Rattle.std.proofs.Common.{◌≡◌, ◌⊎◌, inl, inr, ℕ, List, [], Bool, true, false, Option, Some, None, sym, ap, subst, ◌∙◌}
 use Rattle.vast_literal.specs.FileGrammar.{DerivesFile}
 use Rattle.vast_literal.specs.NormalFile.{NormalFile}
 use Rattle.vast_rows.proofs.Builds.{trace_is_one}
 use Rattle.vast_rows.proofs.OneEach.{file_once}
 use Rattle.vast_rows.specs.Trace.{trace}
-use Rattle.vast_read.specs.Compared.{Compares}
+use Rattle.vast_read.specs.Compared.{Compares, IsOneFile}
 use Rattle.vast_read.specs.Internal.Compared.{IsToldOf, IsFollowed}
 use Rattle.vast_read.specs.Internal.Transcripts.{written, entries}
-use Rattle.vast_read.specs.declared.same.Comparison.TheVariants.{Same, Different}
+use Rattle.vast_read.specs.declared.same.Comparison.{Comparison}
+use Rattle.vast_read.specs.declared.same.Comparison.TheVariants.{Same, Different, OldUnderived, NewUnderived}
 use Rattle.vast_read.specs.declared.transcript.Transcript.{Transcript}
 use Rattle.vast_read.proofs.TextDecides.{text_derives, text_without_file}
 use Rattle.vast_read.proofs.Transcripts.{one_writing}
@@ -31,3 +32,13 @@ old_fileless old o d f = text_without_file old (subst (IsToldOf old) f d)
 
 pub new_fileless : (new : List ℕ) (told : Transcript) (n : Option Bool) → IsFollowed new told n → n ≡ None → (t : NormalFile) → DerivesFile new t → ⊥
 new_fileless new told n e g = text_without_file new (subst (IsFollowed new told) g e)
+
+-- There are no two files, where one is derived from both texts, or none from one of them.
+
+module _ (old new : List ℕ) (c : Comparison) (compared : Compares c old new) where
+  pub one_of_both : c ≡ Same → IsOneFile old new
+  one_of_both e u v d f = let s = subst (λ (k : Comparison). Compares k old new) e compared in file_once old u s.0 d s.1 ∙ file_once new s.0 v s.2 f
+
+  pub none_of_one : (c ≡ OldUnderived) ⊎ (c ≡ NewUnderived) → IsOneFile old new
+  none_of_one (inl e) u v d f = absurd (subst (λ (k : Comparison). Compares k old new) e compared u d)
+  none_of_one (inr e) u v d f = absurd (subst (λ (k : Comparison). Compares k old new) e compared v f)

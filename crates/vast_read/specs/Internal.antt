@@ -1,8 +1,5 @@
-pub mod TokenView
 pub mod Bounds
 pub mod StatementView
-pub mod MemberView
-pub mod FileView
 pub mod Readings
 pub mod Values
 pub mod LoopHeads

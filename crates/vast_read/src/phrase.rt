@@ -10,9 +10,10 @@ ghost use Rattle.vast_rows.specs.declared.grammar.Phrase.TheVariants.{Expression
 
 use crate::build::{Build, Unbuilt};
 use crate::reader::{Reader, path_of};
-use crate::token::Token;
+use crate::token::kind_of;
 use std::alloc::{AllocError, Global};
 use std::marker::PhantomData;
+use vast_expressions::Token;
 use vast_rows::{Fronts, Kind, Phrase, Source};
 
 /// What is made of a phrase.
@@ -106,7 +107,7 @@ impl<'t> Reader<'t> {
     {
         match self.first() {
             None => Kind::End,
-            Some(token) => token.kind(),
+            Some(token) => kind_of(token),
         }
     }
 }

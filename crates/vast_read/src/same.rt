@@ -30,10 +30,22 @@ pub enum Comparison {
 pub fn are_same(alloc: Global, old: &str, new: &str) -> Result<Comparison, AllocError>
     ensures { IfOk result (λ c. Compares c old.now new.now) }
 {
+    compared(alloc, old, new, &mut 0)
+}
+
+/// The same. Where both are derived, `count` becomes how many pieces both tell alike before one that they don't.
+pub(crate) fn compared(
+    alloc: Global,
+    old: &str,
+    new: &str,
+    count: &mut usize,
+) -> Result<Comparison, AllocError>
+    ensures { IfOk result (λ c. Compares c old.now new.now) }
+{
     let Some(told) = told_of(alloc, old)? else {
         return Ok(Comparison::OldUnderived);
     };
-    match tells(alloc, new, &told)? {
+    match tells(alloc, new, &told, count)? {
         None => Ok(Comparison::NewUnderived),
         Some(true) => Ok(Comparison::Same),
         Some(false) => Ok(Comparison::Different),
@@ -55,17 +67,25 @@ fn told_of<'t>(alloc: Global, text: &'t str) -> Result<Option<Transcript<'t>>, A
     }
 }
 
-/// Whether this is told of the file that the tokens of a text spell; nothing, where they spell none.
-fn tells(alloc: Global, text: &str, told: &Transcript<'_>) -> Result<Option<bool>, AllocError>
+/// Whether this is told of the file that the tokens of a text spell; nothing, where they spell none. `count` becomes how
+/// many pieces of it are.
+fn tells(
+    alloc: Global,
+    text: &str,
+    told: &Transcript<'_>,
+    count: &mut usize,
+) -> Result<Option<bool>, AllocError>
     ensures { IfOk result (IsFollowed text.now told.now) }
 {
     let mut source: Phrases<'_, Events> = Phrases::new(alloc, text);
     let mut telling = Telling {
         hearer: Followed {
             left: Some(told.whole()),
+            count: 0,
         },
     };
     if read_file(alloc, &mut source, &mut telling)? {
+        *count = telling.hearer.count;
         Ok(Some(telling.hearer.is_over()))
     } else {
         Ok(None)

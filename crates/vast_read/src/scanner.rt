@@ -12,7 +12,7 @@ use crate::scanner::literal::{apostrophe, number, quoted};
 use crate::scanner::run::{byte_at, run_end};
 use crate::scanner::sign::sign;
 use crate::scanner::word::{macro_word, system_word, word};
-use crate::token::Token;
+use vast_expressions::Token;
 
 mod class;
 mod front;

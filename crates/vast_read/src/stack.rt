@@ -53,3 +53,15 @@ impl<T: Drop> Stack<T> {
         Ok(())
     }
 }
+
+/// The part that is wanted; where there is none, nothing is made, and the call is over.
+macro_rules! wanted {
+    ($part:expr) => {
+        match $part {
+            Some(part) => part,
+            None => return Ok(()),
+        }
+    };
+}
+
+pub(crate) use wanted;

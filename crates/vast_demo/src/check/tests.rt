@@ -59,6 +59,30 @@ fn derived_without_a_tree(rt: HostRuntime) -> Result<(), Fail> {
 }
 
 #[test]
+fn first_difference(rt: HostRuntime) -> Result<(), Fail> {
+    let old = "module m; assign a = b - c - d; endmodule";
+    for (new, pieces) in [
+        // From the sign before the value up to the semicolon.
+        (
+            "module m; assign a = b - (c - d); endmodule",
+            Some(((19, 30), (19, 32))),
+        ),
+        // At the word that tells which member it is.
+        (
+            "module m; wire a; endmodule",
+            Some(((10, 10), (10, 10))),
+        ),
+        ("module m; assign a = (b - c) - d; endmodule", None),
+        ("module m; assign a = ; endmodule", None),
+    ] {
+        let found = vast_read::first_difference(rt.alloc(), old, new)?;
+        let found = found.map(|it| ((it.old.start, it.old.end), (it.new.start, it.new.end)));
+        assert!(rt; found == pieces, "{new}");
+    }
+    Ok(())
+}
+
+#[test]
 fn no_utf8(rt: HostRuntime) {
     let (status, out, err) = checked(rt.alloc(), &mut [255].as_slice());
     assert_eq!(rt; status, 1);

@@ -3,8 +3,8 @@ use Rattle.std.specs.Prelude.{ℕ, List, [], ◌∷◌, Option, Some, None}
 use Rattle.vast_literal.specs.Tokens as to
 use Rattle.vast_literal.specs.Scan.{Gap}
 use Rattle.vast_read.specs.Lexed.{lex}
-use Rattle.vast_read.specs.Internal.TokenView.{token_view}
-use Rattle.vast_read.specs.declared.token.Token.{Token}
+use Rattle.vast_expressions.specs.Internal.Views.{token_view}
+use Rattle.vast_expressions.specs.declared.token.Token.{Token}
 use Rattle.vast_read.specs.declared.scanner.position.Position.{Position}
 
 -- A token and those of the text after it, where there is one.

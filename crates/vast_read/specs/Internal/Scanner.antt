@@ -7,7 +7,7 @@ use Rattle.vast_literal.specs.LiteralToken.{every}
 use Rattle.vast_literal.proofs.LexemeShapes.{one, sign_goes}
 use Rattle.vast_read.specs.Behind.{Behind}
 use Rattle.vast_read.specs.Lexed.{lex, lex_on, unspelled}
-use Rattle.vast_read.specs.Internal.TokenView.{token_view}
+use Rattle.vast_expressions.specs.Internal.Views.{token_view}
 use Rattle.vast_read.specs.declared.scanner.class.Class.{Class}
 use Rattle.vast_read.specs.declared.scanner.class.Class.TheVariants as class
 use Rattle.vast_read.specs.declared.scanner.front.Front.{Front}

@@ -9,7 +9,9 @@ ghost use Rattle.vast_read.specs.View.{view};
 
 use crate::build::value::{Value, Values, pop_bytes, pop_tree, pop_trees};
 use crate::children::Children;
+use crate::stack::wanted;
 use crate::tree::NormalExpr;
+use crate::tree::words::{key_word, sign_word};
 use std::alloc::{AllocError, Global};
 use vast_expressions::{Event, Told};
 use vast_literal::{Key, Sign};
@@ -23,16 +25,22 @@ fn put<'t>(value: Value<'t>, values: &mut Values<'t>) -> Result<(), AllocError>
     Ok(())
 }
 
+/// One more tree on top.
+fn put_tree(alloc: Global, tree: NormalExpr, values: &mut Values<'_>) -> Result<(), AllocError>
+    ensures { IfOk result (λ _. seen values.new ≡ (Tree (view tree) ∷ seen values.old)) }
+{
+    let tree = Box::new(alloc, tree)?;
+    put(Value::Tree(tree), values)
+}
+
 /// A sign before a tree.
 #[tactic(auto, unfolding(vast_expressions::specs::Internal::Values::grown_one))]
 fn make_unary(alloc: Global, sign: Sign, values: &mut Values<'_>) -> Result<(), AllocError>
     ensures { IfOk result (λ _. Grown (grown_one (Unary sign) (seen values.old)) (seen values.new)) }
 {
-    let Some(operand) = pop_tree(values) else {
-        return Ok(());
-    };
-    let made = NormalExpr::unary(alloc, sign, operand)?;
-    put(Value::Tree(made), values)
+    let operand = wanted!(pop_tree(values));
+    let made = NormalExpr::Unary(sign_word(alloc, sign)?, operand);
+    put_tree(alloc, made, values)
 }
 
 /// A cast by a keyword.
@@ -40,11 +48,9 @@ fn make_unary(alloc: Global, sign: Sign, values: &mut Values<'_>) -> Result<(), 
 fn make_word_cast(alloc: Global, key: Key, values: &mut Values<'_>) -> Result<(), AllocError>
     ensures { IfOk result (λ _. Grown (grown_one (WordCast key) (seen values.old)) (seen values.new)) }
 {
-    let Some(operand) = pop_tree(values) else {
-        return Ok(());
-    };
-    let made = NormalExpr::word_cast(alloc, key, operand)?;
-    put(Value::Tree(made), values)
+    let operand = wanted!(pop_tree(values));
+    let made = NormalExpr::WordCast(key_word(alloc, key)?, operand);
+    put_tree(alloc, made, values)
 }
 
 /// A sign between two trees.
@@ -52,14 +58,10 @@ fn make_word_cast(alloc: Global, key: Key, values: &mut Values<'_>) -> Result<()
 fn make_binary(alloc: Global, sign: Sign, values: &mut Values<'_>) -> Result<(), AllocError>
     ensures { IfOk result (λ _. Grown (grown_two (Binary sign) (seen values.old)) (seen values.new)) }
 {
-    let Some(right) = pop_tree(values) else {
-        return Ok(());
-    };
-    let Some(left) = pop_tree(values) else {
-        return Ok(());
-    };
-    let made = NormalExpr::binary(alloc, sign, left, right)?;
-    put(Value::Tree(made), values)
+    let right = wanted!(pop_tree(values));
+    let left = wanted!(pop_tree(values));
+    let made = NormalExpr::Binary(sign_word(alloc, sign)?, left, right);
+    put_tree(alloc, made, values)
 }
 
 /// An index.
@@ -67,14 +69,9 @@ fn make_binary(alloc: Global, sign: Sign, values: &mut Values<'_>) -> Result<(),
 fn make_index(alloc: Global, values: &mut Values<'_>) -> Result<(), AllocError>
     ensures { IfOk result (λ _. Grown (grown_two Index (seen values.old)) (seen values.new)) }
 {
-    let Some(index) = pop_tree(values) else {
-        return Ok(());
-    };
-    let Some(subject) = pop_tree(values) else {
-        return Ok(());
-    };
-    let made = Box::new(alloc, NormalExpr::Index(subject, index))?;
-    put(Value::Tree(made), values)
+    let index = wanted!(pop_tree(values));
+    let subject = wanted!(pop_tree(values));
+    put_tree(alloc, NormalExpr::Index(subject, index), values)
 }
 
 /// A cast by a tree.
@@ -82,14 +79,9 @@ fn make_index(alloc: Global, values: &mut Values<'_>) -> Result<(), AllocError>
 fn make_cast(alloc: Global, values: &mut Values<'_>) -> Result<(), AllocError>
     ensures { IfOk result (λ _. Grown (grown_two Cast (seen values.old)) (seen values.new)) }
 {
-    let Some(operand) = pop_tree(values) else {
-        return Ok(());
-    };
-    let Some(head) = pop_tree(values) else {
-        return Ok(());
-    };
-    let made = Box::new(alloc, NormalExpr::Cast(head, operand))?;
-    put(Value::Tree(made), values)
+    let operand = wanted!(pop_tree(values));
+    let head = wanted!(pop_tree(values));
+    put_tree(alloc, NormalExpr::Cast(head, operand), values)
 }
 
 /// A part select of this width.
@@ -97,14 +89,10 @@ fn make_cast(alloc: Global, values: &mut Values<'_>) -> Result<(), AllocError>
 fn make_part_select(alloc: Global, width: &str, values: &mut Values<'_>) -> Result<(), AllocError>
     ensures { IfOk result (λ _. Grown (grown_part width.now (seen values.old)) (seen values.new)) }
 {
-    let Some(start) = pop_tree(values) else {
-        return Ok(());
-    };
-    let Some(subject) = pop_tree(values) else {
-        return Ok(());
-    };
-    let made = NormalExpr::part_select(alloc, subject, start, width)?;
-    put(Value::Tree(made), values)
+    let start = wanted!(pop_tree(values));
+    let subject = wanted!(pop_tree(values));
+    let made = NormalExpr::PartSelect(subject, start, Word::new(alloc, width)?);
+    put_tree(alloc, made, values)
 }
 
 /// A choice.
@@ -112,17 +100,10 @@ fn make_part_select(alloc: Global, width: &str, values: &mut Values<'_>) -> Resu
 fn make_ternary(alloc: Global, values: &mut Values<'_>) -> Result<(), AllocError>
     ensures { IfOk result (λ _. Grown (grown_three Ternary (seen values.old)) (seen values.new)) }
 {
-    let Some(second) = pop_tree(values) else {
-        return Ok(());
-    };
-    let Some(first) = pop_tree(values) else {
-        return Ok(());
-    };
-    let Some(condition) = pop_tree(values) else {
-        return Ok(());
-    };
-    let made = Box::new(alloc, NormalExpr::Ternary(condition, first, second))?;
-    put(Value::Tree(made), values)
+    let second = wanted!(pop_tree(values));
+    let first = wanted!(pop_tree(values));
+    let condition = wanted!(pop_tree(values));
+    put_tree(alloc, NormalExpr::Ternary(condition, first, second), values)
 }
 
 /// A slice.
@@ -130,17 +111,10 @@ fn make_ternary(alloc: Global, values: &mut Values<'_>) -> Result<(), AllocError
 fn make_slice(alloc: Global, values: &mut Values<'_>) -> Result<(), AllocError>
     ensures { IfOk result (λ _. Grown (grown_three Slice (seen values.old)) (seen values.new)) }
 {
-    let Some(low) = pop_tree(values) else {
-        return Ok(());
-    };
-    let Some(high) = pop_tree(values) else {
-        return Ok(());
-    };
-    let Some(subject) = pop_tree(values) else {
-        return Ok(());
-    };
-    let made = Box::new(alloc, NormalExpr::Slice(subject, high, low))?;
-    put(Value::Tree(made), values)
+    let low = wanted!(pop_tree(values));
+    let high = wanted!(pop_tree(values));
+    let subject = wanted!(pop_tree(values));
+    put_tree(alloc, NormalExpr::Slice(subject, high, low), values)
 }
 
 /// A concatenation.
@@ -148,11 +122,8 @@ fn make_slice(alloc: Global, values: &mut Values<'_>) -> Result<(), AllocError>
 fn make_concat(alloc: Global, values: &mut Values<'_>) -> Result<(), AllocError>
     ensures { IfOk result (λ _. Grown (grown_list Concat (seen values.old)) (seen values.new)) }
 {
-    let Some(xs) = pop_trees(values) else {
-        return Ok(());
-    };
-    let made = Box::new(alloc, NormalExpr::Concat(xs))?;
-    put(Value::Tree(made), values)
+    let xs = wanted!(pop_trees(values));
+    put_tree(alloc, NormalExpr::Concat(xs), values)
 }
 
 /// An array pattern.
@@ -160,11 +131,8 @@ fn make_concat(alloc: Global, values: &mut Values<'_>) -> Result<(), AllocError>
 fn make_pattern(alloc: Global, values: &mut Values<'_>) -> Result<(), AllocError>
     ensures { IfOk result (λ _. Grown (grown_list Pattern (seen values.old)) (seen values.new)) }
 {
-    let Some(xs) = pop_trees(values) else {
-        return Ok(());
-    };
-    let made = Box::new(alloc, NormalExpr::Pattern(xs))?;
-    put(Value::Tree(made), values)
+    let xs = wanted!(pop_trees(values));
+    put_tree(alloc, NormalExpr::Pattern(xs), values)
 }
 
 /// A replication.
@@ -172,14 +140,9 @@ fn make_pattern(alloc: Global, values: &mut Values<'_>) -> Result<(), AllocError
 fn make_replicated(alloc: Global, values: &mut Values<'_>) -> Result<(), AllocError>
     ensures { IfOk result (λ _. Grown (grown_replicated (seen values.old)) (seen values.new)) }
 {
-    let Some(xs) = pop_trees(values) else {
-        return Ok(());
-    };
-    let Some(count) = pop_tree(values) else {
-        return Ok(());
-    };
-    let made = Box::new(alloc, NormalExpr::Replicated(count, xs))?;
-    put(Value::Tree(made), values)
+    let xs = wanted!(pop_trees(values));
+    let count = wanted!(pop_tree(values));
+    put_tree(alloc, NormalExpr::Replicated(count, xs), values)
 }
 
 /// A call.
@@ -187,15 +150,10 @@ fn make_replicated(alloc: Global, values: &mut Values<'_>) -> Result<(), AllocEr
 fn make_call(alloc: Global, values: &mut Values<'_>) -> Result<(), AllocError>
     ensures { IfOk result (λ _. Grown (grown_named Call (seen values.old)) (seen values.new)) }
 {
-    let Some(xs) = pop_trees(values) else {
-        return Ok(());
-    };
-    let Some(name) = pop_bytes(values) else {
-        return Ok(());
-    };
-    let name = Word::new(alloc, name)?;
-    let made = NormalExpr::call(alloc, name, xs)?;
-    put(Value::Tree(made), values)
+    let xs = wanted!(pop_trees(values));
+    let name = wanted!(pop_bytes(values));
+    let name = Box::new(alloc, Word::new(alloc, name)?)?;
+    put_tree(alloc, NormalExpr::Call(name, xs), values)
 }
 
 /// The use of a macro with arguments.
@@ -203,15 +161,10 @@ fn make_call(alloc: Global, values: &mut Values<'_>) -> Result<(), AllocError>
 fn make_macro_call(alloc: Global, values: &mut Values<'_>) -> Result<(), AllocError>
     ensures { IfOk result (λ _. Grown (grown_named MacroCall (seen values.old)) (seen values.new)) }
 {
-    let Some(xs) = pop_trees(values) else {
-        return Ok(());
-    };
-    let Some(name) = pop_bytes(values) else {
-        return Ok(());
-    };
-    let name = Word::new(alloc, name)?;
-    let made = NormalExpr::macro_call(alloc, name, xs)?;
-    put(Value::Tree(made), values)
+    let xs = wanted!(pop_trees(values));
+    let name = wanted!(pop_bytes(values));
+    let name = Box::new(alloc, Word::new(alloc, name)?)?;
+    put_tree(alloc, NormalExpr::MacroCall(name, xs), values)
 }
 
 /// A cast by a package's type.
@@ -219,19 +172,12 @@ fn make_macro_call(alloc: Global, values: &mut Values<'_>) -> Result<(), AllocEr
 fn make_package_cast(alloc: Global, values: &mut Values<'_>) -> Result<(), AllocError>
     ensures { IfOk result (λ _. Grown (grown_package (seen values.old)) (seen values.new)) }
 {
-    let Some(operand) = pop_tree(values) else {
-        return Ok(());
-    };
-    let Some(name) = pop_bytes(values) else {
-        return Ok(());
-    };
-    let Some(scope) = pop_bytes(values) else {
-        return Ok(());
-    };
-    let scope = Word::new(alloc, scope)?;
-    let name = Word::new(alloc, name)?;
-    let made = NormalExpr::package_cast(alloc, scope, name, operand)?;
-    put(Value::Tree(made), values)
+    let operand = wanted!(pop_tree(values));
+    let name = wanted!(pop_bytes(values));
+    let scope = wanted!(pop_bytes(values));
+    let scope = Box::new(alloc, Word::new(alloc, scope)?)?;
+    let made = NormalExpr::PackageCast(scope, Word::new(alloc, name)?, operand);
+    put_tree(alloc, made, values)
 }
 
 /// A list of one tree.
@@ -239,9 +185,7 @@ fn make_package_cast(alloc: Global, values: &mut Values<'_>) -> Result<(), Alloc
 fn make_first(alloc: Global, values: &mut Values<'_>) -> Result<(), AllocError>
     ensures { IfOk result (λ _. Grown (grown_first (seen values.old)) (seen values.new)) }
 {
-    let Some(x) = pop_tree(values) else {
-        return Ok(());
-    };
+    let x = wanted!(pop_tree(values));
     let mut trees = Children::new(alloc);
     trees.push(Box::into_inner(x))?;
     put(Value::Trees(trees), values)
@@ -252,12 +196,8 @@ fn make_first(alloc: Global, values: &mut Values<'_>) -> Result<(), AllocError>
 fn make_push(values: &mut Values<'_>) -> Result<(), AllocError>
     ensures { IfOk result (λ _. Grown (grown_push (seen values.old)) (seen values.new)) }
 {
-    let Some(x) = pop_tree(values) else {
-        return Ok(());
-    };
-    let Some(xs) = pop_trees(values) else {
-        return Ok(());
-    };
+    let x = wanted!(pop_tree(values));
+    let xs = wanted!(pop_trees(values));
     let mut trees = xs;
     trees.push(Box::into_inner(x))?;
     put(Value::Trees(trees), values)
@@ -287,14 +227,6 @@ fn make(alloc: Global, told: Told, values: &mut Values<'_>) -> Result<(), AllocE
     }
 }
 
-/// A tree of no parts.
-fn put_leaf(alloc: Global, leaf: NormalExpr, values: &mut Values<'_>) -> Result<(), AllocError>
-    ensures { IfOk result (λ _. seen values.new ≡ (Tree (view leaf) ∷ seen values.old)) }
-{
-    let made = Box::new(alloc, leaf)?;
-    put(Value::Tree(made), values)
-}
-
 /// What an event makes.
 pub(crate) fn hear<'t>(
     alloc: Global,
@@ -305,13 +237,13 @@ pub(crate) fn hear<'t>(
         (seen values.new)) }
 {
     match event {
-        Event::Name(text) => put_leaf(alloc, NormalExpr::Name(Word::new(alloc, text)?), values),
+        Event::Name(text) => put_tree(alloc, NormalExpr::Name(Word::new(alloc, text)?), values),
         Event::Literal(text) => {
-            put_leaf(alloc, NormalExpr::Literal(Word::new(alloc, text)?), values)
+            put_tree(alloc, NormalExpr::Literal(Word::new(alloc, text)?), values)
         }
-        Event::Text(text) => put_leaf(alloc, NormalExpr::Text(Word::new(alloc, text)?), values),
+        Event::Text(text) => put_tree(alloc, NormalExpr::Text(Word::new(alloc, text)?), values),
         Event::MacroAlone(text) => {
-            put_leaf(
+            put_tree(
                 alloc,
                 NormalExpr::MacroAlone(Word::new(alloc, text)?),
                 values,

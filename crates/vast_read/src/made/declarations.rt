@@ -11,6 +11,7 @@ use crate::children::Children;
 use crate::made::make::put;
 use crate::made::part::{first, maybe_expression};
 use crate::made::value::{Value, Values};
+use crate::stack::wanted;
 use crate::tree::words::key_word;
 use crate::tree::{DeclaredType, Group, NormalDeclaration, NormalExpr};
 use std::alloc::{AllocError, Global};
@@ -22,14 +23,9 @@ use vast_names::Word;
 pub(crate) fn group_of(values: &mut Values<'_>) -> Result<(), AllocError>
     ensures { IfOk result (λ _. Grown (make action.GroupOf (seen values.old)) values.new) }
 {
-    let Some(first) = first::<Box<NormalExpr>>(values) else {
-        return Ok(());
-    };
-    let Some(second) = maybe_expression(values) else {
-        return Ok(());
-    };
-    values.push(Value::Group(Group { first, second }))?;
-    Ok(())
+    let first = wanted!(first::<Box<NormalExpr>>(values));
+    let second = wanted!(maybe_expression(values));
+    put(Value::Group(Group { first, second }), values)
 }
 
 /// A declaration of its groups, its name and the groups after that; groups alone where no name
@@ -38,9 +34,7 @@ pub(crate) fn group_of(values: &mut Values<'_>) -> Result<(), AllocError>
 pub(crate) fn declares(alloc: Global, values: &mut Values<'_>) -> Result<(), AllocError>
     ensures { IfOk result (λ _. Grown (make action.Declares (seen values.old)) values.new) }
 {
-    let Some(groups) = first::<Children<Group>>(values) else {
-        return Ok(());
-    };
+    let groups = wanted!(first::<Children<Group>>(values));
     match values.pop() {
         None => Ok(()),
         Some(value) => name_behind(alloc, groups, value, values),
@@ -62,9 +56,7 @@ fn name_behind<'t>(
     match value {
         Value::Nothing => put(Value::Groups(groups), values),
         Value::Name(name) => {
-            let Some(after) = first::<Children<Group>>(values) else {
-                return Ok(());
-            };
+            let after = wanted!(first::<Children<Group>>(values));
             let made = NormalDeclaration::plain(alloc, groups.reversed(), name, after.reversed())?;
             put(Value::Declaration(made), values)
         }
@@ -94,9 +86,7 @@ fn typed_parts(typed: Option<Box<DeclaredType>>) -> DeclaredType
 pub(crate) fn name_before(alloc: Global, values: &mut Values<'_>) -> Result<(), AllocError>
     ensures { IfOk result (λ _. Grown (make action.NameBefore (seen values.old)) values.new) }
 {
-    let Some(name) = first::<&str>(values) else {
-        return Ok(());
-    };
+    let name = wanted!(first::<&str>(values));
     match values.pop() {
         None => Ok(()),
         Some(value) => named(alloc, name, value, values),
@@ -153,14 +143,11 @@ fn name_type(
 pub(crate) fn packaged(alloc: Global, values: &mut Values<'_>) -> Result<(), AllocError>
     ensures { IfOk result (λ _. Grown (make action.Packaged (seen values.old)) values.new) }
 {
-    let Some(mut declared) = first::<NormalDeclaration>(values) else {
-        return Ok(());
-    };
+    let mut declared = wanted!(first::<NormalDeclaration>(values));
     let mut typed = typed_parts(declared.typed);
     typed.package = Some(Word::new(alloc, "")?);
     declared.typed = Some(Box::new(alloc, typed)?);
-    values.push(Value::Declaration(declared))?;
-    Ok(())
+    put(Value::Declaration(declared), values)
 }
 
 /// The declaration that follows, of that sign.
@@ -168,14 +155,11 @@ pub(crate) fn packaged(alloc: Global, values: &mut Values<'_>) -> Result<(), All
 pub(crate) fn sign_of(alloc: Global, key: Key, values: &mut Values<'_>) -> Result<(), AllocError>
     ensures { IfOk result (λ _. Grown (make (action.SignOf key) (seen values.old)) values.new) }
 {
-    let Some(mut declared) = first::<NormalDeclaration>(values) else {
-        return Ok(());
-    };
+    let mut declared = wanted!(first::<NormalDeclaration>(values));
     let mut typed = typed_parts(declared.typed);
     typed.sign = Some(key_word(alloc, key)?);
     declared.typed = Some(Box::new(alloc, typed)?);
-    values.push(Value::Declaration(declared))?;
-    Ok(())
+    put(Value::Declaration(declared), values)
 }
 
 /// The declaration that follows, of that kind.
@@ -183,10 +167,7 @@ pub(crate) fn sign_of(alloc: Global, key: Key, values: &mut Values<'_>) -> Resul
 pub(crate) fn kind_of(alloc: Global, key: Key, values: &mut Values<'_>) -> Result<(), AllocError>
     ensures { IfOk result (λ _. Grown (make (action.KindOf key) (seen values.old)) values.new) }
 {
-    let Some(mut declared) = first::<NormalDeclaration>(values) else {
-        return Ok(());
-    };
+    let mut declared = wanted!(first::<NormalDeclaration>(values));
     declared.kind = Some(key_word(alloc, key)?);
-    values.push(Value::Declaration(declared))?;
-    Ok(())
+    put(Value::Declaration(declared), values)
 }

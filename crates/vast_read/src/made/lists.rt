@@ -6,8 +6,10 @@ ghost use Rattle.vast_rows.specs.Built.{make_more, make_none};
 ghost use Rattle.vast_rows.specs.declared.action.Listed.TheVariants as listed;
 
 use crate::children::Children;
+use crate::made::make::put;
 use crate::made::part::first;
 use crate::made::value::{Value, Values};
+use crate::stack::wanted;
 use crate::tree::{
     Connection, Event, Group, NormalDeclaration, NormalExpr, NormalItem, NormalMember,
     NormalStatement, Parameter, Port,
@@ -57,148 +59,98 @@ pub(crate) fn one_more(what: Listed, values: &mut Values<'_>) -> Result<(), Allo
 fn one_more_item(values: &mut Values<'_>) -> Result<(), AllocError>
     ensures { IfOk result (λ _. Grown (make_more listed.Item (seen values.old)) values.new) }
 {
-    let Some(item) = first::<NormalItem>(values) else {
-        return Ok(());
-    };
-    let Some(mut list) = first::<Children<NormalItem>>(values) else {
-        return Ok(());
-    };
+    let item = wanted!(first::<NormalItem>(values));
+    let mut list = wanted!(first::<Children<NormalItem>>(values));
     list.push(item)?;
-    values.push(Value::Items(list))?;
-    Ok(())
+    put(Value::Items(list), values)
 }
 
 #[tactic(auto, using(crate::proofs::Making::lists), unfolding(vast_rows::specs::Built::make_more, vast_rows::specs::Built::of_one, vast_rows::specs::Built::of_two))]
 fn one_more_parameter(values: &mut Values<'_>) -> Result<(), AllocError>
     ensures { IfOk result (λ _. Grown (make_more listed.Parameter (seen values.old)) values.new) }
 {
-    let Some(parameter) = first::<Parameter>(values) else {
-        return Ok(());
-    };
-    let Some(mut list) = first::<Children<Parameter>>(values) else {
-        return Ok(());
-    };
+    let parameter = wanted!(first::<Parameter>(values));
+    let mut list = wanted!(first::<Children<Parameter>>(values));
     list.push(parameter)?;
-    values.push(Value::Parameters(list))?;
-    Ok(())
+    put(Value::Parameters(list), values)
 }
 
 #[tactic(auto, using(crate::proofs::Making::lists), unfolding(vast_rows::specs::Built::make_more, vast_rows::specs::Built::of_one, vast_rows::specs::Built::of_two))]
 fn one_more_port(values: &mut Values<'_>) -> Result<(), AllocError>
     ensures { IfOk result (λ _. Grown (make_more listed.Port (seen values.old)) values.new) }
 {
-    let Some(port) = first::<Port>(values) else {
-        return Ok(());
-    };
-    let Some(mut list) = first::<Children<Port>>(values) else {
-        return Ok(());
-    };
+    let port = wanted!(first::<Port>(values));
+    let mut list = wanted!(first::<Children<Port>>(values));
     list.push(port)?;
-    values.push(Value::Ports(list))?;
-    Ok(())
+    put(Value::Ports(list), values)
 }
 
 #[tactic(auto, using(crate::proofs::Making::lists), unfolding(vast_rows::specs::Built::make_more, vast_rows::specs::Built::of_one, vast_rows::specs::Built::of_two))]
 fn one_more_member(values: &mut Values<'_>) -> Result<(), AllocError>
     ensures { IfOk result (λ _. Grown (make_more listed.Member (seen values.old)) values.new) }
 {
-    let Some(member) = first::<NormalMember>(values) else {
-        return Ok(());
-    };
-    let Some(mut list) = first::<Children<NormalMember>>(values) else {
-        return Ok(());
-    };
+    let member = wanted!(first::<NormalMember>(values));
+    let mut list = wanted!(first::<Children<NormalMember>>(values));
     list.push(member)?;
-    values.push(Value::Members(list))?;
-    Ok(())
+    put(Value::Members(list), values)
 }
 
 #[tactic(auto, using(crate::proofs::Making::lists), unfolding(vast_rows::specs::Built::make_more, vast_rows::specs::Built::of_one, vast_rows::specs::Built::of_two))]
 fn one_more_group(values: &mut Values<'_>) -> Result<(), AllocError>
     ensures { IfOk result (λ _. Grown (make_more listed.Group (seen values.old)) values.new) }
 {
-    let Some(group) = first::<Group>(values) else {
-        return Ok(());
-    };
-    let Some(mut list) = first::<Children<Group>>(values) else {
-        return Ok(());
-    };
+    let group = wanted!(first::<Group>(values));
+    let mut list = wanted!(first::<Children<Group>>(values));
     list.push(group)?;
-    values.push(Value::Groups(list))?;
-    Ok(())
+    put(Value::Groups(list), values)
 }
 
 #[tactic(auto, using(crate::proofs::Making::lists), unfolding(vast_rows::specs::Built::make_more, vast_rows::specs::Built::of_one, vast_rows::specs::Built::of_two))]
 fn one_more_declaration(values: &mut Values<'_>) -> Result<(), AllocError>
     ensures { IfOk result (λ _. Grown (make_more listed.Declaration (seen values.old)) values.new) }
 {
-    let Some(declared) = first::<NormalDeclaration>(values) else {
-        return Ok(());
-    };
-    let Some(mut list) = first::<Children<NormalDeclaration>>(values) else {
-        return Ok(());
-    };
+    let declared = wanted!(first::<NormalDeclaration>(values));
+    let mut list = wanted!(first::<Children<NormalDeclaration>>(values));
     list.push(declared)?;
-    values.push(Value::Declarations(list))?;
-    Ok(())
+    put(Value::Declarations(list), values)
 }
 
 #[tactic(auto, using(crate::proofs::Making::lists), unfolding(vast_rows::specs::Built::make_more, vast_rows::specs::Built::of_one, vast_rows::specs::Built::of_two))]
 fn one_more_connection(values: &mut Values<'_>) -> Result<(), AllocError>
     ensures { IfOk result (λ _. Grown (make_more listed.Connection (seen values.old)) values.new) }
 {
-    let Some(connection) = first::<Connection>(values) else {
-        return Ok(());
-    };
-    let Some(mut list) = first::<Children<Connection>>(values) else {
-        return Ok(());
-    };
+    let connection = wanted!(first::<Connection>(values));
+    let mut list = wanted!(first::<Children<Connection>>(values));
     list.push(connection)?;
-    values.push(Value::Connections(list))?;
-    Ok(())
+    put(Value::Connections(list), values)
 }
 
 #[tactic(auto, using(crate::proofs::Making::lists), unfolding(vast_rows::specs::Built::make_more, vast_rows::specs::Built::of_one, vast_rows::specs::Built::of_two))]
 fn one_more_event(values: &mut Values<'_>) -> Result<(), AllocError>
     ensures { IfOk result (λ _. Grown (make_more listed.Event (seen values.old)) values.new) }
 {
-    let Some(event) = first::<Event>(values) else {
-        return Ok(());
-    };
-    let Some(mut list) = first::<Children<Event>>(values) else {
-        return Ok(());
-    };
+    let event = wanted!(first::<Event>(values));
+    let mut list = wanted!(first::<Children<Event>>(values));
     list.push(event)?;
-    values.push(Value::Events(list))?;
-    Ok(())
+    put(Value::Events(list), values)
 }
 
 #[tactic(auto, using(crate::proofs::Making::lists), unfolding(vast_rows::specs::Built::make_more, vast_rows::specs::Built::of_one, vast_rows::specs::Built::of_two))]
 fn one_more_statement(values: &mut Values<'_>) -> Result<(), AllocError>
     ensures { IfOk result (λ _. Grown (make_more listed.Statement (seen values.old)) values.new) }
 {
-    let Some(statement) = first::<NormalStatement>(values) else {
-        return Ok(());
-    };
-    let Some(mut list) = first::<Children<NormalStatement>>(values) else {
-        return Ok(());
-    };
+    let statement = wanted!(first::<NormalStatement>(values));
+    let mut list = wanted!(first::<Children<NormalStatement>>(values));
     list.push(statement)?;
-    values.push(Value::Statements(list))?;
-    Ok(())
+    put(Value::Statements(list), values)
 }
 
 #[tactic(auto, using(crate::proofs::Making::lists), unfolding(vast_rows::specs::Built::make_more, vast_rows::specs::Built::of_one, vast_rows::specs::Built::of_two))]
 fn one_more_expression(values: &mut Values<'_>) -> Result<(), AllocError>
     ensures { IfOk result (λ _. Grown (make_more listed.Expression (seen values.old)) values.new) }
 {
-    let Some(part) = first::<Box<NormalExpr>>(values) else {
-        return Ok(());
-    };
-    let Some(mut list) = first::<Children<NormalExpr>>(values) else {
-        return Ok(());
-    };
+    let part = wanted!(first::<Box<NormalExpr>>(values));
+    let mut list = wanted!(first::<Children<NormalExpr>>(values));
     list.push(Box::into_inner(part))?;
-    values.push(Value::Expressions(list))?;
-    Ok(())
+    put(Value::Expressions(list), values)
 }

@@ -12,6 +12,7 @@ use crate::children::Children;
 use crate::made::make::put;
 use crate::made::part::first;
 use crate::made::value::{Alternatives, Value, Values};
+use crate::stack::wanted;
 use crate::tree::words::key_word;
 use crate::tree::{Arm, CaseArm, NormalExpr, NormalStatement};
 use std::alloc::{AllocError, Global};
@@ -22,22 +23,15 @@ use vast_literal::Key;
 pub(crate) fn assigns(values: &mut Values<'_>) -> Result<(), AllocError>
     ensures { IfOk result (λ _. Grown (make action.Assigns (seen values.old)) values.new) }
 {
-    let Some(left) = first::<Box<NormalExpr>>(values) else {
-        return Ok(());
-    };
-    let Some(blocks) = first::<bool>(values) else {
-        return Ok(());
-    };
-    let Some(right) = first::<Box<NormalExpr>>(values) else {
-        return Ok(());
-    };
+    let left = wanted!(first::<Box<NormalExpr>>(values));
+    let blocks = wanted!(first::<bool>(values));
+    let right = wanted!(first::<Box<NormalExpr>>(values));
     let made = if blocks {
         NormalStatement::Blocking(left, right)
     } else {
         NormalStatement::Nonblocking(left, right)
     };
-    values.push(Value::Statement(made))?;
-    Ok(())
+    put(Value::Statement(made), values)
 }
 
 /// An assignment by its word, of its sides.
@@ -45,14 +39,12 @@ pub(crate) fn assigns(values: &mut Values<'_>) -> Result<(), AllocError>
 pub(crate) fn assigns_by_word(values: &mut Values<'_>) -> Result<(), AllocError>
     ensures { IfOk result (λ _. Grown (make action.AssignsByWord (seen values.old)) values.new) }
 {
-    let Some(left) = first::<Box<NormalExpr>>(values) else {
-        return Ok(());
-    };
-    let Some(right) = first::<Box<NormalExpr>>(values) else {
-        return Ok(());
-    };
-    values.push(Value::Statement(NormalStatement::Assign(left, right)))?;
-    Ok(())
+    let left = wanted!(first::<Box<NormalExpr>>(values));
+    let right = wanted!(first::<Box<NormalExpr>>(values));
+    put(
+        Value::Statement(NormalStatement::Assign(left, right)),
+        values,
+    )
 }
 
 impl Alternatives {
@@ -80,12 +72,12 @@ impl Alternatives {
 pub(crate) fn chooses(values: &mut Values<'_>) -> Result<(), AllocError>
     ensures { IfOk result (λ _. Grown (make action.Chooses (seen values.old)) values.new) }
 {
-    let Some(alternatives) = first::<Alternatives>(values) else {
-        return Ok(());
-    };
+    let alternatives = wanted!(first::<Alternatives>(values));
     let (arms, last) = alternatives.in_order()?;
-    values.push(Value::Statement(NormalStatement::Choice(arms, last)))?;
-    Ok(())
+    put(
+        Value::Statement(NormalStatement::Choice(arms, last)),
+        values,
+    )
 }
 
 /// The case that follows, which is unique.
@@ -93,11 +85,8 @@ pub(crate) fn chooses(values: &mut Values<'_>) -> Result<(), AllocError>
 pub(crate) fn unique_case(values: &mut Values<'_>) -> Result<(), AllocError>
     ensures { IfOk result (λ _. Grown (make action.UniqueCase (seen values.old)) values.new) }
 {
-    let Some(statement) = first::<NormalStatement>(values) else {
-        return Ok(());
-    };
-    values.push(Value::Statement(statement.into_unique()))?;
-    Ok(())
+    let statement = wanted!(first::<NormalStatement>(values));
+    put(Value::Statement(statement.into_unique()), values)
 }
 
 /// A case by that word, of its selector and arms.
@@ -105,15 +94,10 @@ pub(crate) fn unique_case(values: &mut Values<'_>) -> Result<(), AllocError>
 pub(crate) fn case_of(alloc: Global, key: Key, values: &mut Values<'_>) -> Result<(), AllocError>
     ensures { IfOk result (λ _. Grown (make (action.CaseOf key) (seen values.old)) values.new) }
 {
-    let Some(selector) = first::<Box<NormalExpr>>(values) else {
-        return Ok(());
-    };
-    let Some(arms) = first::<Children<CaseArm>>(values) else {
-        return Ok(());
-    };
+    let selector = wanted!(first::<Box<NormalExpr>>(values));
+    let arms = wanted!(first::<Children<CaseArm>>(values));
     let made = NormalStatement::Case(false, key_word(alloc, key)?, selector, arms.reversed());
-    values.push(Value::Statement(made))?;
-    Ok(())
+    put(Value::Statement(made), values)
 }
 
 /// The arms of a conditional, of its condition, its block and what follows that.
@@ -121,12 +105,8 @@ pub(crate) fn case_of(alloc: Global, key: Key, values: &mut Values<'_>) -> Resul
 pub(crate) fn conditional(alloc: Global, values: &mut Values<'_>) -> Result<(), AllocError>
     ensures { IfOk result (λ _. Grown (make action.Conditional (seen values.old)) values.new) }
 {
-    let Some(condition) = first::<Box<NormalExpr>>(values) else {
-        return Ok(());
-    };
-    let Some(block) = first::<Children<NormalStatement>>(values) else {
-        return Ok(());
-    };
+    let condition = wanted!(first::<Box<NormalExpr>>(values));
+    let block = wanted!(first::<Children<NormalStatement>>(values));
     let arm = Arm {
         condition,
         block: block.reversed(),
@@ -179,18 +159,14 @@ fn alternated<'t>(
 pub(crate) fn arm(values: &mut Values<'_>) -> Result<(), AllocError>
     ensures { IfOk result (λ _. Grown (make action.Arm (seen values.old)) values.new) }
 {
-    let Some(label) = first::<Box<NormalExpr>>(values) else {
-        return Ok(());
-    };
-    let Some(block) = first::<Children<NormalStatement>>(values) else {
-        return Ok(());
-    };
-    let Some(mut arms) = first::<Children<CaseArm>>(values) else {
-        return Ok(());
-    };
-    arms.push(CaseArm::new(Some(label), block.reversed()))?;
-    values.push(Value::Labels(arms))?;
-    Ok(())
+    let label = wanted!(first::<Box<NormalExpr>>(values));
+    let block = wanted!(first::<Children<NormalStatement>>(values));
+    let mut arms = wanted!(first::<Children<CaseArm>>(values));
+    arms.push(CaseArm {
+        label: Some(label),
+        block: block.reversed(),
+    })?;
+    put(Value::Labels(arms), values)
 }
 
 /// An arm of a case without a label, before others.
@@ -198,13 +174,11 @@ pub(crate) fn arm(values: &mut Values<'_>) -> Result<(), AllocError>
 pub(crate) fn default_arm(values: &mut Values<'_>) -> Result<(), AllocError>
     ensures { IfOk result (λ _. Grown (make action.DefaultArm (seen values.old)) values.new) }
 {
-    let Some(block) = first::<Children<NormalStatement>>(values) else {
-        return Ok(());
-    };
-    let Some(mut arms) = first::<Children<CaseArm>>(values) else {
-        return Ok(());
-    };
-    arms.push(CaseArm::new(None, block.reversed()))?;
-    values.push(Value::Labels(arms))?;
-    Ok(())
+    let block = wanted!(first::<Children<NormalStatement>>(values));
+    let mut arms = wanted!(first::<Children<CaseArm>>(values));
+    arms.push(CaseArm {
+        label: None,
+        block: block.reversed(),
+    })?;
+    put(Value::Labels(arms), values)
 }

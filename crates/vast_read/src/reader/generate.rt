@@ -10,8 +10,8 @@ ghost use Rattle.vast_rows.specs.declared.grammar.Phrase.TheVariants.{LoopHead};
 use crate::build::Build;
 use crate::phrase::Made;
 use crate::reader::Reader;
-use crate::token::Token;
 use std::alloc::AllocError;
+use vast_expressions::Token;
 use vast_literal::{Key, Mark, Sign};
 
 impl<'t> Reader<'t> {

@@ -1,6 +1,6 @@
 //! What stands at the front of a text.
 
-use crate::token::Token;
+use vast_expressions::Token;
 
 /// What stands at the front of a text, and what follows it.
 #[derive(Clone, Copy)]

@@ -2,12 +2,12 @@
 
 ghost use Rattle.std.specs.Prelude.{◌≡◌, ◌<◌, [], None, get_or, map};
 ghost use Rattle.vast_literal.specs.Keyword.{keywords};
+ghost use Rattle.vast_expressions.specs.Internal.Views.{token_view};
 ghost use Rattle.vast_literal.specs.Tokens.{key_written, reserved_keys, word_token};
-ghost use Rattle.vast_read.specs.Internal.TokenView.{token_view};
 ghost use Rattle.vast_read.specs.Internal.KeywordSlots.{slot_of};
 
 use crate::scanner::run::byte_at;
-use crate::token::Token;
+use vast_expressions::Token;
 use vast_literal::{Key, system_verilog_keys, system_verilog_keywords};
 
 /// The place in the table of keywords of the keyword of a slot, of which each keyword has one of its own; 0 where none has it.

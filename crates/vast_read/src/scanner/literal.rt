@@ -8,7 +8,7 @@ ghost use Rattle.vast_read.specs.Internal.Scanner.{byte_at, Fronts, opens_based,
 use crate::scanner::class::{Class, is_based_digit, is_filler, is_radix, opens_mark};
 use crate::scanner::front::Front;
 use crate::scanner::run::{byte_at, run_end};
-use crate::token::Token;
+use vast_expressions::Token;
 use vast_literal::Mark;
 
 /// Whether a based literal goes on at a place: an apostrophe, and after it a radix or a sign.

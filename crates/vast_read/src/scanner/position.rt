@@ -1,6 +1,6 @@
 //! Places of a text between its tokens.
 
-use crate::token::Token;
+use vast_expressions::Token;
 
 /// The token that stands next in a text, and what is after it.
 #[derive(Clone, Copy)]

@@ -1,17 +1,17 @@
 //! Operators and marks.
 
-ghost use Rattle.std.specs.Prelude.{◌≡◌, ◌<◌, true, cond, eqb, [], ◌∷◌, Some, None, option_map, IfSome};
-ghost use Rattle.vast_literal.specs.Scan.{InComment, Pending, keep, give, whole_signs, find_sign, start_sign, grown};
+ghost use Rattle.std.specs.Prelude.{◌≡◌, ◌<◌, true, cond, eqb, Some, None, option_map, IfSome};
+ghost use Rattle.vast_literal.specs.Scan.{InComment, Pending, keep, whole_signs, find_sign, start_sign, grown};
 ghost use Rattle.vast_literal.specs.Tokens.{Operator};
-ghost use Rattle.vast_literal.specs.declared.token.Sign.TheVariants.{Greater, Less, Plus, Divide};
+ghost use Rattle.vast_literal.specs.declared.token.Sign.TheVariants.{Divide};
 ghost use Rattle.vast_literal.specs.Tokens as spec;
-ghost use Rattle.vast_read.specs.Internal.TokenView.{token_view};
+ghost use Rattle.vast_expressions.specs.Internal.Views.{token_view};
 ghost use Rattle.vast_read.specs.Internal.Scanner.{byte_at, Fronts, IsGap, growth_step, growth_or_fail, starts_sign, Reaches};
 
 use crate::scanner::class::Class;
 use crate::scanner::front::Front;
 use crate::scanner::run::{byte_at, run_end};
-use crate::token::Token;
+use vast_expressions::Token;
 use vast_literal::{Mark, Sign};
 
 /// What a further byte makes of a sign.
@@ -61,80 +61,14 @@ fn first_sign<'t>(byte: u8) -> Option<Growth<'t>>
     }
 }
 
-/// An operator that one byte, and it alone, makes longer, and none makes longer again.
-fn closed_by<'t>(wanted: u8, longer: Sign, byte: u8) -> Option<Growth<'t>>
+/// What one byte, and it alone, makes of a sign.
+fn longer_by<'t>(wanted: u8, longer: Growth<'t>, byte: u8) -> Option<Growth<'t>>
     requires { (32 < wanted) × (wanted < 128) }
     ensures growth { option_map growth_step result
-        ≡ cond (eqb byte wanted) (Some (give (Operator longer ∷ []))) None }
+        ≡ cond (eqb byte wanted) (Some (growth_step longer.entry)) None }
     ensures byte { IfSome result (λ _. (32 < byte) × (byte < 128)) }
 {
-    if byte == wanted {
-        Some(Growth::Closed(Token::Operator(longer)))
-    } else {
-        None
-    }
-}
-
-/// An operator that one byte, and it alone, makes longer.
-fn open_by<'t>(wanted: u8, longer: Sign, byte: u8) -> Option<Growth<'t>>
-    requires { (32 < wanted) × (wanted < 128) }
-    ensures growth { option_map growth_step result
-        ≡ cond (eqb byte wanted) (Some (keep (Pending (Operator longer)))) None }
-    ensures byte { IfSome result (λ _. (32 < byte) × (byte < 128)) }
-{
-    if byte == wanted {
-        Some(Growth::Open(Token::Operator(longer)))
-    } else {
-        None
-    }
-}
-
-/// What a byte makes of `>`.
-fn grown_greater<'t>(byte: u8) -> Option<Growth<'t>>
-    ensures growth { option_map growth_step result ≡ grown (Operator Greater) byte }
-    ensures byte { IfSome result (λ _. (32 < byte) × (byte < 128)) }
-{
-    if byte == b'=' {
-        Some(Growth::Closed(Token::Operator(Sign::GreaterEqual)))
-    } else {
-        open_by(b'>', Sign::ShiftRight, byte)
-    }
-}
-
-/// What a byte makes of `<`.
-fn grown_less<'t>(byte: u8) -> Option<Growth<'t>>
-    ensures growth { option_map growth_step result ≡ grown (Operator Less) byte }
-    ensures byte { IfSome result (λ _. (32 < byte) × (byte < 128)) }
-{
-    if byte == b'=' {
-        Some(Growth::Closed(Token::Operator(Sign::LessEqual)))
-    } else {
-        closed_by(b'<', Sign::ShiftLeft, byte)
-    }
-}
-
-/// What a byte makes of `+`.
-fn grown_plus<'t>(byte: u8) -> Option<Growth<'t>>
-    ensures growth { option_map growth_step result ≡ grown (Operator Plus) byte }
-    ensures byte { IfSome result (λ _. (32 < byte) × (byte < 128)) }
-{
-    if byte == b':' {
-        Some(Growth::Closed(Token::Mark(Mark::PlusColon)))
-    } else {
-        None
-    }
-}
-
-/// What a byte makes of `/`.
-fn grown_slash<'t>(byte: u8) -> Option<Growth<'t>>
-    ensures growth { option_map growth_step result ≡ grown (Operator Divide) byte }
-    ensures byte { IfSome result (λ _. (32 < byte) × (byte < 128)) }
-{
-    if byte == b'/' {
-        Some(Growth::Comment)
-    } else {
-        None
-    }
+    if byte == wanted { Some(longer) } else { None }
 }
 
 /// What a byte makes of an operator.
@@ -143,17 +77,39 @@ fn grown_operator<'t>(sign: Sign, byte: u8) -> Option<Growth<'t>>
     ensures byte { IfSome result (λ _. (32 < byte) × (byte < 128)) }
 {
     match sign {
-        Sign::BitOr => closed_by(b'|', Sign::LogicOr, byte),
-        Sign::BitAnd => closed_by(b'&', Sign::LogicAnd, byte),
-        Sign::NotEqual => closed_by(b'=', Sign::CaseNotEqual, byte),
-        Sign::Equal => closed_by(b'=', Sign::CaseEqual, byte),
-        Sign::Greater => grown_greater(byte),
-        Sign::Less => grown_less(byte),
-        Sign::ShiftRight => closed_by(b'>', Sign::ShiftRightSigned, byte),
-        Sign::Plus => grown_plus(byte),
-        Sign::Times => closed_by(b'*', Sign::Power, byte),
-        Sign::Divide => grown_slash(byte),
-        Sign::LogicNot => open_by(b'=', Sign::NotEqual, byte),
+        Sign::BitOr => longer_by(b'|', Growth::Closed(Token::Operator(Sign::LogicOr)), byte),
+        Sign::BitAnd => longer_by(b'&', Growth::Closed(Token::Operator(Sign::LogicAnd)), byte),
+        Sign::NotEqual => longer_by(
+            b'=',
+            Growth::Closed(Token::Operator(Sign::CaseNotEqual)),
+            byte,
+        ),
+        Sign::Equal => longer_by(b'=', Growth::Closed(Token::Operator(Sign::CaseEqual)), byte),
+        Sign::Greater => {
+            if byte == b'=' {
+                Some(Growth::Closed(Token::Operator(Sign::GreaterEqual)))
+            } else {
+                longer_by(b'>', Growth::Open(Token::Operator(Sign::ShiftRight)), byte)
+            }
+        }
+        Sign::Less => {
+            if byte == b'=' {
+                Some(Growth::Closed(Token::Operator(Sign::LessEqual)))
+            } else {
+                longer_by(b'<', Growth::Closed(Token::Operator(Sign::ShiftLeft)), byte)
+            }
+        }
+        Sign::ShiftRight => {
+            longer_by(
+                b'>',
+                Growth::Closed(Token::Operator(Sign::ShiftRightSigned)),
+                byte,
+            )
+        }
+        Sign::Plus => longer_by(b':', Growth::Closed(Token::Mark(Mark::PlusColon)), byte),
+        Sign::Times => longer_by(b'*', Growth::Closed(Token::Operator(Sign::Power)), byte),
+        Sign::Divide => longer_by(b'/', Growth::Comment, byte),
+        Sign::LogicNot => longer_by(b'=', Growth::Open(Token::Operator(Sign::NotEqual)), byte),
         _ => None,
     }
 }
@@ -164,16 +120,8 @@ fn grown_mark<'t>(mark: Mark, byte: u8) -> Option<Growth<'t>>
     ensures byte { IfSome result (λ _. (32 < byte) × (byte < 128)) }
 {
     match mark {
-        Mark::Colon => if byte == b':' {
-            Some(Growth::Closed(Token::Mark(Mark::DoubleColon)))
-        } else {
-            None
-        },
-        Mark::Assign => if byte == b'=' {
-            Some(Growth::Open(Token::Operator(Sign::Equal)))
-        } else {
-            None
-        },
+        Mark::Colon => longer_by(b':', Growth::Closed(Token::Mark(Mark::DoubleColon)), byte),
+        Mark::Assign => longer_by(b'=', Growth::Open(Token::Operator(Sign::Equal)), byte),
         _ => None,
     }
 }

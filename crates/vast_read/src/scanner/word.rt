@@ -8,7 +8,7 @@ use crate::scanner::class::{Class, is_letter};
 use crate::scanner::front::Front;
 use crate::scanner::keyword::word_token;
 use crate::scanner::run::{byte_at, run_end};
-use crate::token::Token;
+use vast_expressions::Token;
 
 /// A word, at a letter.
 pub(crate) fn word<'t>(text: &'t str) -> Front<'t>

@@ -94,6 +94,8 @@ fn same_texts(texts: &[&str], others: &[&str]) -> bool
 #[derive(Drop)]
 pub(crate) struct Followed<'a, 't> {
     pub(crate) left: Option<Piece<'a, 't>>,
+    /// How many pieces the text told as the other did.
+    pub(crate) count: usize,
 }
 
 impl<'a, 't> Followed<'a, 't> {
@@ -117,5 +119,8 @@ impl<'a, 't> Followed<'a, 't> {
             None => None,
             Some(left) => left.after(piece),
         };
+        if self.left.is_some() {
+            self.count = self.count.saturating_add(1);
+        }
     }
 }

@@ -1,11 +1,9 @@
 //! Statements of procedural blocks.
 
-ghost use Rattle.std.specs.Prelude.{◌≡◌, ◌<◌, ◌≤◌, ◌+◌, ⊤, MatchOption, map, option_map};
+ghost use Rattle.std.specs.Prelude.{◌≡◌, ◌<◌, ◌≤◌, ◌+◌, ⊤, MatchOption, map};
 ghost use Rattle.vast_read.specs.Internal.StatementRelease.{of_block, statement_rounds, arm_rounds, label_rounds, statement_left, statement_alone, statement_beside, block_alone, block_beside, choice_alone};
-ghost use Rattle.vast_read.specs.StatementView.{block_view, statement_view};
+ghost use Rattle.vast_read.specs.StatementView.{statement_view};
 ghost use Rattle.vast_rows.specs.Built.{unique_case};
-ghost use Rattle.vast_read.specs.Internal.StatementView.{label_view};
-ghost use Rattle.vast_read.specs.View.{view};
 
 use crate::children::Children;
 use crate::tree::expression::NormalExpr;
@@ -200,18 +198,5 @@ impl CaseArm {
     {
         let CaseArm { label: _, block } = self;
         block
-    }
-
-    /// An arm, of a label or the default.
-    pub(crate) fn new(label: Option<Box<NormalExpr>>, block: Children<NormalStatement>) -> CaseArm
-        ensures { label_view result ≡ (option_map (λ x. view x.value) label, block_view block) }
-    {
-        match label {
-            None => CaseArm { label: None, block },
-            Some(label) => CaseArm {
-                label: Some(label),
-                block,
-            },
-        }
     }
 }

@@ -1,6 +1,6 @@
 use Rattle.std.proofs.Common.{drop, map}
 use Rattle.vast_read.proofs.Leading.{Leading}
-use Rattle.vast_read.specs.Internal.TokenView.{token_view}
+use Rattle.vast_expressions.specs.Internal.Views.{token_view}
 use Rattle.vast_read.proofs.reader.Reader.eat_all.Given as goal
 
 abbrev pub invariant-loop-token : goal.invariant-loop-token

@@ -1,6 +1,6 @@
 use Rattle.std.proofs.Common.{◌≡◌, ◌<◌, get_or, [], ◌∷◌, Some, None, sym, ap, ◌∙◌, subst, arith}
 use Rattle.vast_literal.specs.Scan.{keep, give, Pending, grown}
-use Rattle.vast_read.specs.Internal.TokenView.{token_view}
+use Rattle.vast_expressions.specs.Internal.Views.{token_view}
 use Rattle.vast_read.specs.Internal.Scanner.{growth_step, Reaches}
 use Rattle.vast_read.proofs.scanner.Strings.{other_within}
 use Rattle.vast_read.proofs.scanner.Signs.{grown_reaches, sign_ends, sign_behind, closed_behind}

@@ -1,6 +1,6 @@
 use Rattle.std.proofs.Common.{Some, Bool, ap, ◌∙◌}
 use Rattle.vast_read.proofs.FilesCompared.{old_fileless, new_fileless, same_found, different_found}
-use Rattle.vast_read.proofs.same.are_same.Goals as goal
+use Rattle.vast_read.proofs.same.compared.Goals as goal
 
 pub returns-in_default : goal.returns-in_default
 returns-in_default c = old_fileless c.args.old.now c.in_ok-told.field-0 c.in_ok-told.ensures c.in_default.is
