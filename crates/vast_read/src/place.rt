@@ -66,7 +66,7 @@ pub fn longest_front(alloc: Global, text: &str) -> Result<Front, AllocError>
 /// The place in a text of the tokens that are left of it.
 fn place_of_left(alloc: Global, text: &str, left: Reader<'_>) -> usize
     requires { IsLeftOf text.now left }
-    ensures left { lex Gap (drop result text.now) ≡ left }
+    ensures left { lex Gap (drop result text.now) ≡ left.entry }
     ensures boundary { IsCharBoundary text.now result }
 {
     let mut ahead = tokens_before(alloc, text, left);
@@ -81,7 +81,7 @@ fn place_of_left(alloc: Global, text: &str, left: Reader<'_>) -> usize
 /// As many tokens of a text as stand before those that are left of it.
 fn tokens_before<'t>(alloc: Global, text: &'t str, left: Reader<'_>) -> Reader<'t>
     requires { IsLeftOf text.now left }
-    ensures { length (lex Gap text.now) ≡ length result + length left }
+    ensures { length (lex Gap text.now) ≡ length result + length left.entry }
 {
     let mut ahead = Reader::new(alloc, text);
     let mut rest = left;
