@@ -1,5 +1,5 @@
 -- The tokens that are left of a text, and as many as stand before them.
-use Rattle.std.proofs.Common.{◌≡◌, ℕ, ◌+◌, ◌<◌, List, [], ◌∷◌, ◌++◌, length, inl, inr, refl, sym, ap, ◌∙◌, arith, append_assoc, length-append}
+use Rattle.std.proofs.Common.{◌≡◌, ℕ, ◌+◌, ◌<◌, List, [], ◌∷◌, ◌++◌, length, inl, inr, sym, ap, ◌∙◌, arith, append_assoc, length-append}
 use Rattle.vast_literal.specs.Scan.{Gap}
 use Rattle.vast_literal.specs.Tokens.{Token}
 use Rattle.vast_read.specs.Lexed.{lex}
