@@ -60,7 +60,10 @@ fn name_behind<'t>(
             let made = NormalDeclaration::plain(alloc, groups.reversed(), name, after.reversed())?;
             put(Value::Declaration(made), values)
         }
-        _ => Ok(()),
+        other => {
+            drop(other);
+            Ok(())
+        }
     }
 }
 
@@ -115,7 +118,10 @@ fn named<'t>(
             declared.typed = name_type(alloc, name, declared.typed)?;
             put(Value::Declaration(declared), values)
         }
-        _ => Ok(()),
+        other => {
+            drop(other);
+            Ok(())
+        }
     }
 }
 

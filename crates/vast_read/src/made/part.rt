@@ -32,6 +32,15 @@ pub(crate) trait Part<'t>: Sized {
             (λ x. kind (value_view value.entry) ≡ Some (sees x)) };
 }
 
+/// No part: the value is none of the kind. It is let go by a call, since where it went out of scope, the check of each
+/// caller would hold how every kind of value is let go.
+pub(crate) fn no_part<T>(value: Value<'_>) -> Option<T>
+    ensures { result ≡ None }
+{
+    drop(value);
+    None
+}
+
 /// The first of these values, if it is such a part. Whatever it is, it leaves.
 pub(crate) fn first<'t, P: Part<'t>>(values: &mut Values<'t>) -> Option<P>
     ensures { MatchOption result (first P.kind (seen values.old) ≡ None)
@@ -52,7 +61,8 @@ pub(crate) fn maybe_expression(values: &mut Values<'_>) -> Option<Option<Box<Nor
     match values.pop() {
         Some(Value::Nothing) => Some(None),
         Some(Value::Expression(tree)) => Some(Some(tree)),
-        _ => None,
+        Some(other) => no_part(other),
+        None => None,
     }
 }
 
@@ -65,7 +75,8 @@ pub(crate) fn maybe_expressions(values: &mut Values<'_>) -> Option<Option<Childr
     match values.pop() {
         Some(Value::Nothing) => Some(None),
         Some(Value::Expressions(parts)) => Some(Some(parts.reversed())),
-        _ => None,
+        Some(other) => no_part(other),
+        None => None,
     }
 }
 
@@ -89,7 +100,7 @@ fn name_of<'t>(value: Value<'t>) -> Option<Option<&'t str>>
     match value {
         Value::Nothing => Some(None),
         Value::Name(name) => Some(Some(name)),
-        _ => None,
+        other => no_part(other),
     }
 }
 
@@ -103,7 +114,7 @@ impl<'t> Part<'t> for bool {
     fn of(value: Value<'t>) -> Option<bool> {
         match value {
             Value::Answer(b) => Some(b),
-            _ => None,
+            other => no_part(other),
         }
     }
 }
@@ -118,7 +129,7 @@ impl<'t> Part<'t> for &'t str {
     fn of(value: Value<'t>) -> Option<&'t str> {
         match value {
             Value::Name(name) => Some(name),
-            _ => None,
+            other => no_part(other),
         }
     }
 }
@@ -133,7 +144,7 @@ impl<'t> Part<'t> for Path<'t> {
     fn of(value: Value<'t>) -> Option<Path<'t>> {
         match value {
             Value::Path(path) => Some(path),
-            _ => None,
+            other => no_part(other),
         }
     }
 }
@@ -148,7 +159,7 @@ impl<'t> Part<'t> for Box<NormalExpr> {
     fn of(value: Value<'t>) -> Option<Box<NormalExpr>> {
         match value {
             Value::Expression(tree) => Some(tree),
-            _ => None,
+            other => no_part(other),
         }
     }
 }
@@ -163,7 +174,7 @@ impl<'t> Part<'t> for Range<'t> {
     fn of(value: Value<'t>) -> Option<Range<'t>> {
         match value {
             Value::Loop(range) => Some(range),
-            _ => None,
+            other => no_part(other),
         }
     }
 }
@@ -178,7 +189,7 @@ impl<'t> Part<'t> for Group {
     fn of(value: Value<'t>) -> Option<Group> {
         match value {
             Value::Group(group) => Some(group),
-            _ => None,
+            other => no_part(other),
         }
     }
 }
@@ -193,7 +204,7 @@ impl<'t> Part<'t> for NormalDeclaration {
     fn of(value: Value<'t>) -> Option<NormalDeclaration> {
         match value {
             Value::Declaration(declared) => Some(declared),
-            _ => None,
+            other => no_part(other),
         }
     }
 }
@@ -208,7 +219,7 @@ impl<'t> Part<'t> for Connection {
     fn of(value: Value<'t>) -> Option<Connection> {
         match value {
             Value::Connection(connection) => Some(connection),
-            _ => None,
+            other => no_part(other),
         }
     }
 }
@@ -223,7 +234,7 @@ impl<'t> Part<'t> for Event {
     fn of(value: Value<'t>) -> Option<Event> {
         match value {
             Value::Event(event) => Some(event),
-            _ => None,
+            other => no_part(other),
         }
     }
 }
@@ -238,7 +249,7 @@ impl<'t> Part<'t> for NormalStatement {
     fn of(value: Value<'t>) -> Option<NormalStatement> {
         match value {
             Value::Statement(statement) => Some(statement),
-            _ => None,
+            other => no_part(other),
         }
     }
 }
@@ -253,7 +264,7 @@ impl<'t> Part<'t> for Alternatives {
     fn of(value: Value<'t>) -> Option<Alternatives> {
         match value {
             Value::Arms(arms) => Some(arms),
-            _ => None,
+            other => no_part(other),
         }
     }
 }
@@ -268,7 +279,7 @@ impl<'t> Part<'t> for NormalMember {
     fn of(value: Value<'t>) -> Option<NormalMember> {
         match value {
             Value::Member(member) => Some(member),
-            _ => None,
+            other => no_part(other),
         }
     }
 }
@@ -283,7 +294,7 @@ impl<'t> Part<'t> for Parameter {
     fn of(value: Value<'t>) -> Option<Parameter> {
         match value {
             Value::Parameter(parameter) => Some(parameter),
-            _ => None,
+            other => no_part(other),
         }
     }
 }
@@ -298,7 +309,7 @@ impl<'t> Part<'t> for Port {
     fn of(value: Value<'t>) -> Option<Port> {
         match value {
             Value::Port(port) => Some(port),
-            _ => None,
+            other => no_part(other),
         }
     }
 }
@@ -313,7 +324,7 @@ impl<'t> Part<'t> for NormalItem {
     fn of(value: Value<'t>) -> Option<NormalItem> {
         match value {
             Value::Item(item) => Some(item),
-            _ => None,
+            other => no_part(other),
         }
     }
 }

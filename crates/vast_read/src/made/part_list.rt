@@ -12,7 +12,7 @@ ghost use Rattle.vast_read.specs.View.{listed};
 ghost use Rattle.vast_rows.specs.Built.{as_expressions, as_groups, as_declarations, as_connections, as_events, as_statements, as_labels, as_members, as_parameters, as_ports, as_file};
 
 use crate::children::Children;
-use crate::made::part::Part;
+use crate::made::part::{Part, no_part};
 use crate::made::value::Value;
 use crate::tree::{
     CaseArm, Connection, Event, Group, NormalDeclaration, NormalExpr, NormalItem, NormalMember,
@@ -29,7 +29,7 @@ impl<'t> Part<'t> for Children<NormalExpr> {
     fn of(value: Value<'t>) -> Option<Children<NormalExpr>> {
         match value {
             Value::Expressions(parts) => Some(parts),
-            _ => None,
+            other => no_part(other),
         }
     }
 }
@@ -44,7 +44,7 @@ impl<'t> Part<'t> for Children<Group> {
     fn of(value: Value<'t>) -> Option<Children<Group>> {
         match value {
             Value::Groups(groups) => Some(groups),
-            _ => None,
+            other => no_part(other),
         }
     }
 }
@@ -59,7 +59,7 @@ impl<'t> Part<'t> for Children<NormalDeclaration> {
     fn of(value: Value<'t>) -> Option<Children<NormalDeclaration>> {
         match value {
             Value::Declarations(declared) => Some(declared),
-            _ => None,
+            other => no_part(other),
         }
     }
 }
@@ -74,7 +74,7 @@ impl<'t> Part<'t> for Children<Connection> {
     fn of(value: Value<'t>) -> Option<Children<Connection>> {
         match value {
             Value::Connections(connections) => Some(connections),
-            _ => None,
+            other => no_part(other),
         }
     }
 }
@@ -89,7 +89,7 @@ impl<'t> Part<'t> for Children<Event> {
     fn of(value: Value<'t>) -> Option<Children<Event>> {
         match value {
             Value::Events(events) => Some(events),
-            _ => None,
+            other => no_part(other),
         }
     }
 }
@@ -104,7 +104,7 @@ impl<'t> Part<'t> for Children<NormalStatement> {
     fn of(value: Value<'t>) -> Option<Children<NormalStatement>> {
         match value {
             Value::Statements(block) => Some(block),
-            _ => None,
+            other => no_part(other),
         }
     }
 }
@@ -119,7 +119,7 @@ impl<'t> Part<'t> for Children<CaseArm> {
     fn of(value: Value<'t>) -> Option<Children<CaseArm>> {
         match value {
             Value::Labels(arms) => Some(arms),
-            _ => None,
+            other => no_part(other),
         }
     }
 }
@@ -134,7 +134,7 @@ impl<'t> Part<'t> for Children<NormalMember> {
     fn of(value: Value<'t>) -> Option<Children<NormalMember>> {
         match value {
             Value::Members(members) => Some(members),
-            _ => None,
+            other => no_part(other),
         }
     }
 }
@@ -149,7 +149,7 @@ impl<'t> Part<'t> for Children<Parameter> {
     fn of(value: Value<'t>) -> Option<Children<Parameter>> {
         match value {
             Value::Parameters(parameters) => Some(parameters),
-            _ => None,
+            other => no_part(other),
         }
     }
 }
@@ -164,7 +164,7 @@ impl<'t> Part<'t> for Children<Port> {
     fn of(value: Value<'t>) -> Option<Children<Port>> {
         match value {
             Value::Ports(ports) => Some(ports),
-            _ => None,
+            other => no_part(other),
         }
     }
 }
@@ -179,7 +179,7 @@ impl<'t> Part<'t> for Children<NormalItem> {
     fn of(value: Value<'t>) -> Option<Children<NormalItem>> {
         match value {
             Value::Items(items) => Some(items),
-            _ => None,
+            other => no_part(other),
         }
     }
 }

@@ -150,7 +150,10 @@ fn alternated<'t>(
             others.before.push(arm)?;
             put(Value::Arms(others), values)
         }
-        _ => Ok(()),
+        other => {
+            drop(other);
+            Ok(())
+        }
     }
 }
 
