@@ -278,17 +278,27 @@ class Reader:
         self.need("=")
         self.expression()
         self.need(";")
-        if self.sees("("):
-            raise NotImplementedError("a condition in parentheses")
-        self.need(name, "<")
-        self.unary()
-        while self.take(*TIGHTER):
-            self.unary()
+        self.bound(name)
         self.need(";", name, "=", name, "+", "1", ")", "begin")
         if self.take(":"):
             self.need_kind("name")
         while not self.take("end"):
             self.member()
+
+    def bound(self, name):
+        """The name below an expression; parentheses may stand around the name and around both."""
+        opened = 0
+        while self.take("("):
+            opened += 1
+        self.need(name)
+        while opened and self.take(")"):
+            opened -= 1
+        self.need("<")
+        self.unary()
+        while self.take(*TIGHTER):
+            self.unary()
+        for _ in range(opened):
+            self.need(")")
 
     def instance(self):
         if self.take("#"):
