@@ -1,8 +1,5 @@
 //! Where a text is no longer one that the grammar derives.
 
-#[cfg(test)]
-mod tests;
-
 ghost use Rattle.std.specs.Prelude.{◌≡◌, ℕ, ◌+◌, List, ◌++◌, drop, length, IfOk, IfSome};
 ghost use Rattle.std.specs.Prelude.{IsCharBoundary, MatchOption};
 ghost use Rattle.vast_literal.specs.FileGrammar.{DerivesFile};

@@ -2,6 +2,7 @@
 
 mod deep;
 mod designs;
+mod fronts;
 
 use crate::program::run;
 use std::alloc::Global;

@@ -1,7 +1,7 @@
 //! How far texts begin files.
 
-use super::longest_front;
 use vast_literal::{Key, Mark, Sign};
+use vast_read::longest_front;
 use vast_rows::Kind;
 
 const OPEN: Kind = Kind::Mark(Mark::OpenParen);
