@@ -10,10 +10,6 @@ use Rattle.vast_read.specs.Lexed.{lex}
 abbrev pub IsBetweenTokens : (text : List ℕ) → (place : ℕ) → Type 0
 IsBetweenTokens text place = Behind text (drop place text)
 
--- The tokens are the last ones of the text.
-abbrev pub IsLeftOf : (text : List ℕ) → List Token → Type 0
-IsLeftOf text left = (front : List Token) × (lex Gap text ≡ front ++ left)
-
 -- The tokens of a text are some and those of what stands after such a place.
 abbrev pub PlacesPartTokens : Type 0
 PlacesPartTokens =

@@ -6,7 +6,8 @@ ghost use Rattle.vast_literal.specs.FileGrammar.{DerivesFile};
 ghost use Rattle.vast_literal.specs.NormalFile as normal;
 ghost use Rattle.vast_literal.specs.Scan.{Gap};
 ghost use Rattle.vast_read.specs.Lexed.{lex};
-ghost use Rattle.vast_read.specs.Places.{BeginsWithoutGap, IsBehindFirst, IsBetweenTokens, IsLeftOf};
+ghost use Rattle.vast_read.specs.Internal.Position.{IsLeftOf};
+ghost use Rattle.vast_read.specs.Places.{BeginsWithoutGap, IsBehindFirst, IsBetweenTokens};
 ghost use Rattle.vast_rows.specs.Fronts.{LongestFront, SpellsFile};
 
 use crate::reader::Reader;

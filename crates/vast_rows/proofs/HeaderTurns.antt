@@ -11,12 +11,12 @@ use Rattle.vast_rows.specs.declared.kind.Kind.{Kind}
 use Rattle.vast_rows.specs.declared.kind.Kind.TheVariants as kind
 use Rattle.vast_rows.specs.declared.reach.Reach.{Reach}
 use Rattle.vast_rows.specs.declared.reach.Reach.TheVariants.{Nowhere, Part as PartOf, Whole}
-use Rattle.vast_rows.specs.Fronts.{SpellsPhrase, GoesOn, LongestFront}
+use Rattle.vast_rows.specs.Fronts.{GoesOn, LongestFront}
 use Rattle.vast_rows.specs.Internal.Headers.{IsAt, HasKind, MayBe, IsOne, Eaten, may_be, Coming, nothing, token, variable, one, expression, bound, opens, named, closes, compares, closing, header, closing_kinds, part_kinds, stop_it, are_good, InHeader, Leads}
 use Rattle.vast_rows.specs.Internal.PhraseKinds.{firsts, stops}
 use Rattle.vast_rows.specs.Internal.Reaches.{Refuses, PartRead, WholeRead, Reaches}
 use Rattle.vast_rows.specs.Internal.Sets.{only}
-use Rattle.vast_rows.specs.Internal.Sources.{head_kind, first_name}
+use Rattle.vast_rows.specs.Internal.Sources.{head_kind, first_name, SpellsPhrase}
 use Rattle.vast_rows.specs.Kinds.{has, number, token_kind}
 use Rattle.vast_rows.specs.Numbers.{Less, OpenParen, CloseParen}
 use Rattle.vast_rows.specs.Phrases.{IsPhrase, IsExpression, expression as is_expression}

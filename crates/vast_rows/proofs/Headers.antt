@@ -8,8 +8,7 @@ use Rattle.vast_rows.specs.declared.grammar.Phrase.TheVariants.{LoopHead}
 use Rattle.vast_rows.specs.declared.header.Part.{Part}
 use Rattle.vast_rows.specs.declared.header.Part.TheVariants as part
 use Rattle.vast_rows.specs.declared.kind.Kind.TheVariants as kind
-use Rattle.vast_rows.specs.Fronts.{SpellsPhrase}
-use Rattle.vast_rows.specs.Internal.Sources.{tail}
+use Rattle.vast_rows.specs.Internal.Sources.{tail, SpellsPhrase}
 use Rattle.vast_rows.specs.Internal.Headers.{Coming, nothing, token, variable, one, expression, bound, opens, named, closes, compares, closing, header}
 use Rattle.vast_rows.specs.Kinds.{token_kind}
 use Rattle.vast_rows.specs.Numbers.{Less, Plus, OpenParen, CloseParen, Semicolon, Assign, GenvarKey}

@@ -6,13 +6,13 @@ use Rattle.vast_rows.specs.declared.grammar.Item.TheVariants.{Phrase}
 use Rattle.vast_rows.specs.declared.grammar.Phrase as code
 use Rattle.vast_rows.specs.Events.{Event, Reads}
 use Rattle.vast_rows.specs.Facts.{Fact}
-use Rattle.vast_rows.specs.Fronts.{SpellsPhrase, GoesOn, LongestFront}
+use Rattle.vast_rows.specs.Fronts.{GoesOn, LongestFront}
 use Rattle.vast_rows.specs.Internal.Reaches.{SpellsRule, IsQuiet, Refuses, PartRead, WholeRead}
 use Rattle.vast_rows.specs.Internal.Derives.{phrase}
 use Rattle.vast_rows.specs.Internal.PhraseKinds.{firsts, stops}
 use Rattle.vast_rows.specs.Internal.Predictive.{is_predictive}
 use Rattle.vast_rows.specs.Internal.Reading.{Reading}
-use Rattle.vast_rows.specs.Internal.Sources.{head_kind, HasRead}
+use Rattle.vast_rows.specs.Internal.Sources.{head_kind, HasRead, SpellsPhrase}
 use Rattle.vast_rows.specs.Kinds.{has, token_kind}
 use Rattle.vast_rows.specs.Phrases.{Meaning, IsPhrase}
 use Rattle.vast_rows.specs.Rows.{Row}

@@ -7,11 +7,10 @@ use Rattle.vast_literal.specs.Grammar.{Spells, binary, unary, name, number, base
 use Rattle.vast_literal.proofs.Levels.{lower}
 use Rattle.vast_rows.specs.declared.grammar.Phrase.{Phrase}
 use Rattle.vast_rows.specs.declared.grammar.Phrase.TheVariants.{Expression, Target, LoopHead, Path}
-use Rattle.vast_rows.specs.Fronts.{SpellsPhrase}
 use Rattle.vast_rows.specs.Internal.Headers.{IsAt}
 use Rattle.vast_rows.specs.Internal.PhraseKinds.{firsts, stops}
 use Rattle.vast_rows.specs.Internal.Sets.{only}
-use Rattle.vast_rows.specs.Internal.Sources.{head_kind}
+use Rattle.vast_rows.specs.Internal.Sources.{head_kind, SpellsPhrase}
 use Rattle.vast_rows.specs.Kinds.{has, token_kind}
 use Rattle.vast_rows.specs.Numbers.{Less, Minus, BitNot, LogicNot, BitAnd, BitOr, BitXor, OpenParen, OpenBrace, Apostrophe, Key, LogicKey, SignedKey, UnsignedKey, IntegerKey, IntKey}
 use Rattle.vast_rows.specs.Phrases.{Meaning, IsExpression, IsPath, IsPhrase, expression, target, loop_head, path}

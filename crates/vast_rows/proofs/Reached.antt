@@ -6,14 +6,14 @@ use Rattle.vast_rows.specs.declared.grammar.Phrase.TheVariants.{Expression, Targ
 use Rattle.vast_rows.specs.declared.reach.Reach.{Reach}
 use Rattle.vast_rows.specs.declared.reach.Reach.TheVariants.{Nowhere, Part, Whole}
 use Rattle.vast_rows.specs.Facts.{Fact, fact_in}
-use Rattle.vast_rows.specs.Fronts.{SpellsPhrase, GoesOn, LongestFront, IsPathNext}
+use Rattle.vast_rows.specs.Fronts.{GoesOn, LongestFront}
 use Rattle.vast_rows.specs.Internal.ExpressionPage.{expression_page, part_number}
 use Rattle.vast_rows.specs.Internal.ExpressionPage as part
 use Rattle.vast_rows.specs.Internal.Firsts.{firsts_in}
 use Rattle.vast_rows.specs.Internal.Headers.{IsAt}
 use Rattle.vast_rows.specs.Internal.Predictive.{lead, is_predictive}
 use Rattle.vast_rows.specs.Internal.Reaches.{SpellsRule, IsQuiet, Refuses, PartRead, WholeRead, Reaches}
-use Rattle.vast_rows.specs.Internal.Sources.{head_kind, tail}
+use Rattle.vast_rows.specs.Internal.Sources.{head_kind, tail, SpellsPhrase, IsPathNext}
 use Rattle.vast_rows.specs.Kinds.{has, token_kind}
 use Rattle.vast_rows.specs.Phrases.{IsPhrase, Meaning, IsExpression, IsPath, expression, target, path}
 use Rattle.vast_rows.specs.Rows.{Row, bare}

@@ -1,19 +1,13 @@
 -- How far tokens are the beginning of something, and how that goes on.
-use Rattle.std.specs.Prelude.{◌≡◌, ◌↔◌, ℕ, List, [], ◌∷◌, ◌++◌, Bool, true, codes}
+use Rattle.std.specs.Prelude.{◌≡◌, ◌↔◌, ℕ, List, ◌∷◌, ◌++◌, Bool, true}
 use Rattle.vast_literal.specs.FileGrammar.{IsFile}
 use Rattle.vast_literal.specs.NormalFile.{NormalFile}
-use Rattle.vast_literal.specs.Tokens.{Token, Word, Number, Quoted}
-use Rattle.vast_rows.specs.declared.grammar.Phrase.{Phrase}
+use Rattle.vast_literal.specs.Tokens.{Token}
 use Rattle.vast_rows.specs.Kinds.{has, token_kind}
-use Rattle.vast_rows.specs.Phrases.{Meaning, IsPhrase}
 
 -- The tokens are a file.
 abbrev pub SpellsFile : List Token → Type 0
 SpellsFile ts = (t : NormalFile) × IsFile ts t
-
--- The tokens are a phrase.
-abbrev pub SpellsPhrase : Phrase → List Token → Type 0
-SpellsPhrase phrase ts = (m : Meaning) × IsPhrase phrase ts m
 
 -- Something of the language begins with the tokens.
 abbrev pub IsBegun : (List Token → Type 0) → List Token → Type 0
@@ -32,14 +26,3 @@ pub record LongestFront (L : List Token → Type 0) (ts left : List Token) (kind
   pub goes_on : (kind : ℕ) → (has kinds kind ≡ true) ↔ GoesOn L front kind
   pub ended : (ends ≡ true) ↔ L front
   pub stops : (t : Token) (us rest : List Token) → left ≡ t ∷ us → L (front ++ (t ∷ rest)) → ⊥
-
--- The first token is this name; a path, in its quotes; the number 1.
-
-abbrev pub IsNameNext : (name : List ℕ) → List Token → Type 0
-IsNameNext name ts = (us : List Token) × (ts ≡ Word name ∷ us)
-
-abbrev pub IsPathNext : List Token → Type 0
-IsPathNext ts = (path : List ℕ) × (us : List Token) × (ts ≡ Quoted (34 ∷ (path ++ (34 ∷ []))) ∷ us)
-
-abbrev pub IsOneNext : List Token → Type 0
-IsOneNext ts = (us : List Token) × (ts ≡ Number (codes "1") ∷ us)

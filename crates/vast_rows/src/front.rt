@@ -5,7 +5,8 @@ mod tests;
 
 ghost use Rattle.std.specs.Prelude.{◌≡◌, ◌↔◌, ℕ, List, true, IfOk, MatchResult};
 ghost use Rattle.vast_literal.specs.Tokens.{Token};
-ghost use Rattle.vast_rows.specs.Fronts.{LongestFront, SpellsFile, SpellsPhrase};
+ghost use Rattle.vast_rows.specs.Fronts.{LongestFront, SpellsFile};
+ghost use Rattle.vast_rows.specs.Internal.Sources.{SpellsPhrase};
 ghost use Rattle.vast_rows.specs.Internal.Reaches.{IsQuiet, Reaches, SpellsRule, are_plain};
 ghost use Rattle.vast_rows.specs.Internal.Firsts.{firsts_in, first_kinds, is_empty, own_kinds};
 ghost use Rattle.vast_rows.specs.Internal.PhraseKinds.{firsts};

@@ -3,11 +3,10 @@
 ghost use Rattle.std.specs.Prelude.{◌≡◌, ◌∷◌, ℕ, List, Option, true, IfOk, MatchBool, cond};
 ghost use Rattle.std.specs.Prelude.{nat_lt, option_map};
 ghost use Rattle.vast_literal.specs.Tokens.{Token};
-ghost use Rattle.vast_rows.specs.Fronts.{SpellsPhrase};
 ghost use Rattle.vast_rows.specs.Internal.Headers.{Eaten, HasKind, IsOne, Leads, MayBe, header};
 ghost use Rattle.vast_rows.specs.Internal.Headers.{are_good, closing_kinds, part_kinds};
 ghost use Rattle.vast_rows.specs.Internal.Reaches.{Reaches};
-ghost use Rattle.vast_rows.specs.Internal.Sources.{first_name};
+ghost use Rattle.vast_rows.specs.Internal.Sources.{first_name, SpellsPhrase};
 ghost use Rattle.vast_rows.specs.Kinds.{number};
 ghost use Rattle.vast_rows.specs.declared.grammar.Phrase.TheVariants.{LoopHead};
 ghost use Rattle.vast_rows.specs.declared.header.Part.TheVariants.{Closing, Comparison, Condition};

@@ -2,7 +2,7 @@
 
 ghost use Rattle.std.specs.Prelude.{◌≡◌, List, true, IfOk};
 ghost use Rattle.vast_literal.specs.Tokens.{Token};
-ghost use Rattle.vast_rows.specs.Fronts.{SpellsPhrase};
+ghost use Rattle.vast_rows.specs.Internal.Sources.{SpellsPhrase};
 ghost use Rattle.vast_rows.specs.Internal.Headers.{IsAt};
 ghost use Rattle.vast_rows.specs.Internal.Reaches.{Reaches, SpellsRule, are_plain};
 ghost use Rattle.vast_rows.specs.Kinds.{has};

@@ -2,9 +2,8 @@
 
 ghost use Rattle.std.specs.Prelude.{◌≡◌, ℕ, List, IfOk, MatchBool, MatchOption, Some, None};
 ghost use Rattle.vast_literal.specs.Tokens.{Token};
-ghost use Rattle.vast_rows.specs.Fronts.{IsNameNext, IsOneNext, IsPathNext};
 ghost use Rattle.vast_rows.specs.Phrases.{Meaning};
-ghost use Rattle.vast_rows.specs.Internal.Sources.{tail, HasRead, HasNone, first_name, kind_of_first};
+ghost use Rattle.vast_rows.specs.Internal.Sources.{tail, HasRead, HasNone, first_name, kind_of_first, IsNameNext, IsOneNext, IsPathNext};
 
 use crate::grammar::Phrase;
 use crate::kind::Kind;

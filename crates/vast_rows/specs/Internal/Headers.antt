@@ -11,7 +11,8 @@ use Rattle.vast_rows.specs.declared.kind.Kind.{Kind}
 use Rattle.vast_rows.specs.declared.kind.Kind.TheVariants.{Word, Number, Mark, Operator, Reserved}
 use Rattle.vast_rows.specs.declared.reach.Reach.{Reach}
 use Rattle.vast_rows.specs.declared.reach.Reach.TheVariants as reach
-use Rattle.vast_rows.specs.Fronts.{SpellsPhrase, GoesOn, LongestFront}
+use Rattle.vast_rows.specs.Fronts.{GoesOn, LongestFront}
+use Rattle.vast_rows.specs.Internal.Sources.{SpellsPhrase}
 use Rattle.vast_rows.specs.Internal.PhraseKinds.{firsts, stops}
 use Rattle.vast_rows.specs.Internal.Reaches.{IsQuiet, Refuses}
 use Rattle.vast_rows.specs.Internal.Sets.{only}

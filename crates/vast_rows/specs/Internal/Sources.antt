@@ -1,6 +1,6 @@
 -- What a source of tokens does.
-use Rattle.std.specs.Prelude.{◌≡◌, ◌<◌, ℕ, List, [], ◌∷◌, ◌++◌, length, true, Option, None}
-use Rattle.vast_literal.specs.Tokens.{Token}
+use Rattle.std.specs.Prelude.{◌≡◌, ◌<◌, ℕ, List, [], ◌∷◌, ◌++◌, length, true, Option, None, codes}
+use Rattle.vast_literal.specs.Tokens.{Token, Word, Number, Quoted}
 use Rattle.vast_rows.specs.declared.grammar.Phrase.{Phrase}
 use Rattle.vast_rows.specs.Kinds.{has, number, kind_of}
 use Rattle.vast_rows.specs.declared.kind.Kind.{Kind}
@@ -37,3 +37,18 @@ pub record HasRead (phrase : Phrase) (before : List Token) (m : Meaning) (behind
 -- None stands there before a kind that may follow it.
 abbrev pub HasNone : Phrase → List Token → Type 0
 HasNone phrase before = (ts rest : List Token) (m : Meaning) → IsPhrase phrase ts m → before ≡ ts ++ rest → has (stops phrase) (head_kind rest) ≡ true → ⊥
+
+-- The first token is this name; a path, in its quotes; the number 1.
+
+abbrev pub IsNameNext : (name : List ℕ) → List Token → Type 0
+IsNameNext name ts = (us : List Token) × (ts ≡ Word name ∷ us)
+
+abbrev pub IsPathNext : List Token → Type 0
+IsPathNext ts = (path : List ℕ) × (us : List Token) × (ts ≡ Quoted (34 ∷ (path ++ (34 ∷ []))) ∷ us)
+
+abbrev pub IsOneNext : List Token → Type 0
+IsOneNext ts = (us : List Token) × (ts ≡ Number (codes "1") ∷ us)
+
+-- The tokens are a phrase.
+abbrev pub SpellsPhrase : Phrase → List Token → Type 0
+SpellsPhrase phrase ts = (m : Meaning) × IsPhrase phrase ts m

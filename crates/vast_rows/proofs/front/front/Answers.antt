@@ -1,5 +1,5 @@
 use Rattle.std.proofs.Common.{ap, sym, ◌∙◌, inl, inr}
-use Rattle.vast_rows.specs.Fronts.{SpellsPhrase}
+use Rattle.vast_rows.specs.Internal.Sources.{SpellsPhrase}
 use Rattle.vast_rows.specs.Internal.Reaches.{Reaches, PartRead, WholeRead}
 use Rattle.vast_rows.specs.Facts.{facts_view}
 use Rattle.vast_rows.specs.Kinds.{number}

@@ -1,5 +1,5 @@
 use Rattle.vast_rows.specs.declared.grammar.Phrase.TheVariants.{Expression}
-use Rattle.vast_rows.specs.Fronts.{SpellsPhrase}
+use Rattle.vast_rows.specs.Internal.Sources.{SpellsPhrase}
 use Rattle.vast_rows.specs.Internal.Reaches.{SpellsRule}
 use Rattle.vast_rows.specs.Rows.{rows_view}
 use Rattle.vast_rows.proofs.PhraseStarts.{one_phrase}
