@@ -69,10 +69,7 @@ fn first_difference(rt: HostRuntime) -> Result<(), Fail> {
             Some(((19, 30), (19, 32))),
         ),
         // At the word that tells which member it is.
-        (
-            "module m; wire a; endmodule",
-            Some(((10, 10), (10, 10))),
-        ),
+        ("module m; wire a; endmodule", Some(((10, 10), (10, 10)))),
         ("module m; assign a = (b - c) - d; endmodule", None),
         ("module m; assign a = ; endmodule", None),
     ] {
