@@ -12,7 +12,7 @@ use Rattle.vast_rows.specs.Events.{Event, Reads, named_by, name_of}
 use Rattle.vast_rows.specs.Facts.{Fact, fact_in}
 use Rattle.vast_rows.specs.Internal.Reaches.{SpellsRule, are_plain}
 use Rattle.vast_rows.specs.Internal.Derives.{Derives}
-use Rattle.vast_rows.specs.Internal.Firsts.{firsts_in, first_kinds}
+use Rattle.vast_rows.specs.Internal.Firsts.{firsts_in, first_kinds, is_exact}
 use Rattle.vast_rows.specs.Internal.PhraseKinds.{firsts}
 use Rattle.vast_rows.specs.Internal.Predictive.{is_predictive}
 use Rattle.vast_rows.specs.Internal.Reading.{IsDue, LeadsTo}
@@ -20,7 +20,7 @@ use Rattle.vast_rows.specs.Internal.Sources.{head_kind, tail}
 use Rattle.vast_rows.specs.Kinds.{has, token_kind}
 use Rattle.vast_rows.specs.Rows.{Row}
 use Rattle.vast_rows.proofs.Derivations.{whole_derived}
-use Rattle.vast_rows.proofs.Ending.{Exact}
+use Rattle.vast_rows.proofs.Ending.{exact}
 use Rattle.vast_rows.proofs.PhraseDue.{PhraseDue}
 use Rattle.vast_rows.proofs.PhraseLaws.{begins as phrase_begins}
 use Rattle.vast_rows.proofs.Plain.{no_reads, plain_tells, never_read}
@@ -42,12 +42,12 @@ stands_first rows facts start all h c = record {
 }
 
 -- The next token is one by which the stack goes on, and no phrase goes on with it.
-pub record Fitting (begin : List ℕ) (facts : List Fact) (left : List tokens.Token) (stack : List Item) (more k : ℕ) : Type 0 where
+record Fitting (begin : List ℕ) (facts : List Fact) (left : List tokens.Token) (stack : List Item) (more k : ℕ) : Type 0 where
   pub kind : k ≡ head_kind left
   pub fits : has (first_kinds (firsts_in begin) (fact_in facts) stack) k ≡ true
   pub other : has more k ≡ false
 
-pub fitting : (begin : List ℕ) (facts : List Fact) (rows : List Row) (start : ℕ) (all left : List tokens.Token) (stack : List Item) (more own k : ℕ) → Standing rows (fact_in facts) start all left stack more →
+fitting : (begin : List ℕ) (facts : List Fact) (rows : List Row) (start : ℕ) (all left : List tokens.Token) (stack : List Item) (more own k : ℕ) → Standing rows (fact_in facts) start all left stack more →
     ((k : ℕ) → (has own k ≡ true) ↔ (has (first_kinds (firsts_in begin) (fact_in facts) stack) k ≡ true)) → k ≡ head_kind left → has (bit_or more own) k ≡ true → Fitting begin facts left stack more k
 fitting begin facts rows start all left stack more own k w kinds kind h = record { kind = kind; fits = go (has more k) refl (has_or more own k h); other = other (has more k) refl }
   where
@@ -63,17 +63,37 @@ fitting begin facts rows start all left stack more own k w kinds kind h = record
     go b e (inl g) = absurd (no left refl g)
     go b e (inr g) = (kinds k).0 g
 
-module _ {K : Type 0} {after : K → List Event → K → Type 0} (silent : (s : K) (es : List Event) (t : K) → after s es t) (begin : List ℕ) (facts : List Fact) (rows : List Row) (start : ℕ) (x : Exact begin facts rows) (p : is_predictive (fact_in facts) rows ≡ true)
-    (all left : List tokens.Token) (stack new : List Item) (more k : ℕ) (first now : K) (d : Due) (w : Standing rows (fact_in facts) start all left stack more) (f : Fitting begin facts left stack more k)
-    (opens : (rest : List tokens.Token) → k ≡ head_kind rest → LeadsTo after rows (fact_in facts) rest stack first new now d) where
+-- Opening the next token's rules leads from what stands to what is due.
+pub record Turn {K : Type 0} (after : K → List Event → K → Type 0) (begin : List ℕ) (facts : List Fact) (rows : List Row) (start : ℕ) (all left : List tokens.Token) (stack new : List Item) (more own k : ℕ) (first now : K) (d : Due) : Type 0 where
+  pub exact : is_exact begin facts rows ≡ true
+  pub predictive : is_predictive (fact_in facts) rows ≡ true
+  pub stands : Standing rows (fact_in facts) start all left stack more
+  pub kinds : (k : ℕ) → (has own k ≡ true) ↔ (has (first_kinds (firsts_in begin) (fact_in facts) stack) k ≡ true)
+  pub next : k ≡ head_kind left
+  pub fits : has (bit_or more own) k ≡ true
+  pub opens : (rest : List tokens.Token) → k ≡ head_kind rest → LeadsTo after rows (fact_in facts) rest stack first new now d
+
+abbrev pub turned : {K : Type 0} {after : K → List Event → K → Type 0} {begin : List ℕ} {facts : List Fact} {rows : List Row} {start : ℕ} {all left : List tokens.Token} {stack new : List Item} {more own k : ℕ} {first now : K} {d : Due} →
+    is_exact begin facts rows ≡ true → is_predictive (fact_in facts) rows ≡ true → Standing rows (fact_in facts) start all left stack more → ((k : ℕ) → (has own k ≡ true) ↔ (has (first_kinds (firsts_in begin) (fact_in facts) stack) k ≡ true)) →
+    k ≡ head_kind left → has (bit_or more own) k ≡ true → ((rest : List tokens.Token) → k ≡ head_kind rest → LeadsTo after rows (fact_in facts) rest stack first new now d) → Turn after begin facts rows start all left stack new more own k first now d
+turned x p w kinds next fits opens = record { exact = x; predictive = p; stands = w; kinds = kinds; next = next; fits = fits; opens = opens }
+
+module _ {K : Type 0} {after : K → List Event → K → Type 0} {begin : List ℕ} {facts : List Fact} {rows : List Row} {start : ℕ} {all left : List tokens.Token} {stack new : List Item} {more own k : ℕ} {first now : K} {d : Due}
+    (silent : (s : K) (es : List Event) (t : K) → after s es t) (turn : Turn after begin facts rows start all left stack new more own k first now d) where
+  abbrev w : Standing rows (fact_in facts) start all left stack more
+  w = turn.stands
+
+  f : Fitting begin facts left stack more k
+  f = fitting begin facts rows start all left stack more own k w turn.kinds turn.next turn.fits
+
   due_at : (e : Due) → d ≡ e → (t : tokens.Token) (us : List tokens.Token) → token_kind t ≡ k → IsDue after rows (fact_in facts) start (w.before ++ (t ∷ us)) (t ∷ us) new first now e
   due_at e same t us kind =
       let r = w.reading (t ∷ us) (quiet_other more k t us f.other kind) in
-      led rows (fact_in facts) (t ∷ us) stack first new now d e (opens (t ∷ us) (sym kind)) same start (w.before ++ (t ∷ us)) first (record { done = r.0; reading = r.1; heard = silent first r.0 first })
+      led rows (fact_in facts) (t ∷ us) stack first new now d e (turn.opens (t ∷ us) (sym kind)) same start (w.before ++ (t ∷ us)) first (record { done = r.0; reading = r.1; heard = silent first r.0 first })
 
   -- Something of the whole that goes on so.
   sample : Begun rows stack k
-  sample = begins_at begin facts rows start x p w k f.fits
+  sample = begins_at begin facts rows start (exact begin facts rows turn.exact) turn.predictive w k f.fits
 
   abbrev sampled : List tokens.Token
   sampled = sample.first ∷ sample.others

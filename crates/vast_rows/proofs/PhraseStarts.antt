@@ -10,11 +10,11 @@ use Rattle.vast_rows.specs.declared.grammar.Phrase.TheVariants.{Expression, Targ
 use Rattle.vast_rows.specs.Internal.Headers.{IsAt}
 use Rattle.vast_rows.specs.Internal.PhraseKinds.{firsts, stops}
 use Rattle.vast_rows.specs.Internal.Sets.{only}
-use Rattle.vast_rows.specs.Internal.Sources.{head_kind, SpellsPhrase}
+use Rattle.vast_rows.specs.Internal.Sources.{SpellsPhrase}
 use Rattle.vast_rows.specs.Kinds.{has, token_kind}
 use Rattle.vast_rows.specs.Numbers.{Less, Minus, BitNot, LogicNot, BitAnd, BitOr, BitXor, OpenParen, OpenBrace, Apostrophe, Key, LogicKey, SignedKey, UnsignedKey, IntegerKey, IntKey}
-use Rattle.vast_rows.specs.Phrases.{Meaning, IsExpression, IsPath, IsPhrase, expression, target, loop_head, path}
-use Rattle.vast_rows.proofs.PhraseLaws.{begins, apart}
+use Rattle.vast_rows.specs.Phrases.{IsExpression, IsPath, expression, target, loop_head, path}
+use Rattle.vast_rows.proofs.PhraseLaws.{apart}
 use Rattle.vast_rows.proofs.Sets.{has_or, only_has, no_kind}
 
 -- What stands at a level stands at lower ones.
@@ -172,8 +172,3 @@ none_longer p ts us t h a b =
     let n : suc (length (us ++ (t ∷ []))) ≡ 1 = ap length s.1 in
     let m : length (us ++ (t ∷ [])) ≡ length us + 1 = length-append us (t ∷ []) in
     omega (arith, n, m)
-
--- None stands where nothing does.
-pub none_in_nothing : (p : Phrase) (ts rest : List Token) (m : Meaning) → IsPhrase p ts m → [] ≡ ts ++ rest → has (stops p) (head_kind rest) ≡ true → ⊥
-none_in_nothing p [] rest m i e h = no_end p (begins p [] [] m i)
-none_in_nothing p (t ∷ us) rest m i e h = absurd (cc e)

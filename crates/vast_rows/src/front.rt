@@ -1,8 +1,5 @@
 //! How far tokens begin a file, and what could stand next, read off the machine's stack.
 
-#[cfg(test)]
-mod tests;
-
 ghost use Rattle.std.specs.Prelude.{◌≡◌, ◌↔◌, ℕ, List, true, IfOk, MatchResult};
 ghost use Rattle.vast_literal.specs.Tokens.{Token};
 ghost use Rattle.vast_rows.specs.Fronts.{LongestFront, SpellsFile};

@@ -19,7 +19,14 @@ type Row = (
     &'static [Kind],
 );
 
-const ROWS: [Row; 9] = [
+const ROWS: [Row; 10] = [
+    (
+        "",
+        "",
+        true,
+        &[Kind::IncludeWord, Kind::Reserved(Key::Module)],
+        &[Kind::Reserved(Key::EndModule)],
+    ),
     (
         "module m; initial a",
         "module m; ",
