@@ -29,4 +29,5 @@ pub use machine::{is_file, read, read_file};
 pub use rule::Rule;
 pub use sink::{Nothing, Sink};
 pub use source::{Fronts, Source};
+pub use stack::Stack;
 pub use table::files;

@@ -8,7 +8,7 @@ use std::marker::Model;
 
 /// A stack. In contracts it is the list of its items, the last one pushed first.
 #[derive(Drop)]
-pub(crate) struct Stack<T> {
+pub struct Stack<T> {
     items: Vec<T>,
 }
 
@@ -22,7 +22,7 @@ impl<T> Model for Stack<T> {
 
 impl<T> Stack<T> {
     /// Nothing.
-    pub(crate) fn new(alloc: Global) -> Stack<T>
+    pub fn new(alloc: Global) -> Stack<T>
         ensures { result ≡ [] }
     {
         Stack {
@@ -32,7 +32,7 @@ impl<T> Stack<T> {
 
     /// The item on top, which leaves.
     #[tactic(auto, using(crate::proofs::Stacked::pops))]
-    pub(crate) fn pop(&mut self) -> Option<T>
+    pub fn pop(&mut self) -> Option<T>
         ensures { MatchOption result
             ((self.old ≡ []) × (self.new ≡ [])) (λ x. self.old ≡ (x ∷ self.new)) }
     {
@@ -62,7 +62,7 @@ impl<T: Drop> Stack<T> {
     /// # Errors
     /// Out of memory: the stack is as it was.
     #[tactic(auto, using(crate::proofs::Stacked::pushes))]
-    pub(crate) fn push(&mut self, item: T) -> Result<(), AllocError>
+    pub fn push(&mut self, item: T) -> Result<(), AllocError>
         ensures ok { OnOk result (self.new ≡ (item ∷ self.old)) }
         ensures err { OnErr result (self.new ≡ self.old) }
     {
