@@ -1,22 +1,23 @@
 -- Phrases, by what is read of expressions.
-use Rattle.std.proofs.Common.{◌≡◌, ◌≢◌, ℕ, suc, List, Option, None, [], ◌∷◌, ◌++◌, length, ap, subst, arith}
+use Rattle.std.proofs.Common.{◌≡◌, ◌≢◌, ℕ, suc, Bool, true, false, List, Option, None, [], ◌∷◌, ◌++◌, length, ap, subst, arith}
 use Rattle.std.proofs.lemmas.List.{append_cancel_right}
 use Rattle.vast_literal.specs.NormalExpr.{NormalExpr}
 use Rattle.vast_literal.specs.Tokens.{Token, Quoted}
-use Rattle.vast_read.specs.Internal.Readings.{ReadsTree}
+use Rattle.vast_read.specs.Internal.PhraseReadings.{phrase_of}
+use Rattle.vast_read.specs.Internal.Readings.{ReadsTree, level_of}
 use Rattle.vast_expressions.specs.Phrases.{IsRead, IsUnread, Quiet}
 use Rattle.vast_rows.specs.Internal.Sources.{HasRead, HasNone}
 use Rattle.vast_rows.proofs.PhraseLaws.{quiet_expression, quiet_target}
 use Rattle.vast_rows.specs.Phrases.{IsPhrase, expression, target, path, Meaning, IsExpression, IsPath}
 use Rattle.vast_rows.specs.declared.grammar.Phrase.TheVariants.{Expression, Target, Path}
 
-pub no_expression : (ts : List Token) → IsUnread 0 ts → HasNone Expression ts
+no_expression : (ts : List Token) → IsUnread 0 ts → HasNone Expression ts
 no_expression ts n fs rest m (expression {x = x} s) e h = n fs rest x s e (quiet_expression rest h)
 
-pub no_target : (ts : List Token) → IsUnread 13 ts → HasNone Target ts
+no_target : (ts : List Token) → IsUnread 13 ts → HasNone Target ts
 no_target ts n fs rest m (target {x = x} s) e h = n fs rest x s e (quiet_target rest h)
 
-pub has_expression : (ts us : List Token) (t : NormalExpr) → IsRead 0 ts t us → HasRead Expression ts (IsExpression t) us
+has_expression : (ts us : List Token) (t : NormalExpr) → IsRead 0 ts t us → HasRead Expression ts (IsExpression t) us
 has_expression ts us t r = record {
   front = r.front;
   reads = expression r.spelled;
@@ -28,7 +29,7 @@ has_expression ts us t r = record {
     go : (fs rest : List Token) (m : Meaning) → IsPhrase Expression fs m → ts ≡ fs ++ rest → Quiet 0 rest → (m ≡ IsExpression t) × (rest ≡ us)
     go fs rest m (expression {x = x} s) e q = let both = r.same fs rest x s e q in (ap IsExpression both.0, both.1)
 
-pub has_target : (ts us : List Token) (t : NormalExpr) → IsRead 13 ts t us → HasRead Target ts (IsExpression t) us
+has_target : (ts us : List Token) (t : NormalExpr) → IsRead 13 ts t us → HasRead Target ts (IsExpression t) us
 has_target ts us t r = record {
   front = r.front;
   reads = target r.spelled;
@@ -56,14 +57,17 @@ has_path ts us w p e d = record {
 pub no_path : (ts : List Token) → ((p : List ℕ) (us : List Token) → ts ≢ (Quoted (34 ∷ (p ++ (34 ∷ []))) ∷ us)) → HasNone Path ts
 no_path ts n fs rest m (path p) e h = n p rest e
 
-pub unread_expression : {E : Type 0} (sees : E → NormalExpr) (o : Option E) (ts us : List Token) → ReadsTree sees 0 o ts us → o ≡ None → HasNone Expression ts
-unread_expression sees o ts us r e = no_expression ts (subst (λ v. ReadsTree sees 0 v ts us) e r)
+no_tree : (is_target : Bool) (ts : List Token) → IsUnread (level_of is_target) ts → HasNone (phrase_of is_target) ts
+no_tree true = no_target
+no_tree false = no_expression
 
-pub unread_target : {E : Type 0} (sees : E → NormalExpr) (o : Option E) (ts us : List Token) → ReadsTree sees 13 o ts us → o ≡ None → HasNone Target ts
-unread_target sees o ts us r e = no_target ts (subst (λ v. ReadsTree sees 13 v ts us) e r)
+pub has_tree : (is_target : Bool) (ts us : List Token) (t : NormalExpr) → IsRead (level_of is_target) ts t us → HasRead (phrase_of is_target) ts (IsExpression t) us
+has_tree true = has_target
+has_tree false = has_expression
 
-pub ruleset expressions = (no_expression, has_expression)
+pub unread_tree : {E : Type 0} (sees : E → NormalExpr) (is_target : Bool) (o : Option E) (ts us : List Token) → ReadsTree sees (level_of is_target) o ts us → o ≡ None → HasNone (phrase_of is_target) ts
+unread_tree sees is_target o ts us r e = no_tree is_target ts (subst (λ v. ReadsTree sees (level_of is_target) v ts us) e r)
 
-pub ruleset targets = (no_target, has_target)
+pub ruleset trees = (has_tree)
 
 pub ruleset paths = (no_path, has_path)

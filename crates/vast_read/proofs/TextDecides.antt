@@ -1,6 +1,8 @@
 -- What is decided of a text: whether the grammar derives a file from it, and which.
-use Rattle.std.proofs.Common.{◌≡◌, ℕ, List, Option, Some, None, Result, Ok, Err, IfOk, IfSome, option_map, sym, ap, subst}
+use Rattle.std.proofs.Common.{◌≡◌, ℕ, List, Bool, true, false, Option, Some, None, Result, Ok, Err, IfOk, IfSome, option_map, sym, ap, subst}
+use Rattle.std.specs.Bool.{MatchBool}
 use Rattle.vast_literal.specs.Scan.{Gap}
+use Rattle.vast_literal.specs.Tokens.{Token}
 use Rattle.vast_read.specs.Lexed.{lex}
 use Rattle.vast_read.proofs.Spellable.{file_used}
 use Rattle.vast_read.proofs.Lexed.{tokens_lexed, tokens_used}
@@ -35,6 +37,8 @@ module _ {E : Type 0} (text : List ℕ) where
   file_read_back (Ok None) n = λ t y. absurd (text_without_file text n t y)
   file_read_back (Err e) n = tt
 
--- What was read as a file, and what was not.
-
-pub ruleset places = (text_derives, text_without_file)
+  pub decides : (read : Result Bool E) (ts : List Token) → ts ≡ lex Gap text → IfOk read (λ b. MatchBool b ((x : NormalFile) × IsFile ts x) ((x : NormalFile) → IsFile ts x → ⊥)) →
+      IfOk read (λ b. MatchBool b ((x : NormalFile) × DerivesFile text x) ((x : NormalFile) → DerivesFile text x → ⊥))
+  decides (Ok true) ts e d = (d.0, text_derives text d.0 (subst (λ us. IsFile us d.0) e d.1))
+  decides (Ok false) ts e n = text_without_file text (subst (λ us. (x : NormalFile) → IsFile us x → ⊥) e n)
+  decides (Err x) ts e n = tt

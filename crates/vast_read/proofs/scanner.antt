@@ -1,6 +1,6 @@
 mod Cuts
-mod Lexemes
-mod Fronts
+pub mod Lexemes
+pub mod Fronts
 pub mod Places
 pub mod LexemePlaces
 mod Words

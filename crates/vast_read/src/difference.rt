@@ -4,7 +4,9 @@ ghost use Rattle.std.specs.Prelude.{IfOk, IfSome, MatchOption, ⊤};
 ghost use Rattle.vast_read.specs.Compared.{Compares, IsOneFile, IsPiece, IsPlace};
 ghost use Rattle.vast_read.specs.declared.same.Comparison.TheVariants.{Different};
 
-use crate::reader::Reader;
+use crate::build::Unbuilt;
+use crate::phrase::Phrases;
+use crate::place::place_of_left;
 use crate::same::{Comparison, compared};
 use std::alloc::{AllocError, Global};
 use vast_rows::{Action, Sink, Source, read_file};
@@ -67,11 +69,11 @@ fn piece_of(alloc: Global, text: &str, count: usize) -> Result<Piece, AllocError
 fn place_after(alloc: Global, text: &str, count: usize) -> Result<usize, AllocError>
     ensures { IfOk result (IsPlace text.now) }
 {
-    let mut reader = Reader::new(alloc, text);
+    let mut source: Phrases<'_, Unbuilt> = Phrases::new(alloc, text);
     let mut counter = Counter { left: Some(count) };
-    match read_file(alloc, &mut reader, &mut counter) {
+    match read_file(alloc, &mut source, &mut counter) {
         Err(error) if counter.left.is_some() => Err(error),
-        _ => Ok(reader.place_in(text)),
+        _ => Ok(place_of_left(alloc, text, source.reader)),
     }
 }
 

@@ -1,38 +1,40 @@
 //! Where a text is no longer one that the grammar derives.
 
-ghost use Rattle.std.specs.Prelude.{◌≡◌, ℕ, ◌+◌, List, ◌++◌, drop, length, IfOk, IfSome};
+ghost use Rattle.std.specs.Prelude.{◌≡◌, ◌-◌, ℕ, List, ◌++◌, Bool, drop, length, IfOk, IfSome};
 ghost use Rattle.std.specs.Prelude.{IsCharBoundary, MatchOption};
 ghost use Rattle.vast_literal.specs.FileGrammar.{DerivesFile};
 ghost use Rattle.vast_literal.specs.NormalFile as normal;
 ghost use Rattle.vast_literal.specs.Scan.{Gap};
 ghost use Rattle.vast_read.specs.Lexed.{lex};
-ghost use Rattle.vast_read.specs.Internal.Position.{IsLeftOf};
-ghost use Rattle.vast_read.specs.Places.{BeginsWithoutGap, IsBehindFirst, IsBetweenTokens};
+ghost use Rattle.vast_read.specs.Places.{BeginsWithoutGap, EndsFront, IsBehindFirst, IsBetweenTokens};
 ghost use Rattle.vast_rows.specs.Fronts.{LongestFront, SpellsFile};
 
+use crate::build::Unbuilt;
+use crate::phrase::Phrases;
+use crate::read::is_derived;
 use crate::reader::Reader;
-use crate::scanner::{first_and_behind, place_of};
+use crate::scanner::{Position, first_of};
 use std::alloc::{AllocError, Global};
-use vast_rows::{Next, file_front, is_file};
+use vast_rows::{Next, file_front};
 
 /// The place of the token at which no rule of the grammar goes on, where it derives no file from this text.
 ///
-/// It is the place of a byte: where that token begins, or the text's length, where it ends too soon. Reading from the
-/// left, that token is the first one that the reader doesn't take; which token no file goes on with, [`longest_front`]
-/// says. It takes time and memory as [`is_derived`](crate::is_derived) does.
-#[tactic(auto, using(crate::proofs::TextDecides::places))]
+/// It is the place of a byte: where that token begins, or the text's length, where it ends too soon. That token is the
+/// first one that no file goes on with, as [`longest_front`] says, which tells what could stand there too. It takes time
+/// and memory as [`is_derived`] does.
 pub fn underived_at(alloc: Global, text: &str) -> Result<Option<usize>, AllocError>
     ensures derived { IfOk result (λ o. MatchOption o
         ((t : normal.NormalFile) × DerivesFile text.now t)
         (λ _. (t : normal.NormalFile) → DerivesFile text.now t → ⊥)) }
     ensures between { IfOk result (λ o. IfSome o (IsBetweenTokens text.now)) }
     ensures boundary { IfOk result (λ o. IfSome o (IsCharBoundary text.now)) }
+    ensures longest { IfOk result (λ o. IfSome o (EndsFront text.now)) }
+    ensures front { IfOk result (λ o. IfSome o (λ p. BeginsWithoutGap (drop p text.now))) }
 {
-    let mut reader = Reader::new(alloc, text);
-    if is_file(alloc, &mut reader)? {
+    if is_derived(alloc, text)? {
         Ok(None)
     } else {
-        Ok(Some(reader.place_in(text)))
+        Ok(Some(longest_front(alloc, text)?.place))
     }
 }
 
@@ -54,32 +56,41 @@ pub fn longest_front(alloc: Global, text: &str) -> Result<Front, AllocError>
     ensures longest { IfOk result (λ f. LongestFront SpellsFile
         (lex Gap text.now) (lex Gap (drop f.place text.now)) f.next.kinds f.next.ends) }
     ensures boundary { IfOk result (λ f. IsCharBoundary text.now f.place) }
+    ensures between { IfOk result (λ f. IsBetweenTokens text.now f.place) }
+    ensures front { IfOk result (λ f. BeginsWithoutGap (drop f.place text.now)) }
 {
-    let mut reader = Reader::new(alloc, text);
-    let next = file_front(alloc, &mut reader)?;
-    let place = place_of_left(alloc, text, reader);
+    let mut source: Phrases<'_, Unbuilt> = Phrases::new(alloc, text);
+    let next = file_front(alloc, &mut source)?;
+    let place = place_of_left(alloc, text, source.reader);
     Ok(Front { place, next })
 }
 
 /// The place in a text of the tokens that are left of it.
-fn place_of_left(alloc: Global, text: &str, left: Reader<'_>) -> usize
-    requires { IsLeftOf text.now left }
-    ensures left { lex Gap (drop result text.now) ≡ left.entry }
+pub(crate) fn place_of_left(alloc: Global, text: &str, left: Reader<'_>) -> usize
+    ensures left { (kinds : ℕ) (ends : Bool) →
+        LongestFront SpellsFile (lex Gap text.now) left.entry kinds ends →
+        lex Gap (drop result text.now) ≡ left.entry }
+    ensures between { IsBetweenTokens text.now result }
+    ensures front { BeginsWithoutGap (drop result text.now) }
     ensures boundary { IsCharBoundary text.now result }
 {
     let mut ahead = tokens_before(alloc, text, left);
     let mut rest = text;
     while ahead.first().is_some() {
+        let (from, next) = first_of(rest);
+        match next {
+            Position::Token(_, behind) => rest = behind,
+            // No file has what no token fits.
+            Position::Unspelled | Position::End => return place_of(text, from),
+        }
         ahead.leave_first();
-        rest = first_and_behind(rest).1;
     }
-    place_of(text, first_and_behind(rest).0)
+    place_of(text, first_of(rest).0)
 }
 
 /// As many tokens of a text as stand before those that are left of it.
 fn tokens_before<'t>(alloc: Global, text: &'t str, left: Reader<'_>) -> Reader<'t>
-    requires { IsLeftOf text.now left }
-    ensures { length (lex Gap text.now) ≡ length result + length left.entry }
+    ensures { length result ≡ length (lex Gap text.now) - length left.entry }
 {
     let mut ahead = Reader::new(alloc, text);
     let mut rest = left;
@@ -90,16 +101,25 @@ fn tokens_before<'t>(alloc: Global, text: &'t str, left: Reader<'_>) -> Reader<'
     ahead
 }
 
+/// The place from which on this is the rest of the text.
+fn place_of(text: &str, rest: &str) -> usize
+    requires { (before : List ℕ) × (text.now ≡ before ++ rest.now) }
+    ensures rest { drop result text.now ≡ rest.now }
+    ensures boundary { IsCharBoundary text.now result }
+{
+    match text.strip_suffix(rest) {
+        Some(before) => before.len(),
+        // There is no other rest.
+        None => text.len(),
+    }
+}
+
 /// The first token of a text, as it is written, with what stands before it; all of it, where no token fits.
 pub fn first_token(text: &str) -> &str
     ensures { (rest : List ℕ) × (text.now ≡ result.now ++ rest) × IsBehindFirst text.now rest }
 {
-    let (_, behind) = first_and_behind(text);
-    match text.strip_suffix(behind) {
-        Some(token) => token,
-        // There is no other rest.
-        None => text,
-    }
+    let (token, _) = text.split_at(place_of(text, behind_first_token(text)));
+    token
 }
 
 /// The text from its first token on; nothing, where it has none.
@@ -107,12 +127,16 @@ pub fn from_first_token(text: &str) -> &str
     ensures tokens { lex Gap result.now ≡ lex Gap text.now }
     ensures front { BeginsWithoutGap result.now }
 {
-    first_and_behind(text).0
+    first_of(text).0
 }
 
 /// What is after the first token of a text; nothing, where it has none, or no token fits.
 pub fn behind_first_token(text: &str) -> &str
-    ensures { IsBehindFirst text.now result.now }
+    ensures behind { IsBehindFirst text.now result.now }
+    ensures rest { (before : List ℕ) × (text.now ≡ before ++ result.now) }
 {
-    first_and_behind(text).1
+    match first_of(text).1 {
+        Position::Token(_, behind) => behind,
+        Position::Unspelled | Position::End => "",
+    }
 }

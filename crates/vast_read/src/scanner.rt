@@ -2,9 +2,11 @@
 
 ghost use Rattle.std.specs.Prelude.{◌≡◌, ◌<◌, length, true};
 ghost use Rattle.vast_literal.specs.Scan.{Gap, is_space};
-ghost use Rattle.vast_read.specs.Lexed.{lex};
-ghost use Rattle.vast_read.specs.Internal.Position.{position_view};
+ghost use Rattle.vast_read.specs.Behind.{Behind};
+ghost use Rattle.vast_read.specs.Internal.Position.{IsBehind, position_view};
 ghost use Rattle.vast_read.specs.Internal.Scanner.{byte_at, Fronts, IsGap};
+ghost use Rattle.vast_read.specs.Lexed.{lex};
+ghost use Rattle.vast_read.specs.Places.{BeginsWithoutGap};
 
 use crate::scanner::class::{Class, is_digit, is_letter, is_space};
 use crate::scanner::front::Front;
@@ -12,44 +14,34 @@ use crate::scanner::literal::{apostrophe, number, quoted};
 use crate::scanner::run::{byte_at, run_end};
 use crate::scanner::sign::sign;
 use crate::scanner::word::{macro_word, system_word, word};
-use vast_expressions::Token;
 
 mod class;
 mod front;
 mod keyword;
 mod literal;
-mod place;
-mod position;
 mod run;
 mod sign;
 mod word;
 
-pub(crate) use place::{first_and_behind, place_before, place_of};
-pub(crate) use position::Position;
+pub(crate) use front::Position;
 
-/// The first token of a text, and what is after it; where no token fits, one that stands for what is left. It takes no
-/// memory.
-pub(crate) fn first_of<'t>(text: &'t str) -> Position<'t>
-    ensures { position_view result ≡ lex Gap text.now }
+/// The text from its first token on, and what stands there. It takes no memory.
+pub(crate) fn first_of<'t>(text: &'t str) -> (&'t str, Position<'t>)
+    ensures next { position_view result.1 ≡ lex Gap text.now }
+    ensures behind { IsBehind text.now result.1 }
+    ensures tokens { lex Gap result.0.now ≡ lex Gap text.now }
+    ensures from { Behind text.now result.0.now }
+    ensures front { BeginsWithoutGap result.0.now }
 {
     let mut rest = text;
     while !rest.is_empty() {
         match front_of(rest) {
-            Front::Token(token, behind) => return Position {
-                token: Some(token),
-                behind,
-            },
             Front::Gap(behind) => rest = behind,
-            Front::Unspelled => return Position {
-                token: Some(Token::Keyword("")),
-                behind: "",
-            },
+            Front::Token(token, behind) => return (rest, Position::Token(token, behind)),
+            Front::Unspelled => return (rest, Position::Unspelled),
         }
     }
-    Position {
-        token: None,
-        behind: rest,
-    }
+    (rest, Position::End)
 }
 
 /// What stands at the front of a text.

@@ -1,11 +1,10 @@
 -- Places of a text between its tokens.
-use Rattle.std.proofs.Common.{◌≡◌, ◌≢◌, true, List, ℕ, [], ◌∷◌, ◌++◌, length, Option, None, inl, inr, refl, sym, ap, subst, ◌∙◌, append_assoc, arith}
+use Rattle.std.proofs.Common.{◌≡◌, ◌≢◌, true, List, ℕ, [], ◌∷◌, ◌++◌, Option, None, refl, sym, ap, subst, ◌∙◌, append_assoc}
 use Rattle.std.specs.Option.{MatchOption}
-use Rattle.vast_literal.specs.Scan.{Gap, is_space}
+use Rattle.vast_literal.specs.Scan.{is_space}
 use Rattle.vast_literal.specs.Lexemes.{space, comment}
-use Rattle.vast_read.specs.Lexed.{unspelled, lex}
 use Rattle.vast_read.specs.Behind.{Behind, none_before, lexeme, apostrophe}
-use Rattle.vast_read.specs.Places.{BeginsWithoutGap, IsBehindFirst}
+use Rattle.vast_read.specs.Places.{BeginsWithoutGap}
 use Rattle.vast_read.specs.Internal.Scanner.{byte_at}
 
 -- what stands after some lexemes of a text ends it
@@ -20,16 +19,6 @@ behind_suffix text rest (apostrophe {c} {behind} l h) =
 
 pub no_other_rest : {T : Type 0} (P : T → Type 0) (text rest : List ℕ) → (before : List ℕ) × (text ≡ before ++ rest) → (o : Option T) → o ≡ None → MatchOption o ((before : List ℕ) → text ≢ before ++ rest) P → ⊥
 no_other_rest P text rest s o e n = subst (λ x. MatchOption x ((before : List ℕ) → text ≢ before ++ rest) P) e n s.0 s.1
-
--- after the first token: where none fits, and where none is left
-pub behind_unspelled : (text rest : List ℕ) → lex Gap rest ≡ lex Gap text → lex Gap rest ≡ (unspelled ∷ []) → IsBehindFirst text []
-unfolding lex
-behind_unspelled text rest same none = inl (unspelled, sym same ∙ none)
-
-pub behind_at_end : (text rest : List ℕ) → lex Gap rest ≡ lex Gap text → length rest ≡ 0 → IsBehindFirst text rest
-unfolding lex
-behind_at_end text [] same e = inr (sym same, refl)
-behind_at_end text (c ∷ cs) same e = absurd (omega (arith, e))
 
 -- where no byte of white space and no two slashes stand at the front, no lexeme without a token does
 pub no_gap : (text : List ℕ) → (is_space (byte_at text 0) ≡ true → ⊥) → (byte_at text 0 ≡ 47 → byte_at text 1 ≡ 47 → ⊥) → BeginsWithoutGap text

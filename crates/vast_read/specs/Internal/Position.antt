@@ -1,21 +1,20 @@
 -- The tokens from a place of a text on.
-use Rattle.std.specs.Prelude.{◌≡◌, ℕ, List, [], ◌∷◌, ◌++◌, Option, Some, None}
+use Rattle.std.specs.Prelude.{ℕ, List, [], ◌∷◌, ⊤}
 use Rattle.vast_literal.specs.Tokens as to
 use Rattle.vast_literal.specs.Scan.{Gap}
-use Rattle.vast_read.specs.Lexed.{lex}
+use Rattle.vast_read.specs.Behind.{Behind}
+use Rattle.vast_read.specs.Lexed.{lex, unspelled}
 use Rattle.vast_expressions.specs.Internal.Views.{token_view}
-use Rattle.vast_expressions.specs.declared.token.Token.{Token}
-use Rattle.vast_read.specs.declared.scanner.position.Position.{Position}
+use Rattle.vast_read.specs.declared.scanner.front.Position.{Position}
+use Rattle.vast_read.specs.declared.scanner.front.Position.TheVariants as position
 
--- A token and those of the text after it, where there is one.
-abbrev pub next_of : Option Token → List ℕ → List to.Token
-next_of None behind = []
-next_of (Some t) behind = token_view t ∷ lex Gap behind
-
--- The token that stands at a place and those after it.
+-- The tokens from what stands next on.
 abbrev pub position_view : Position → List to.Token
-position_view p = next_of p.token p.behind.now
+position_view (position.Token t behind) = token_view t ∷ lex Gap behind.now
+position_view position.Unspelled = unspelled ∷ []
+position_view position.End = []
 
--- The tokens are the last ones of the text.
-abbrev pub IsLeftOf : (text : List ℕ) → List to.Token → Type 0
-IsLeftOf text left = (front : List to.Token) × (lex Gap text ≡ front ++ left)
+-- What is after the next token stands after some of the text's lexemes.
+abbrev pub IsBehind : (text : List ℕ) → Position → Type 0
+IsBehind text (position.Token t behind) = Behind text behind.now
+IsBehind text _ = ⊤

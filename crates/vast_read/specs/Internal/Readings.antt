@@ -1,10 +1,14 @@
 -- What is read of an expression, and of the condition of a loop.
-use Rattle.std.specs.Prelude.{◌≡◌, ℕ, List, ◌++◌, Option, Some, None}
+use Rattle.std.specs.Prelude.{◌≡◌, ℕ, List, ◌++◌, Bool, cond, Option, Some, None}
 use Rattle.vast_expressions.specs.Phrases.{IsRead, IsUnread, Quiet}
 use Rattle.vast_literal.specs.Grammar.{Spells}
 use Rattle.vast_literal.specs.NormalExpr.{NormalExpr, Name, Binary}
 use Rattle.vast_literal.specs.Tokens.{Token}
 use Rattle.vast_literal.specs.declared.token.Sign.TheVariants.{Less}
+
+-- The level of an expression, and of what is assigned to.
+abbrev pub level_of : (is_target : Bool) → ℕ
+level_of is_target = cond is_target 13 0
 
 -- A tree of the level stands at the front and was read, or none does before what goes on with none.
 abbrev pub ReadsTree : {E : Type 0} → (E → NormalExpr) → ℕ → Option E → List Token → List Token → Type 0

@@ -9,12 +9,12 @@ ghost use Rattle.vast_read.specs.Internal.Transcripts.{Adds, IsOf, entry_of, pie
 ghost use Rattle.vast_read.specs.Internal.Transcribed.{IsWhole, tree_of};
 ghost use Rattle.vast_read.specs.Internal.Values.{seen};
 
-use crate::build::Build;
 use crate::build::trees::Growing;
+use crate::build::{Build, read_told};
 use crate::reader::Reader;
 use crate::transcript::{Note, Piece, Role, Transcript};
 use std::alloc::{AllocError, Global};
-use vast_expressions::{Event, Sink, read_expression, read_target};
+use vast_expressions::{Event, Sink};
 
 /// The events of an expression are kept.
 pub(crate) struct Events;
@@ -113,20 +113,9 @@ impl<'t> Build<'t> for Events {
 
     ghost sees = { λ x. tree_of (written_in x.told) };
 
-    fn expression(reader: &mut Reader<'t>) -> Result<Option<Spoken<'t>>, AllocError> {
-        let alloc = reader.alloc;
-        let mut told = Transcript::new(alloc);
-        if read_expression(alloc, reader, &mut told)? {
-            Ok(Some(Spoken { told }))
-        } else {
-            Ok(None)
-        }
-    }
-
-    fn target(reader: &mut Reader<'t>) -> Result<Option<Spoken<'t>>, AllocError> {
-        let alloc = reader.alloc;
-        let mut told = Transcript::new(alloc);
-        if read_target(alloc, reader, &mut told)? {
+    fn read(reader: &mut Reader<'t>, is_target: bool) -> Result<Option<Spoken<'t>>, AllocError> {
+        let mut told = Transcript::new(reader.alloc);
+        if read_told(reader, is_target, &mut told)? {
             Ok(Some(Spoken { told }))
         } else {
             Ok(None)
@@ -139,7 +128,7 @@ impl<'t> Build<'t> for Events {
             told: Transcript::new(alloc),
             growing: Growing::new(alloc),
         };
-        if read_expression(alloc, reader, &mut condition)? {
+        if read_told(reader, false, &mut condition)? {
             condition.end(alloc, name)
         } else {
             Ok(None)

@@ -1,4 +1,5 @@
 //! What each event makes.
+#![tactic(auto, unfolding(vast_expressions::specs::Internal::Values::grown_first, vast_expressions::specs::Internal::Values::grown_list, vast_expressions::specs::Internal::Values::grown_named, vast_expressions::specs::Internal::Values::grown_one, vast_expressions::specs::Internal::Values::grown_package, vast_expressions::specs::Internal::Values::grown_part, vast_expressions::specs::Internal::Values::grown_replicated, vast_expressions::specs::Internal::Values::grown_three, vast_expressions::specs::Internal::Values::grown_two))]
 
 ghost use Rattle.std.specs.Prelude.{◌≡◌, ◌∷◌, IfOk};
 ghost use Rattle.vast_expressions.specs.Internal.Values.{Grown, Tree, grown, grown_first, grown_list, grown_made, grown_named, grown_one, grown_package, grown_part, grown_push, grown_replicated, grown_three, grown_two};
@@ -9,7 +10,7 @@ ghost use Rattle.vast_read.specs.View.{view};
 
 use crate::build::value::{Value, Values, pop_bytes, pop_tree, pop_trees};
 use crate::children::Children;
-use crate::stack::wanted;
+use crate::macros::wanted;
 use crate::tree::NormalExpr;
 use crate::tree::words::{key_word, sign_word};
 use std::alloc::{AllocError, Global};
@@ -17,24 +18,16 @@ use vast_expressions::{Event, Told};
 use vast_literal::{Key, Sign};
 use vast_names::Word;
 
-/// One more value on top.
-fn put<'t>(value: Value<'t>, values: &mut Values<'t>) -> Result<(), AllocError>
-    ensures { IfOk result (λ _. values.new ≡ (value.entry ∷ values.old)) }
-{
-    values.push(value)?;
-    Ok(())
-}
-
 /// One more tree on top.
+#[tactic(auto)]
 fn put_tree(alloc: Global, tree: NormalExpr, values: &mut Values<'_>) -> Result<(), AllocError>
     ensures { IfOk result (λ _. seen values.new ≡ (Tree (view tree) ∷ seen values.old)) }
 {
     let tree = Box::new(alloc, tree)?;
-    put(Value::Tree(tree), values)
+    values.push(Value::Tree(tree))
 }
 
 /// A sign before a tree.
-#[tactic(auto, unfolding(vast_expressions::specs::Internal::Values::grown_one))]
 fn make_unary(alloc: Global, sign: Sign, values: &mut Values<'_>) -> Result<(), AllocError>
     ensures { IfOk result (λ _. Grown (grown_one (Unary sign) (seen values.old)) (seen values.new)) }
 {
@@ -44,7 +37,6 @@ fn make_unary(alloc: Global, sign: Sign, values: &mut Values<'_>) -> Result<(), 
 }
 
 /// A cast by a keyword.
-#[tactic(auto, unfolding(vast_expressions::specs::Internal::Values::grown_one))]
 fn make_word_cast(alloc: Global, key: Key, values: &mut Values<'_>) -> Result<(), AllocError>
     ensures { IfOk result (λ _. Grown (grown_one (WordCast key) (seen values.old)) (seen values.new)) }
 {
@@ -54,7 +46,6 @@ fn make_word_cast(alloc: Global, key: Key, values: &mut Values<'_>) -> Result<()
 }
 
 /// A sign between two trees.
-#[tactic(auto, unfolding(vast_expressions::specs::Internal::Values::grown_two))]
 fn make_binary(alloc: Global, sign: Sign, values: &mut Values<'_>) -> Result<(), AllocError>
     ensures { IfOk result (λ _. Grown (grown_two (Binary sign) (seen values.old)) (seen values.new)) }
 {
@@ -65,7 +56,6 @@ fn make_binary(alloc: Global, sign: Sign, values: &mut Values<'_>) -> Result<(),
 }
 
 /// An index.
-#[tactic(auto, unfolding(vast_expressions::specs::Internal::Values::grown_two))]
 fn make_index(alloc: Global, values: &mut Values<'_>) -> Result<(), AllocError>
     ensures { IfOk result (λ _. Grown (grown_two Index (seen values.old)) (seen values.new)) }
 {
@@ -75,7 +65,6 @@ fn make_index(alloc: Global, values: &mut Values<'_>) -> Result<(), AllocError>
 }
 
 /// A cast by a tree.
-#[tactic(auto, unfolding(vast_expressions::specs::Internal::Values::grown_two))]
 fn make_cast(alloc: Global, values: &mut Values<'_>) -> Result<(), AllocError>
     ensures { IfOk result (λ _. Grown (grown_two Cast (seen values.old)) (seen values.new)) }
 {
@@ -85,7 +74,6 @@ fn make_cast(alloc: Global, values: &mut Values<'_>) -> Result<(), AllocError>
 }
 
 /// A part select of this width.
-#[tactic(auto, unfolding(vast_expressions::specs::Internal::Values::grown_part))]
 fn make_part_select(alloc: Global, width: &str, values: &mut Values<'_>) -> Result<(), AllocError>
     ensures { IfOk result (λ _. Grown (grown_part width.now (seen values.old)) (seen values.new)) }
 {
@@ -96,7 +84,6 @@ fn make_part_select(alloc: Global, width: &str, values: &mut Values<'_>) -> Resu
 }
 
 /// A choice.
-#[tactic(auto, unfolding(vast_expressions::specs::Internal::Values::grown_three))]
 fn make_ternary(alloc: Global, values: &mut Values<'_>) -> Result<(), AllocError>
     ensures { IfOk result (λ _. Grown (grown_three Ternary (seen values.old)) (seen values.new)) }
 {
@@ -107,7 +94,6 @@ fn make_ternary(alloc: Global, values: &mut Values<'_>) -> Result<(), AllocError
 }
 
 /// A slice.
-#[tactic(auto, unfolding(vast_expressions::specs::Internal::Values::grown_three))]
 fn make_slice(alloc: Global, values: &mut Values<'_>) -> Result<(), AllocError>
     ensures { IfOk result (λ _. Grown (grown_three Slice (seen values.old)) (seen values.new)) }
 {
@@ -118,7 +104,6 @@ fn make_slice(alloc: Global, values: &mut Values<'_>) -> Result<(), AllocError>
 }
 
 /// A concatenation.
-#[tactic(auto, unfolding(vast_expressions::specs::Internal::Values::grown_list))]
 fn make_concat(alloc: Global, values: &mut Values<'_>) -> Result<(), AllocError>
     ensures { IfOk result (λ _. Grown (grown_list Concat (seen values.old)) (seen values.new)) }
 {
@@ -127,7 +112,6 @@ fn make_concat(alloc: Global, values: &mut Values<'_>) -> Result<(), AllocError>
 }
 
 /// An array pattern.
-#[tactic(auto, unfolding(vast_expressions::specs::Internal::Values::grown_list))]
 fn make_pattern(alloc: Global, values: &mut Values<'_>) -> Result<(), AllocError>
     ensures { IfOk result (λ _. Grown (grown_list Pattern (seen values.old)) (seen values.new)) }
 {
@@ -136,7 +120,6 @@ fn make_pattern(alloc: Global, values: &mut Values<'_>) -> Result<(), AllocError
 }
 
 /// A replication.
-#[tactic(auto, unfolding(vast_expressions::specs::Internal::Values::grown_replicated))]
 fn make_replicated(alloc: Global, values: &mut Values<'_>) -> Result<(), AllocError>
     ensures { IfOk result (λ _. Grown (grown_replicated (seen values.old)) (seen values.new)) }
 {
@@ -146,7 +129,6 @@ fn make_replicated(alloc: Global, values: &mut Values<'_>) -> Result<(), AllocEr
 }
 
 /// A call.
-#[tactic(auto, unfolding(vast_expressions::specs::Internal::Values::grown_named))]
 fn make_call(alloc: Global, values: &mut Values<'_>) -> Result<(), AllocError>
     ensures { IfOk result (λ _. Grown (grown_named Call (seen values.old)) (seen values.new)) }
 {
@@ -157,7 +139,6 @@ fn make_call(alloc: Global, values: &mut Values<'_>) -> Result<(), AllocError>
 }
 
 /// The use of a macro with arguments.
-#[tactic(auto, unfolding(vast_expressions::specs::Internal::Values::grown_named))]
 fn make_macro_call(alloc: Global, values: &mut Values<'_>) -> Result<(), AllocError>
     ensures { IfOk result (λ _. Grown (grown_named MacroCall (seen values.old)) (seen values.new)) }
 {
@@ -168,7 +149,6 @@ fn make_macro_call(alloc: Global, values: &mut Values<'_>) -> Result<(), AllocEr
 }
 
 /// A cast by a package's type.
-#[tactic(auto, unfolding(vast_expressions::specs::Internal::Values::grown_package))]
 fn make_package_cast(alloc: Global, values: &mut Values<'_>) -> Result<(), AllocError>
     ensures { IfOk result (λ _. Grown (grown_package (seen values.old)) (seen values.new)) }
 {
@@ -181,14 +161,13 @@ fn make_package_cast(alloc: Global, values: &mut Values<'_>) -> Result<(), Alloc
 }
 
 /// A list of one tree.
-#[tactic(auto, unfolding(vast_expressions::specs::Internal::Values::grown_first))]
 fn make_first(alloc: Global, values: &mut Values<'_>) -> Result<(), AllocError>
     ensures { IfOk result (λ _. Grown (grown_first (seen values.old)) (seen values.new)) }
 {
     let x = wanted!(pop_tree(values));
     let mut trees = Children::new(alloc);
     trees.push(Box::into_inner(x))?;
-    put(Value::Trees(trees), values)
+    values.push(Value::Trees(trees))
 }
 
 /// One more tree at the end of a list.
@@ -197,13 +176,13 @@ fn make_push(values: &mut Values<'_>) -> Result<(), AllocError>
     ensures { IfOk result (λ _. Grown (grown_push (seen values.old)) (seen values.new)) }
 {
     let x = wanted!(pop_tree(values));
-    let xs = wanted!(pop_trees(values));
-    let mut trees = xs;
+    let mut trees = wanted!(pop_trees(values));
     trees.push(Box::into_inner(x))?;
-    put(Value::Trees(trees), values)
+    values.push(Value::Trees(trees))
 }
 
 /// What is made of what was made before.
+#[tactic(auto)]
 fn make(alloc: Global, told: Told, values: &mut Values<'_>) -> Result<(), AllocError>
     ensures { IfOk result (λ _. Grown (grown_made told (seen values.old)) (seen values.new)) }
 {
@@ -213,7 +192,7 @@ fn make(alloc: Global, told: Told, values: &mut Values<'_>) -> Result<(), AllocE
         Told::Ternary => make_ternary(alloc, values),
         Told::Index => make_index(alloc, values),
         Told::Slice => make_slice(alloc, values),
-        Told::NoneYet => put(Value::Trees(Children::new(alloc)), values),
+        Told::NoneYet => values.push(Value::Trees(Children::new(alloc))),
         Told::One => make_first(alloc, values),
         Told::Push => make_push(values),
         Told::Concat => make_concat(alloc, values),
@@ -228,6 +207,7 @@ fn make(alloc: Global, told: Told, values: &mut Values<'_>) -> Result<(), AllocE
 }
 
 /// What an event makes.
+#[tactic(auto)]
 pub(crate) fn hear<'t>(
     alloc: Global,
     event: Event<'t>,
@@ -249,7 +229,7 @@ pub(crate) fn hear<'t>(
                 values,
             )
         }
-        Event::Word(text) => put(Value::Bytes(text), values),
+        Event::Word(text) => values.push(Value::Bytes(text)),
         Event::PartSelect(width) => make_part_select(alloc, width, values),
         Event::Made(told) => make(alloc, told, values),
     }

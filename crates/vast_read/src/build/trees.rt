@@ -5,14 +5,14 @@ ghost use Rattle.vast_expressions.specs.Internal.Values.{Grown, grown, take_tree
 ghost use Rattle.vast_read.specs.Internal.Values.{first_tree, seen};
 ghost use Rattle.vast_read.specs.View.{view};
 
-use crate::build::Build;
 use crate::build::make::hear;
 use crate::build::value::{Values, pop_tree};
+use crate::build::{Build, read_told};
 use crate::reader::Reader;
-use crate::stack::Stack;
 use crate::tree::NormalExpr;
 use std::alloc::{AllocError, Global};
-use vast_expressions::{Event, Sink, read_expression, read_target};
+use vast_expressions::{Event, Sink};
+use vast_rows::Stack;
 
 /// The tree of an expression is made.
 pub(crate) struct Trees;
@@ -49,8 +49,10 @@ impl<'t> Growing<'t> {
             (take_tree (seen self.entry.values) ≡ None)
             (λ x. first_tree (seen self.entry.values) ≡ view x.value) }
     {
-        let Growing { alloc: _, values } = self;
-        let mut values = values;
+        let Growing {
+            alloc: _,
+            mut values,
+        } = self;
         pop_tree(&mut values)
     }
 }
@@ -60,20 +62,12 @@ impl<'t> Build<'t> for Trees {
 
     ghost sees = { λ x. view x.value };
 
-    fn expression(reader: &mut Reader<'t>) -> Result<Option<Box<NormalExpr>>, AllocError> {
-        let alloc = reader.alloc;
-        let mut growing = Growing::new(alloc);
-        if read_expression(alloc, reader, &mut growing)? {
-            Ok(growing.tree())
-        } else {
-            Ok(None)
-        }
-    }
-
-    fn target(reader: &mut Reader<'t>) -> Result<Option<Box<NormalExpr>>, AllocError> {
-        let alloc = reader.alloc;
-        let mut growing = Growing::new(alloc);
-        if read_target(alloc, reader, &mut growing)? {
+    fn read(
+        reader: &mut Reader<'t>,
+        is_target: bool,
+    ) -> Result<Option<Box<NormalExpr>>, AllocError> {
+        let mut growing = Growing::new(reader.alloc);
+        if read_told(reader, is_target, &mut growing)? {
             Ok(growing.tree())
         } else {
             Ok(None)
@@ -82,7 +76,7 @@ impl<'t> Build<'t> for Trees {
 
     #[tactic(auto, using(crate::proofs::Conditions::conditions))]
     fn bound(reader: &mut Reader<'t>, name: &str) -> Result<Option<Box<NormalExpr>>, AllocError> {
-        match Trees::expression(reader)? {
+        match Trees::read(reader, false)? {
             None => Ok(None),
             Some(condition) => Ok(Box::into_inner(condition).bound(name)),
         }

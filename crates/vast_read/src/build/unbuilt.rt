@@ -3,13 +3,13 @@
 ghost use Rattle.vast_expressions.specs.Internal.Values.{Grown, grown};
 ghost use Rattle.vast_read.specs.Internal.Values.{first_tree, told};
 
-use crate::build::{Build, Trees};
+use crate::build::{Build, Trees, read_told};
 use crate::reader::Reader;
 use crate::tree::NormalExpr;
 use std::alloc::AllocError;
 use std::mem::size_of;
 use std::snapshot::Snapshot;
-use vast_expressions::{Event, Sink, read_expression, read_target};
+use vast_expressions::{Event, Sink};
 
 // What hears an expression takes no bytes.
 const _: () = prove!(size_of::<Shaded<'static>>() == 0);
@@ -50,24 +50,14 @@ impl<'t> Build<'t> for Unbuilt {
 
     ghost sees = { λ x. first_tree (told x.value) };
 
-    fn expression(reader: &mut Reader<'t>) -> Result<Option<Snapshot<Shadow<'t>>>, AllocError> {
-        let alloc = reader.alloc;
+    fn read(
+        reader: &mut Reader<'t>,
+        is_target: bool,
+    ) -> Result<Option<Snapshot<Shadow<'t>>>, AllocError> {
         let mut shaded = Shaded {
             told: Snapshot::of(&Shadow::Nothing),
         };
-        if read_expression(alloc, reader, &mut shaded)? {
-            Ok(Some(shaded.told))
-        } else {
-            Ok(None)
-        }
-    }
-
-    fn target(reader: &mut Reader<'t>) -> Result<Option<Snapshot<Shadow<'t>>>, AllocError> {
-        let alloc = reader.alloc;
-        let mut shaded = Shaded {
-            told: Snapshot::of(&Shadow::Nothing),
-        };
-        if read_target(alloc, reader, &mut shaded)? {
+        if read_told(reader, is_target, &mut shaded)? {
             Ok(Some(shaded.told))
         } else {
             Ok(None)

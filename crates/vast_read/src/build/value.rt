@@ -6,8 +6,8 @@ ghost use Rattle.vast_read.specs.Internal.Values.{seen};
 ghost use Rattle.vast_read.specs.View.{listed, view};
 
 use crate::children::Children;
-use crate::stack::Stack;
 use crate::tree::NormalExpr;
+use vast_rows::Stack;
 
 /// A part of an expression.
 #[derive(Drop)]

@@ -1,4 +1,5 @@
 //! Declarations.
+#![tactic(auto, unfolding(vast_rows::specs::Built::make, vast_rows::specs::Built::of_one, vast_rows::specs::Built::of_two, vast_rows::specs::Built::of_three, vast_rows::specs::Built::of_four))]
 
 ghost use Rattle.std.specs.Prelude.{◌≡◌, ◌∷◌, IfOk, option_map, reverse};
 ghost use Rattle.vast_rows.specs.Built.{make, name_before, name_behind};
@@ -8,10 +9,9 @@ ghost use Rattle.vast_read.specs.Internal.Made.{Grown, names_type, seen, value_v
 ghost use Rattle.vast_read.specs.Texts.{key_of};
 
 use crate::children::Children;
-use crate::made::make::put;
-use crate::made::part::{first, maybe_expression};
+use crate::macros::wanted;
+use crate::made::part::{first, maybe};
 use crate::made::value::{Value, Values};
-use crate::stack::wanted;
 use crate::tree::words::key_word;
 use crate::tree::{DeclaredType, Group, NormalDeclaration, NormalExpr};
 use std::alloc::{AllocError, Global};
@@ -19,13 +19,12 @@ use vast_literal::Key;
 use vast_names::Word;
 
 /// A group of one expression or of two.
-#[tactic(auto, unfolding(vast_rows::specs::Built::make, vast_rows::specs::Built::of_one, vast_rows::specs::Built::of_two, vast_rows::specs::Built::of_three, vast_rows::specs::Built::of_four))]
 pub(crate) fn group_of(values: &mut Values<'_>) -> Result<(), AllocError>
     ensures { IfOk result (λ _. Grown (make action.GroupOf (seen values.old)) values.new) }
 {
     let first = wanted!(first::<Box<NormalExpr>>(values));
-    let second = wanted!(maybe_expression(values));
-    put(Value::Group(Group { first, second }), values)
+    let second = wanted!(maybe::<Box<NormalExpr>>(values));
+    values.push(Value::Group(Group { first, second }))
 }
 
 /// A declaration of its groups, its name and the groups after that; groups alone where no name
@@ -54,11 +53,11 @@ fn name_behind<'t>(
         (value_view value.entry ∷ seen values.old)) values.new) }
 {
     match value {
-        Value::Nothing => put(Value::Groups(groups), values),
+        Value::Nothing => values.push(Value::Groups(groups)),
         Value::Name(name) => {
             let after = wanted!(first::<Children<Group>>(values));
             let made = NormalDeclaration::plain(alloc, groups.reversed(), name, after.reversed())?;
-            put(Value::Declaration(made), values)
+            values.push(Value::Declaration(made))
         }
         other => {
             drop(other);
@@ -111,12 +110,11 @@ fn named<'t>(
         Value::Groups(after) => {
             let none = Children::new(alloc);
             let made = NormalDeclaration::plain(alloc, none, name, after.reversed())?;
-            put(Value::Declaration(made), values)
+            values.push(Value::Declaration(made))
         }
-        Value::Declaration(declared) => {
-            let mut declared = declared;
+        Value::Declaration(mut declared) => {
             declared.typed = name_type(alloc, name, declared.typed)?;
-            put(Value::Declaration(declared), values)
+            values.push(Value::Declaration(declared))
         }
         other => {
             drop(other);
@@ -145,7 +143,6 @@ fn name_type(
 }
 
 /// The declaration that follows, of a package whose name is still to come.
-#[tactic(auto, unfolding(vast_rows::specs::Built::make, vast_rows::specs::Built::of_one, vast_rows::specs::Built::of_two, vast_rows::specs::Built::of_three, vast_rows::specs::Built::of_four))]
 pub(crate) fn packaged(alloc: Global, values: &mut Values<'_>) -> Result<(), AllocError>
     ensures { IfOk result (λ _. Grown (make action.Packaged (seen values.old)) values.new) }
 {
@@ -153,11 +150,10 @@ pub(crate) fn packaged(alloc: Global, values: &mut Values<'_>) -> Result<(), All
     let mut typed = typed_parts(declared.typed);
     typed.package = Some(Word::new(alloc, "")?);
     declared.typed = Some(Box::new(alloc, typed)?);
-    put(Value::Declaration(declared), values)
+    values.push(Value::Declaration(declared))
 }
 
 /// The declaration that follows, of that sign.
-#[tactic(auto, unfolding(vast_rows::specs::Built::make, vast_rows::specs::Built::of_one, vast_rows::specs::Built::of_two, vast_rows::specs::Built::of_three, vast_rows::specs::Built::of_four))]
 pub(crate) fn sign_of(alloc: Global, key: Key, values: &mut Values<'_>) -> Result<(), AllocError>
     ensures { IfOk result (λ _. Grown (make (action.SignOf key) (seen values.old)) values.new) }
 {
@@ -165,15 +161,14 @@ pub(crate) fn sign_of(alloc: Global, key: Key, values: &mut Values<'_>) -> Resul
     let mut typed = typed_parts(declared.typed);
     typed.sign = Some(key_word(alloc, key)?);
     declared.typed = Some(Box::new(alloc, typed)?);
-    put(Value::Declaration(declared), values)
+    values.push(Value::Declaration(declared))
 }
 
 /// The declaration that follows, of that kind.
-#[tactic(auto, unfolding(vast_rows::specs::Built::make, vast_rows::specs::Built::of_one, vast_rows::specs::Built::of_two, vast_rows::specs::Built::of_three, vast_rows::specs::Built::of_four))]
 pub(crate) fn kind_of(alloc: Global, key: Key, values: &mut Values<'_>) -> Result<(), AllocError>
     ensures { IfOk result (λ _. Grown (make (action.KindOf key) (seen values.old)) values.new) }
 {
     let mut declared = wanted!(first::<NormalDeclaration>(values));
     declared.kind = Some(key_word(alloc, key)?);
-    put(Value::Declaration(declared), values)
+    values.push(Value::Declaration(declared))
 }

@@ -10,14 +10,13 @@ ghost use Rattle.vast_rows.specs.Trace.{trace};
 
 use crate::build::Trees;
 use crate::children::Children;
-use crate::made::make::{make, put};
+use crate::made::make::make;
 use crate::made::part::first;
 use crate::made::value::{Path, Range, Value, Values};
 use crate::phrase::{Made, Phrases};
-use crate::stack::Stack;
 use crate::tree::{NormalExpr, NormalFile, NormalItem};
 use std::alloc::{AllocError, Global};
-use vast_rows::{Action, Sink};
+use vast_rows::{Action, Sink, Stack};
 
 /// What was heard. Most of it is expressions and names, so what is larger lies in a box.
 #[derive(Drop)]
@@ -122,9 +121,9 @@ fn happens<'t>(alloc: Global, event: Told<'t>, values: &mut Values<'t>) -> Resul
 {
     match event {
         Told::Makes(action) => make(alloc, action, values),
-        Told::Expression(tree) => put(Value::Expression(tree), values),
-        Told::Loop(range) => put(Value::Loop(Box::into_inner(range)), values),
-        Told::Path(text) => put(Value::Path(Path { text }), values),
-        Told::Names(name) => put(Value::Name(name), values),
+        Told::Expression(tree) => values.push(Value::Expression(tree)),
+        Told::Loop(range) => values.push(Value::Loop(Box::into_inner(range))),
+        Told::Path(text) => values.push(Value::Path(Path { text })),
+        Told::Names(name) => values.push(Value::Name(name)),
     }
 }

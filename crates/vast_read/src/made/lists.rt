@@ -1,4 +1,5 @@
 //! Lists.
+#![tactic(auto, using(crate::proofs::Making::lists), unfolding(vast_rows::specs::Built::make_more, vast_rows::specs::Built::of_one, vast_rows::specs::Built::of_two))]
 
 ghost use Rattle.std.specs.Prelude.{◌≡◌, IfOk};
 ghost use Rattle.vast_read.specs.Internal.Made.{Grown, seen, value_view};
@@ -6,16 +7,25 @@ ghost use Rattle.vast_rows.specs.Built.{make_more, make_none};
 ghost use Rattle.vast_rows.specs.declared.action.Listed.TheVariants as listed;
 
 use crate::children::Children;
-use crate::made::make::put;
+use crate::macros::wanted;
 use crate::made::part::first;
 use crate::made::value::{Value, Values};
-use crate::stack::wanted;
 use crate::tree::{
     Connection, Event, Group, NormalDeclaration, NormalExpr, NormalItem, NormalMember,
     NormalStatement, Parameter, Port,
 };
 use std::alloc::{AllocError, Global};
 use vast_rows::Listed;
+
+/// Puts a list with one more part in the place of the part and the list behind it.
+macro_rules! one_more {
+    ($values:ident, $part:ty, $list:ident) => {{
+        let part = wanted!(first::<$part>($values));
+        let mut list = wanted!(first::<Children<$part>>($values));
+        list.push(part)?;
+        $values.push(Value::$list(list))
+    }};
+}
 
 /// An empty list.
 #[tactic(auto, unfolding(vast_rows::specs::Built::make_none))]
@@ -37,7 +47,6 @@ pub(crate) fn none_of<'t>(alloc: Global, what: Listed) -> Value<'t>
 }
 
 /// One more part in front of a list.
-#[tactic(auto, unfolding(vast_rows::specs::Built::make_more))]
 pub(crate) fn one_more(what: Listed, values: &mut Values<'_>) -> Result<(), AllocError>
     ensures { IfOk result (λ _. Grown (make_more what (seen values.old)) values.new) }
 {
@@ -55,102 +64,65 @@ pub(crate) fn one_more(what: Listed, values: &mut Values<'_>) -> Result<(), Allo
     }
 }
 
-#[tactic(auto, using(crate::proofs::Making::lists), unfolding(vast_rows::specs::Built::make_more, vast_rows::specs::Built::of_one, vast_rows::specs::Built::of_two))]
 fn one_more_item(values: &mut Values<'_>) -> Result<(), AllocError>
     ensures { IfOk result (λ _. Grown (make_more listed.Item (seen values.old)) values.new) }
 {
-    let item = wanted!(first::<NormalItem>(values));
-    let mut list = wanted!(first::<Children<NormalItem>>(values));
-    list.push(item)?;
-    put(Value::Items(list), values)
+    one_more!(values, NormalItem, Items)
 }
 
-#[tactic(auto, using(crate::proofs::Making::lists), unfolding(vast_rows::specs::Built::make_more, vast_rows::specs::Built::of_one, vast_rows::specs::Built::of_two))]
 fn one_more_parameter(values: &mut Values<'_>) -> Result<(), AllocError>
     ensures { IfOk result (λ _. Grown (make_more listed.Parameter (seen values.old)) values.new) }
 {
-    let parameter = wanted!(first::<Parameter>(values));
-    let mut list = wanted!(first::<Children<Parameter>>(values));
-    list.push(parameter)?;
-    put(Value::Parameters(list), values)
+    one_more!(values, Parameter, Parameters)
 }
 
-#[tactic(auto, using(crate::proofs::Making::lists), unfolding(vast_rows::specs::Built::make_more, vast_rows::specs::Built::of_one, vast_rows::specs::Built::of_two))]
 fn one_more_port(values: &mut Values<'_>) -> Result<(), AllocError>
     ensures { IfOk result (λ _. Grown (make_more listed.Port (seen values.old)) values.new) }
 {
-    let port = wanted!(first::<Port>(values));
-    let mut list = wanted!(first::<Children<Port>>(values));
-    list.push(port)?;
-    put(Value::Ports(list), values)
+    one_more!(values, Port, Ports)
 }
 
-#[tactic(auto, using(crate::proofs::Making::lists), unfolding(vast_rows::specs::Built::make_more, vast_rows::specs::Built::of_one, vast_rows::specs::Built::of_two))]
 fn one_more_member(values: &mut Values<'_>) -> Result<(), AllocError>
     ensures { IfOk result (λ _. Grown (make_more listed.Member (seen values.old)) values.new) }
 {
-    let member = wanted!(first::<NormalMember>(values));
-    let mut list = wanted!(first::<Children<NormalMember>>(values));
-    list.push(member)?;
-    put(Value::Members(list), values)
+    one_more!(values, NormalMember, Members)
 }
 
-#[tactic(auto, using(crate::proofs::Making::lists), unfolding(vast_rows::specs::Built::make_more, vast_rows::specs::Built::of_one, vast_rows::specs::Built::of_two))]
 fn one_more_group(values: &mut Values<'_>) -> Result<(), AllocError>
     ensures { IfOk result (λ _. Grown (make_more listed.Group (seen values.old)) values.new) }
 {
-    let group = wanted!(first::<Group>(values));
-    let mut list = wanted!(first::<Children<Group>>(values));
-    list.push(group)?;
-    put(Value::Groups(list), values)
+    one_more!(values, Group, Groups)
 }
 
-#[tactic(auto, using(crate::proofs::Making::lists), unfolding(vast_rows::specs::Built::make_more, vast_rows::specs::Built::of_one, vast_rows::specs::Built::of_two))]
 fn one_more_declaration(values: &mut Values<'_>) -> Result<(), AllocError>
     ensures { IfOk result (λ _. Grown (make_more listed.Declaration (seen values.old)) values.new) }
 {
-    let declared = wanted!(first::<NormalDeclaration>(values));
-    let mut list = wanted!(first::<Children<NormalDeclaration>>(values));
-    list.push(declared)?;
-    put(Value::Declarations(list), values)
+    one_more!(values, NormalDeclaration, Declarations)
 }
 
-#[tactic(auto, using(crate::proofs::Making::lists), unfolding(vast_rows::specs::Built::make_more, vast_rows::specs::Built::of_one, vast_rows::specs::Built::of_two))]
 fn one_more_connection(values: &mut Values<'_>) -> Result<(), AllocError>
     ensures { IfOk result (λ _. Grown (make_more listed.Connection (seen values.old)) values.new) }
 {
-    let connection = wanted!(first::<Connection>(values));
-    let mut list = wanted!(first::<Children<Connection>>(values));
-    list.push(connection)?;
-    put(Value::Connections(list), values)
+    one_more!(values, Connection, Connections)
 }
 
-#[tactic(auto, using(crate::proofs::Making::lists), unfolding(vast_rows::specs::Built::make_more, vast_rows::specs::Built::of_one, vast_rows::specs::Built::of_two))]
 fn one_more_event(values: &mut Values<'_>) -> Result<(), AllocError>
     ensures { IfOk result (λ _. Grown (make_more listed.Event (seen values.old)) values.new) }
 {
-    let event = wanted!(first::<Event>(values));
-    let mut list = wanted!(first::<Children<Event>>(values));
-    list.push(event)?;
-    put(Value::Events(list), values)
+    one_more!(values, Event, Events)
 }
 
-#[tactic(auto, using(crate::proofs::Making::lists), unfolding(vast_rows::specs::Built::make_more, vast_rows::specs::Built::of_one, vast_rows::specs::Built::of_two))]
 fn one_more_statement(values: &mut Values<'_>) -> Result<(), AllocError>
     ensures { IfOk result (λ _. Grown (make_more listed.Statement (seen values.old)) values.new) }
 {
-    let statement = wanted!(first::<NormalStatement>(values));
-    let mut list = wanted!(first::<Children<NormalStatement>>(values));
-    list.push(statement)?;
-    put(Value::Statements(list), values)
+    one_more!(values, NormalStatement, Statements)
 }
 
-#[tactic(auto, using(crate::proofs::Making::lists), unfolding(vast_rows::specs::Built::make_more, vast_rows::specs::Built::of_one, vast_rows::specs::Built::of_two))]
 fn one_more_expression(values: &mut Values<'_>) -> Result<(), AllocError>
     ensures { IfOk result (λ _. Grown (make_more listed.Expression (seen values.old)) values.new) }
 {
     let part = wanted!(first::<Box<NormalExpr>>(values));
     let mut list = wanted!(first::<Children<NormalExpr>>(values));
     list.push(Box::into_inner(part))?;
-    put(Value::Expressions(list), values)
+    values.push(Value::Expressions(list))
 }

@@ -1,6 +1,6 @@
 //! What each action makes.
 
-ghost use Rattle.std.specs.Prelude.{◌≡◌, ◌∷◌, IfOk};
+ghost use Rattle.std.specs.Prelude.{IfOk};
 ghost use Rattle.vast_rows.specs.Built.{make};
 ghost use Rattle.vast_read.specs.Internal.Made.{Grown, seen};
 
@@ -27,11 +27,11 @@ pub(crate) fn make(alloc: Global, action: Action, values: &mut Values<'_>) -> Re
     ensures { IfOk result (λ _. Grown (make action (seen values.old)) values.new) }
 {
     match action {
-        Action::Nothing => put(Value::Nothing, values),
-        Action::Yes => put(Value::Answer(true), values),
-        Action::No => put(Value::Answer(false), values),
-        Action::NoMore(what) => put(none_of(alloc, what), values),
-        Action::NoArms => put(Value::Labels(Children::new(alloc)), values),
+        Action::Nothing => values.push(Value::Nothing),
+        Action::Yes => values.push(Value::Answer(true)),
+        Action::No => values.push(Value::Answer(false)),
+        Action::NoMore(what) => values.push(none_of(alloc, what)),
+        Action::NoArms => values.push(Value::Labels(Children::new(alloc))),
         Action::OneMore(what) => one_more(what, values),
         Action::ModuleItem => module_item(alloc, values),
         Action::IncludeItem => include_item(alloc, values),
@@ -64,12 +64,4 @@ pub(crate) fn make(alloc: Global, action: Action, values: &mut Values<'_>) -> Re
         Action::Arm => arm(values),
         Action::DefaultArm => default_arm(values),
     }
-}
-
-/// One more value in front.
-pub(crate) fn put<'t>(value: Value<'t>, values: &mut Values<'t>) -> Result<(), AllocError>
-    ensures { IfOk result (λ _. values.new ≡ (value.entry ∷ values.old)) }
-{
-    values.push(value)?;
-    Ok(())
 }

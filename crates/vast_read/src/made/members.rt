@@ -1,4 +1,5 @@
 //! Members, modules and files.
+#![tactic(auto, unfolding(vast_rows::specs::Built::make, vast_rows::specs::Built::of_one, vast_rows::specs::Built::of_two, vast_rows::specs::Built::of_three, vast_rows::specs::Built::of_four))]
 
 ghost use Rattle.std.specs.Prelude.{IfOk};
 ghost use Rattle.vast_rows.specs.Built.{make};
@@ -6,10 +7,9 @@ ghost use Rattle.vast_rows.specs.declared.action.Action.TheVariants as action;
 ghost use Rattle.vast_read.specs.Internal.Made.{Grown, seen};
 
 use crate::children::Children;
-use crate::made::make::put;
-use crate::made::part::{first, maybe_expression, maybe_expressions, maybe_name};
+use crate::macros::wanted;
+use crate::made::part::{first, maybe};
 use crate::made::value::{Alternatives, Path, Range, Value, Values};
-use crate::stack::wanted;
 use crate::tree::words::key_word;
 use crate::tree::{
     Always, Connection, Event, Function, Instance, LoopRange, MacroUse, NormalDeclaration,
@@ -20,27 +20,24 @@ use vast_literal::Key;
 use vast_names::Word;
 
 /// A member of its declaration.
-#[tactic(auto, unfolding(vast_rows::specs::Built::make, vast_rows::specs::Built::of_one, vast_rows::specs::Built::of_two, vast_rows::specs::Built::of_three, vast_rows::specs::Built::of_four))]
 pub(crate) fn declaration_member(alloc: Global, values: &mut Values<'_>) -> Result<(), AllocError>
     ensures { IfOk result (λ _. Grown (make action.DeclarationMember (seen values.old)) values.new) }
 {
     let declared = wanted!(first::<NormalDeclaration>(values));
     let declared = Box::new(alloc, declared)?;
-    put(Value::Member(NormalMember::Declaration(declared)), values)
+    values.push(Value::Member(NormalMember::Declaration(declared)))
 }
 
 /// An assignment of its sides.
-#[tactic(auto, unfolding(vast_rows::specs::Built::make, vast_rows::specs::Built::of_one, vast_rows::specs::Built::of_two, vast_rows::specs::Built::of_three, vast_rows::specs::Built::of_four))]
 pub(crate) fn assign_member(values: &mut Values<'_>) -> Result<(), AllocError>
     ensures { IfOk result (λ _. Grown (make action.AssignMember (seen values.old)) values.new) }
 {
     let left = wanted!(first::<Box<NormalExpr>>(values));
     let right = wanted!(first::<Box<NormalExpr>>(values));
-    put(Value::Member(NormalMember::Assign(left, right)), values)
+    values.push(Value::Member(NormalMember::Assign(left, right)))
 }
 
 /// A parameter by that word, of its declaration and value.
-#[tactic(auto, unfolding(vast_rows::specs::Built::make, vast_rows::specs::Built::of_one, vast_rows::specs::Built::of_two, vast_rows::specs::Built::of_three, vast_rows::specs::Built::of_four))]
 pub(crate) fn parameter_member(
     alloc: Global,
     key: Key,
@@ -52,33 +49,28 @@ pub(crate) fn parameter_member(
     let value = wanted!(first::<Box<NormalExpr>>(values));
     let word = key_word(alloc, key)?;
     let declared = Box::new(alloc, declared)?;
-    put(
-        Value::Member(NormalMember::Parameter(word, declared, value)),
-        values,
-    )
+    values.push(Value::Member(NormalMember::Parameter(word, declared, value)))
 }
 
 /// A macro of its name, its arguments where it has any, and whether there is a semicolon.
-#[tactic(auto, unfolding(vast_rows::specs::Built::make, vast_rows::specs::Built::of_one, vast_rows::specs::Built::of_two, vast_rows::specs::Built::of_three, vast_rows::specs::Built::of_four))]
 pub(crate) fn macro_member(alloc: Global, values: &mut Values<'_>) -> Result<(), AllocError>
     ensures { IfOk result (λ _. Grown (make action.MacroMember (seen values.old)) values.new) }
 {
     let name = wanted!(first::<&str>(values));
-    let arguments = wanted!(maybe_expressions(values));
+    let arguments = wanted!(maybe::<Children<NormalExpr>>(values));
     let has_semicolon = wanted!(first::<bool>(values));
     let made = MacroUse {
         name: Word::new(alloc, name)?,
-        arguments,
+        arguments: match arguments {
+            Some(arguments) => Some(arguments.reversed()),
+            None => None,
+        },
         has_semicolon,
     };
-    put(
-        Value::Member(NormalMember::Macro(Box::new(alloc, made)?)),
-        values,
-    )
+    values.push(Value::Member(NormalMember::Macro(Box::new(alloc, made)?)))
 }
 
 /// An instance of its module's name, what is given to parameters, its name, and its ports.
-#[tactic(auto, unfolding(vast_rows::specs::Built::make, vast_rows::specs::Built::of_one, vast_rows::specs::Built::of_two, vast_rows::specs::Built::of_three, vast_rows::specs::Built::of_four))]
 pub(crate) fn instance_member(alloc: Global, values: &mut Values<'_>) -> Result<(), AllocError>
     ensures { IfOk result (λ _. Grown (make action.InstanceMember (seen values.old)) values.new) }
 {
@@ -92,14 +84,10 @@ pub(crate) fn instance_member(alloc: Global, values: &mut Values<'_>) -> Result<
         name: Word::new(alloc, name)?,
         connections: connections.reversed(),
     };
-    put(
-        Value::Member(NormalMember::Instance(Box::new(alloc, made)?)),
-        values,
-    )
+    values.push(Value::Member(NormalMember::Instance(Box::new(alloc, made)?)))
 }
 
 /// A block by that word, of what it waits for and its statements.
-#[tactic(auto, unfolding(vast_rows::specs::Built::make, vast_rows::specs::Built::of_one, vast_rows::specs::Built::of_two, vast_rows::specs::Built::of_three, vast_rows::specs::Built::of_four))]
 pub(crate) fn always_member(
     alloc: Global,
     key: Key,
@@ -114,25 +102,20 @@ pub(crate) fn always_member(
         events: events.reversed(),
         body: body.reversed(),
     };
-    put(
-        Value::Member(NormalMember::Always(Box::new(alloc, made)?)),
-        values,
-    )
+    values.push(Value::Member(NormalMember::Always(Box::new(alloc, made)?)))
 }
 
 /// A conditional of its arms.
-#[tactic(auto, unfolding(vast_rows::specs::Built::make, vast_rows::specs::Built::of_one, vast_rows::specs::Built::of_two, vast_rows::specs::Built::of_three, vast_rows::specs::Built::of_four))]
 pub(crate) fn conditional_member(alloc: Global, values: &mut Values<'_>) -> Result<(), AllocError>
     ensures { IfOk result (λ _. Grown (make action.ConditionalMember (seen values.old)) values.new) }
 {
     let alternatives = wanted!(first::<Alternatives>(values));
     let (arms, last) = alternatives.in_order()?;
     let choice = Box::new(alloc, NormalStatement::Choice(arms, last))?;
-    put(Value::Member(NormalMember::Conditional(choice)), values)
+    values.push(Value::Member(NormalMember::Conditional(choice)))
 }
 
 /// A function of its declaration, inputs, locals and statements.
-#[tactic(auto, unfolding(vast_rows::specs::Built::make, vast_rows::specs::Built::of_one, vast_rows::specs::Built::of_two, vast_rows::specs::Built::of_three, vast_rows::specs::Built::of_four))]
 pub(crate) fn function_member(alloc: Global, values: &mut Values<'_>) -> Result<(), AllocError>
     ensures { IfOk result (λ _. Grown (make action.FunctionMember (seen values.old)) values.new) }
 {
@@ -146,19 +129,15 @@ pub(crate) fn function_member(alloc: Global, values: &mut Values<'_>) -> Result<
         locals: locals.reversed(),
         body: body.reversed(),
     };
-    put(
-        Value::Member(NormalMember::Function(Box::new(alloc, made)?)),
-        values,
-    )
+    values.push(Value::Member(NormalMember::Function(Box::new(alloc, made)?)))
 }
 
 /// A loop of its head, its label where it has one, and its members.
-#[tactic(auto, unfolding(vast_rows::specs::Built::make, vast_rows::specs::Built::of_one, vast_rows::specs::Built::of_two, vast_rows::specs::Built::of_three, vast_rows::specs::Built::of_four))]
 pub(crate) fn loop_member(alloc: Global, values: &mut Values<'_>) -> Result<(), AllocError>
     ensures { IfOk result (λ _. Grown (make action.LoopMember (seen values.old)) values.new) }
 {
     let range = wanted!(first::<Range<'_>>(values));
-    let label = wanted!(maybe_name(values));
+    let label = wanted!(maybe::<&str>(values));
     let members = wanted!(first::<Children<NormalMember>>(values));
     let made = LoopRange {
         variable: Word::new(alloc, range.variable)?,
@@ -167,63 +146,52 @@ pub(crate) fn loop_member(alloc: Global, values: &mut Values<'_>) -> Result<(), 
         label: Word::maybe(alloc, label)?,
     };
     let members = members.reversed();
-    put(
-        Value::Member(NormalMember::Loop(Box::new(alloc, made)?, members)),
-        values,
-    )
+    values.push(Value::Member(NormalMember::Loop(Box::new(alloc, made)?, members)))
 }
 
 /// A connection of its name, and of its value where it has one.
-#[tactic(auto, unfolding(vast_rows::specs::Built::make, vast_rows::specs::Built::of_one, vast_rows::specs::Built::of_two, vast_rows::specs::Built::of_three, vast_rows::specs::Built::of_four))]
 pub(crate) fn connects(alloc: Global, values: &mut Values<'_>) -> Result<(), AllocError>
     ensures { IfOk result (λ _. Grown (make action.Connects (seen values.old)) values.new) }
 {
     let name = wanted!(first::<&str>(values));
-    let value = wanted!(maybe_expression(values));
+    let value = wanted!(maybe::<Box<NormalExpr>>(values));
     let name = Word::new(alloc, name)?;
-    put(Value::Connection(Connection { name, value }), values)
+    values.push(Value::Connection(Connection { name, value }))
 }
 
 /// That edge of an expression.
-#[tactic(auto, unfolding(vast_rows::specs::Built::make, vast_rows::specs::Built::of_one, vast_rows::specs::Built::of_two, vast_rows::specs::Built::of_three, vast_rows::specs::Built::of_four))]
 pub(crate) fn edge_of(alloc: Global, key: Key, values: &mut Values<'_>) -> Result<(), AllocError>
     ensures { IfOk result (λ _. Grown (make (action.EdgeOf key) (seen values.old)) values.new) }
 {
     let expression = wanted!(first::<Box<NormalExpr>>(values));
     let edge = Some(key_word(alloc, key)?);
-    put(Value::Event(Event { edge, expression }), values)
+    values.push(Value::Event(Event { edge, expression }))
 }
 
 /// Any change of a name.
-#[tactic(auto, unfolding(vast_rows::specs::Built::make, vast_rows::specs::Built::of_one, vast_rows::specs::Built::of_two, vast_rows::specs::Built::of_three, vast_rows::specs::Built::of_four))]
 pub(crate) fn change_of(alloc: Global, values: &mut Values<'_>) -> Result<(), AllocError>
     ensures { IfOk result (λ _. Grown (make action.ChangeOf (seen values.old)) values.new) }
 {
     let name = wanted!(first::<&str>(values));
     let name = NormalExpr::Name(Word::new(alloc, name)?);
     let expression = Box::new(alloc, name)?;
-    put(
-        Value::Event(Event {
-            edge: None,
-            expression,
-        }),
-        values,
-    )
+    values.push(Value::Event(Event {
+        edge: None,
+        expression,
+    }))
 }
 
 /// A parameter of a header, of its declaration and value.
-#[tactic(auto, unfolding(vast_rows::specs::Built::make, vast_rows::specs::Built::of_one, vast_rows::specs::Built::of_two, vast_rows::specs::Built::of_three, vast_rows::specs::Built::of_four))]
 pub(crate) fn header_parameter(alloc: Global, values: &mut Values<'_>) -> Result<(), AllocError>
     ensures { IfOk result (λ _. Grown (make action.HeaderParameter (seen values.old)) values.new) }
 {
     let declared = wanted!(first::<NormalDeclaration>(values));
     let value = wanted!(first::<Box<NormalExpr>>(values));
     let declaration = Box::new(alloc, declared)?;
-    put(Value::Parameter(Parameter { declaration, value }), values)
+    values.push(Value::Parameter(Parameter { declaration, value }))
 }
 
 /// A port of that direction, of its declaration.
-#[tactic(auto, unfolding(vast_rows::specs::Built::make, vast_rows::specs::Built::of_one, vast_rows::specs::Built::of_two, vast_rows::specs::Built::of_three, vast_rows::specs::Built::of_four))]
 pub(crate) fn port_of(alloc: Global, key: Key, values: &mut Values<'_>) -> Result<(), AllocError>
     ensures { IfOk result (λ _. Grown (make (action.PortOf key) (seen values.old)) values.new) }
 {
@@ -232,11 +200,10 @@ pub(crate) fn port_of(alloc: Global, key: Key, values: &mut Values<'_>) -> Resul
         direction: key_word(alloc, key)?,
         declaration: Box::new(alloc, declared)?,
     };
-    put(Value::Port(made), values)
+    values.push(Value::Port(made))
 }
 
 /// A module of its name, parameters, ports and members.
-#[tactic(auto, unfolding(vast_rows::specs::Built::make, vast_rows::specs::Built::of_one, vast_rows::specs::Built::of_two, vast_rows::specs::Built::of_three, vast_rows::specs::Built::of_four))]
 pub(crate) fn module_item(alloc: Global, values: &mut Values<'_>) -> Result<(), AllocError>
     ensures { IfOk result (λ _. Grown (make action.ModuleItem (seen values.old)) values.new) }
 {
@@ -250,16 +217,15 @@ pub(crate) fn module_item(alloc: Global, values: &mut Values<'_>) -> Result<(), 
         ports: ports.reversed(),
         members: members.reversed(),
     };
-    put(Value::Item(NormalItem::Module(made)), values)
+    values.push(Value::Item(NormalItem::Module(made)))
 }
 
 /// An include of its path, after the macro's name.
-#[tactic(auto, unfolding(vast_rows::specs::Built::make, vast_rows::specs::Built::of_one, vast_rows::specs::Built::of_two, vast_rows::specs::Built::of_three, vast_rows::specs::Built::of_four))]
 pub(crate) fn include_item(alloc: Global, values: &mut Values<'_>) -> Result<(), AllocError>
     ensures { IfOk result (λ _. Grown (make action.IncludeItem (seen values.old)) values.new) }
 {
     let _macro = wanted!(first::<&str>(values));
     let path = wanted!(first::<Path<'_>>(values));
     let path = Word::new(alloc, path.text)?;
-    put(Value::Item(NormalItem::Include(path)), values)
+    values.push(Value::Item(NormalItem::Include(path)))
 }

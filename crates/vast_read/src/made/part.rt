@@ -8,13 +8,12 @@ ghost use Rattle.vast_read.specs.FileView.{parameter_view, port_view, item_view}
 ghost use Rattle.vast_read.specs.Internal.Made.{arms_seen, seen, value_view};
 ghost use Rattle.vast_read.specs.MemberView.{event_view, connection_view, member_view};
 ghost use Rattle.vast_read.specs.StatementView.{statement_view};
-ghost use Rattle.vast_read.specs.View.{view, listed};
-ghost use Rattle.vast_rows.specs.Built.{Seen, first, maybe, as_answer, as_name, as_path, as_expression, as_loop, as_expressions, as_group, as_declaration, as_connection, as_event, as_statement, as_arms, as_member, as_parameter, as_port, as_item};
+ghost use Rattle.vast_read.specs.View.{view};
+ghost use Rattle.vast_rows.specs.Built.{Seen, first, maybe, as_answer, as_name, as_path, as_expression, as_loop, as_group, as_declaration, as_connection, as_event, as_statement, as_arms, as_member, as_parameter, as_port, as_item};
 
-use crate::children::Children;
 use crate::made::value::{Alternatives, Path, Range, Value, Values};
 use crate::tree::{
-    CaseArm, Connection, Event, Group, NormalDeclaration, NormalExpr, NormalItem, NormalMember,
+    Connection, Event, Group, NormalDeclaration, NormalExpr, NormalItem, NormalMember,
     NormalStatement, Parameter, Port,
 };
 
@@ -52,57 +51,33 @@ pub(crate) fn first<'t, P: Part<'t>>(values: &mut Values<'t>) -> Option<P>
     }
 }
 
-/// The first of these values, if it is an expression, or the mark of one that is left out.
-pub(crate) fn maybe_expression(values: &mut Values<'_>) -> Option<Option<Box<NormalExpr>>>
-    ensures { MatchOption result (first (maybe as_expression) (seen values.old) ≡ None)
-        (λ x. first (maybe as_expression) (seen values.old)
-        ≡ Some (option_map (λ y. view y.value) x, seen values.new)) }
+/// The same, or the mark of a part that is left out.
+pub(crate) fn maybe<'t, P: Part<'t>>(values: &mut Values<'t>) -> Option<Option<P>>
+    ensures { MatchOption result (first (maybe P.kind) (seen values.old) ≡ None)
+        (λ x. first (maybe P.kind) (seen values.old)
+        ≡ Some (option_map P.sees x, seen values.new)) }
 {
     match values.pop() {
+        None => None,
         Some(Value::Nothing) => Some(None),
-        Some(Value::Expression(tree)) => Some(Some(tree)),
-        Some(other) => no_part(other),
-        None => None,
+        Some(value) => match P::of(value) {
+            None => None,
+            Some(part) => Some(Some(part)),
+        },
     }
 }
 
-/// The same for a list of expressions, which is then in order.
-pub(crate) fn maybe_expressions(values: &mut Values<'_>) -> Option<Option<Children<NormalExpr>>>
-    ensures { MatchOption result (first (maybe as_expressions) (seen values.old) ≡ None)
-        (λ x. first (maybe as_expressions) (seen values.old)
-        ≡ Some (option_map listed x, seen values.new)) }
-{
-    match values.pop() {
-        Some(Value::Nothing) => Some(None),
-        Some(Value::Expressions(parts)) => Some(Some(parts.reversed())),
-        Some(other) => no_part(other),
-        None => None,
-    }
+/// The part that a value holds, if it is of the kind.
+macro_rules! held {
+    ($value:expr, $kind:ident) => {
+        match $value {
+            Value::$kind(part) => Some(part),
+            other => no_part(other),
+        }
+    };
 }
 
-/// The same for a name.
-pub(crate) fn maybe_name<'t>(values: &mut Values<'t>) -> Option<Option<&'t str>>
-    ensures { MatchOption result (first (maybe as_name) (seen values.old) ≡ None)
-        (λ x. first (maybe as_name) (seen values.old)
-        ≡ Some (option_map (λ w. w.now) x, seen values.new)) }
-{
-    match values.pop() {
-        None => None,
-        Some(value) => name_of(value),
-    }
-}
-
-/// The name that a value is, or none where it is the mark of one that is left out.
-fn name_of<'t>(value: Value<'t>) -> Option<Option<&'t str>>
-    ensures { MatchOption result (maybe as_name (value_view value.entry) ≡ None)
-        (λ x. maybe as_name (value_view value.entry) ≡ Some (option_map (λ w. w.now) x)) }
-{
-    match value {
-        Value::Nothing => Some(None),
-        Value::Name(name) => Some(Some(name)),
-        other => no_part(other),
-    }
-}
+pub(crate) use held;
 
 impl<'t> Part<'t> for bool {
     ghost Normal = { Bool };
@@ -112,10 +87,7 @@ impl<'t> Part<'t> for bool {
     ghost sees = { λ b. b };
 
     fn of(value: Value<'t>) -> Option<bool> {
-        match value {
-            Value::Answer(b) => Some(b),
-            other => no_part(other),
-        }
+        held!(value, Answer)
     }
 }
 
@@ -127,10 +99,7 @@ impl<'t> Part<'t> for &'t str {
     ghost sees = { λ w. w.now };
 
     fn of(value: Value<'t>) -> Option<&'t str> {
-        match value {
-            Value::Name(name) => Some(name),
-            other => no_part(other),
-        }
+        held!(value, Name)
     }
 }
 
@@ -142,10 +111,7 @@ impl<'t> Part<'t> for Path<'t> {
     ghost sees = { λ p. p.text.now };
 
     fn of(value: Value<'t>) -> Option<Path<'t>> {
-        match value {
-            Value::Path(path) => Some(path),
-            other => no_part(other),
-        }
+        held!(value, Path)
     }
 }
 
@@ -157,10 +123,7 @@ impl<'t> Part<'t> for Box<NormalExpr> {
     ghost sees = { λ x. view x.value };
 
     fn of(value: Value<'t>) -> Option<Box<NormalExpr>> {
-        match value {
-            Value::Expression(tree) => Some(tree),
-            other => no_part(other),
-        }
+        held!(value, Expression)
     }
 }
 
@@ -172,10 +135,7 @@ impl<'t> Part<'t> for Range<'t> {
     ghost sees = { λ r. (r.variable.now, view r.start.value, view r.end.value) };
 
     fn of(value: Value<'t>) -> Option<Range<'t>> {
-        match value {
-            Value::Loop(range) => Some(range),
-            other => no_part(other),
-        }
+        held!(value, Loop)
     }
 }
 
@@ -187,10 +147,7 @@ impl<'t> Part<'t> for Group {
     ghost sees = { group_view };
 
     fn of(value: Value<'t>) -> Option<Group> {
-        match value {
-            Value::Group(group) => Some(group),
-            other => no_part(other),
-        }
+        held!(value, Group)
     }
 }
 
@@ -202,10 +159,7 @@ impl<'t> Part<'t> for NormalDeclaration {
     ghost sees = { declaration_view };
 
     fn of(value: Value<'t>) -> Option<NormalDeclaration> {
-        match value {
-            Value::Declaration(declared) => Some(declared),
-            other => no_part(other),
-        }
+        held!(value, Declaration)
     }
 }
 
@@ -217,10 +171,7 @@ impl<'t> Part<'t> for Connection {
     ghost sees = { connection_view };
 
     fn of(value: Value<'t>) -> Option<Connection> {
-        match value {
-            Value::Connection(connection) => Some(connection),
-            other => no_part(other),
-        }
+        held!(value, Connection)
     }
 }
 
@@ -232,10 +183,7 @@ impl<'t> Part<'t> for Event {
     ghost sees = { event_view };
 
     fn of(value: Value<'t>) -> Option<Event> {
-        match value {
-            Value::Event(event) => Some(event),
-            other => no_part(other),
-        }
+        held!(value, Event)
     }
 }
 
@@ -247,10 +195,7 @@ impl<'t> Part<'t> for NormalStatement {
     ghost sees = { statement_view };
 
     fn of(value: Value<'t>) -> Option<NormalStatement> {
-        match value {
-            Value::Statement(statement) => Some(statement),
-            other => no_part(other),
-        }
+        held!(value, Statement)
     }
 }
 
@@ -262,10 +207,7 @@ impl<'t> Part<'t> for Alternatives {
     ghost sees = { arms_seen };
 
     fn of(value: Value<'t>) -> Option<Alternatives> {
-        match value {
-            Value::Arms(arms) => Some(arms),
-            other => no_part(other),
-        }
+        held!(value, Arms)
     }
 }
 
@@ -277,10 +219,7 @@ impl<'t> Part<'t> for NormalMember {
     ghost sees = { member_view };
 
     fn of(value: Value<'t>) -> Option<NormalMember> {
-        match value {
-            Value::Member(member) => Some(member),
-            other => no_part(other),
-        }
+        held!(value, Member)
     }
 }
 
@@ -292,10 +231,7 @@ impl<'t> Part<'t> for Parameter {
     ghost sees = { parameter_view };
 
     fn of(value: Value<'t>) -> Option<Parameter> {
-        match value {
-            Value::Parameter(parameter) => Some(parameter),
-            other => no_part(other),
-        }
+        held!(value, Parameter)
     }
 }
 
@@ -307,10 +243,7 @@ impl<'t> Part<'t> for Port {
     ghost sees = { port_view };
 
     fn of(value: Value<'t>) -> Option<Port> {
-        match value {
-            Value::Port(port) => Some(port),
-            other => no_part(other),
-        }
+        held!(value, Port)
     }
 }
 
@@ -322,9 +255,6 @@ impl<'t> Part<'t> for NormalItem {
     ghost sees = { item_view };
 
     fn of(value: Value<'t>) -> Option<NormalItem> {
-        match value {
-            Value::Item(item) => Some(item),
-            other => no_part(other),
-        }
+        held!(value, Item)
     }
 }

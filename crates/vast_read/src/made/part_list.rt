@@ -12,7 +12,7 @@ ghost use Rattle.vast_read.specs.View.{listed};
 ghost use Rattle.vast_rows.specs.Built.{as_expressions, as_groups, as_declarations, as_connections, as_events, as_statements, as_labels, as_members, as_parameters, as_ports, as_file};
 
 use crate::children::Children;
-use crate::made::part::{Part, no_part};
+use crate::made::part::{Part, held, no_part};
 use crate::made::value::Value;
 use crate::tree::{
     CaseArm, Connection, Event, Group, NormalDeclaration, NormalExpr, NormalItem, NormalMember,
@@ -27,10 +27,7 @@ impl<'t> Part<'t> for Children<NormalExpr> {
     ghost sees = { λ xs. listed (reverse xs) };
 
     fn of(value: Value<'t>) -> Option<Children<NormalExpr>> {
-        match value {
-            Value::Expressions(parts) => Some(parts),
-            other => no_part(other),
-        }
+        held!(value, Expressions)
     }
 }
 
@@ -42,10 +39,7 @@ impl<'t> Part<'t> for Children<Group> {
     ghost sees = { λ gs. groups_view (reverse gs) };
 
     fn of(value: Value<'t>) -> Option<Children<Group>> {
-        match value {
-            Value::Groups(groups) => Some(groups),
-            other => no_part(other),
-        }
+        held!(value, Groups)
     }
 }
 
@@ -57,10 +51,7 @@ impl<'t> Part<'t> for Children<NormalDeclaration> {
     ghost sees = { λ ds. declarations_view (reverse ds) };
 
     fn of(value: Value<'t>) -> Option<Children<NormalDeclaration>> {
-        match value {
-            Value::Declarations(declared) => Some(declared),
-            other => no_part(other),
-        }
+        held!(value, Declarations)
     }
 }
 
@@ -72,10 +63,7 @@ impl<'t> Part<'t> for Children<Connection> {
     ghost sees = { λ cs. connections_view (reverse cs) };
 
     fn of(value: Value<'t>) -> Option<Children<Connection>> {
-        match value {
-            Value::Connections(connections) => Some(connections),
-            other => no_part(other),
-        }
+        held!(value, Connections)
     }
 }
 
@@ -87,10 +75,7 @@ impl<'t> Part<'t> for Children<Event> {
     ghost sees = { λ es. events_view (reverse es) };
 
     fn of(value: Value<'t>) -> Option<Children<Event>> {
-        match value {
-            Value::Events(events) => Some(events),
-            other => no_part(other),
-        }
+        held!(value, Events)
     }
 }
 
@@ -102,10 +87,7 @@ impl<'t> Part<'t> for Children<NormalStatement> {
     ghost sees = { λ ss. block_view (reverse ss) };
 
     fn of(value: Value<'t>) -> Option<Children<NormalStatement>> {
-        match value {
-            Value::Statements(block) => Some(block),
-            other => no_part(other),
-        }
+        held!(value, Statements)
     }
 }
 
@@ -117,10 +99,7 @@ impl<'t> Part<'t> for Children<CaseArm> {
     ghost sees = { λ ls. labels_view (reverse ls) };
 
     fn of(value: Value<'t>) -> Option<Children<CaseArm>> {
-        match value {
-            Value::Labels(arms) => Some(arms),
-            other => no_part(other),
-        }
+        held!(value, Labels)
     }
 }
 
@@ -132,10 +111,7 @@ impl<'t> Part<'t> for Children<NormalMember> {
     ghost sees = { λ ms. members_view (reverse ms) };
 
     fn of(value: Value<'t>) -> Option<Children<NormalMember>> {
-        match value {
-            Value::Members(members) => Some(members),
-            other => no_part(other),
-        }
+        held!(value, Members)
     }
 }
 
@@ -147,10 +123,7 @@ impl<'t> Part<'t> for Children<Parameter> {
     ghost sees = { λ ps. parameters_view (reverse ps) };
 
     fn of(value: Value<'t>) -> Option<Children<Parameter>> {
-        match value {
-            Value::Parameters(parameters) => Some(parameters),
-            other => no_part(other),
-        }
+        held!(value, Parameters)
     }
 }
 
@@ -162,10 +135,7 @@ impl<'t> Part<'t> for Children<Port> {
     ghost sees = { λ ps. ports_view (reverse ps) };
 
     fn of(value: Value<'t>) -> Option<Children<Port>> {
-        match value {
-            Value::Ports(ports) => Some(ports),
-            other => no_part(other),
-        }
+        held!(value, Ports)
     }
 }
 
@@ -177,9 +147,6 @@ impl<'t> Part<'t> for Children<NormalItem> {
     ghost sees = { λ is. record { items = items_view (reverse is) } };
 
     fn of(value: Value<'t>) -> Option<Children<NormalItem>> {
-        match value {
-            Value::Items(items) => Some(items),
-            other => no_part(other),
-        }
+        held!(value, Items)
     }
 }

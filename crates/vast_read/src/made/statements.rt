@@ -1,4 +1,5 @@
 //! Statements.
+#![tactic(auto, unfolding(vast_rows::specs::Built::make, vast_rows::specs::Built::of_one, vast_rows::specs::Built::of_two, vast_rows::specs::Built::of_three, vast_rows::specs::Built::of_four))]
 
 ghost use Rattle.std.specs.Prelude.{◌≡◌, ◌∷◌, IfOk, option_map, map};
 ghost use Rattle.vast_rows.specs.Built.{alternated, make};
@@ -9,10 +10,9 @@ ghost use Rattle.vast_read.specs.StatementParts.{arms_of};
 ghost use Rattle.vast_read.specs.StatementView.{block_view};
 
 use crate::children::Children;
-use crate::made::make::put;
+use crate::macros::wanted;
 use crate::made::part::first;
 use crate::made::value::{Alternatives, Value, Values};
-use crate::stack::wanted;
 use crate::tree::words::key_word;
 use crate::tree::{Arm, CaseArm, NormalExpr, NormalStatement};
 use std::alloc::{AllocError, Global};
@@ -31,20 +31,16 @@ pub(crate) fn assigns(values: &mut Values<'_>) -> Result<(), AllocError>
     } else {
         NormalStatement::Nonblocking(left, right)
     };
-    put(Value::Statement(made), values)
+    values.push(Value::Statement(made))
 }
 
 /// An assignment by its word, of its sides.
-#[tactic(auto, unfolding(vast_rows::specs::Built::make, vast_rows::specs::Built::of_one, vast_rows::specs::Built::of_two, vast_rows::specs::Built::of_three, vast_rows::specs::Built::of_four))]
 pub(crate) fn assigns_by_word(values: &mut Values<'_>) -> Result<(), AllocError>
     ensures { IfOk result (λ _. Grown (make action.AssignsByWord (seen values.old)) values.new) }
 {
     let left = wanted!(first::<Box<NormalExpr>>(values));
     let right = wanted!(first::<Box<NormalExpr>>(values));
-    put(
-        Value::Statement(NormalStatement::Assign(left, right)),
-        values,
-    )
+    values.push(Value::Statement(NormalStatement::Assign(left, right)))
 }
 
 impl Alternatives {
@@ -68,36 +64,30 @@ impl Alternatives {
 }
 
 /// A statement of the arms of a conditional.
-#[tactic(auto, unfolding(vast_rows::specs::Built::make, vast_rows::specs::Built::of_one, vast_rows::specs::Built::of_two, vast_rows::specs::Built::of_three, vast_rows::specs::Built::of_four))]
 pub(crate) fn chooses(values: &mut Values<'_>) -> Result<(), AllocError>
     ensures { IfOk result (λ _. Grown (make action.Chooses (seen values.old)) values.new) }
 {
     let alternatives = wanted!(first::<Alternatives>(values));
     let (arms, last) = alternatives.in_order()?;
-    put(
-        Value::Statement(NormalStatement::Choice(arms, last)),
-        values,
-    )
+    values.push(Value::Statement(NormalStatement::Choice(arms, last)))
 }
 
 /// The case that follows, which is unique.
-#[tactic(auto, unfolding(vast_rows::specs::Built::make, vast_rows::specs::Built::of_one, vast_rows::specs::Built::of_two, vast_rows::specs::Built::of_three, vast_rows::specs::Built::of_four))]
 pub(crate) fn unique_case(values: &mut Values<'_>) -> Result<(), AllocError>
     ensures { IfOk result (λ _. Grown (make action.UniqueCase (seen values.old)) values.new) }
 {
     let statement = wanted!(first::<NormalStatement>(values));
-    put(Value::Statement(statement.into_unique()), values)
+    values.push(Value::Statement(statement.into_unique()))
 }
 
 /// A case by that word, of its selector and arms.
-#[tactic(auto, unfolding(vast_rows::specs::Built::make, vast_rows::specs::Built::of_one, vast_rows::specs::Built::of_two, vast_rows::specs::Built::of_three, vast_rows::specs::Built::of_four))]
 pub(crate) fn case_of(alloc: Global, key: Key, values: &mut Values<'_>) -> Result<(), AllocError>
     ensures { IfOk result (λ _. Grown (make (action.CaseOf key) (seen values.old)) values.new) }
 {
     let selector = wanted!(first::<Box<NormalExpr>>(values));
     let arms = wanted!(first::<Children<CaseArm>>(values));
     let made = NormalStatement::Case(false, key_word(alloc, key)?, selector, arms.reversed());
-    put(Value::Statement(made), values)
+    values.push(Value::Statement(made))
 }
 
 /// The arms of a conditional, of its condition, its block and what follows that.
@@ -129,26 +119,19 @@ fn alternated<'t>(
         (value_view value.entry ∷ seen values.old)) values.new) }
 {
     match value {
-        Value::Nothing => {
-            let made = Alternatives {
-                innermost: arm,
-                before: Children::new(alloc),
-                last: None,
-            };
-            put(Value::Arms(made), values)
-        }
-        Value::Statements(last) => {
-            let made = Alternatives {
-                innermost: arm,
-                before: Children::new(alloc),
-                last: Some(last.reversed()),
-            };
-            put(Value::Arms(made), values)
-        }
-        Value::Arms(others) => {
-            let mut others = others;
+        Value::Nothing => values.push(Value::Arms(Alternatives {
+            innermost: arm,
+            before: Children::new(alloc),
+            last: None,
+        })),
+        Value::Statements(last) => values.push(Value::Arms(Alternatives {
+            innermost: arm,
+            before: Children::new(alloc),
+            last: Some(last.reversed()),
+        })),
+        Value::Arms(mut others) => {
             others.before.push(arm)?;
-            put(Value::Arms(others), values)
+            values.push(Value::Arms(others))
         }
         other => {
             drop(other);
@@ -169,7 +152,7 @@ pub(crate) fn arm(values: &mut Values<'_>) -> Result<(), AllocError>
         label: Some(label),
         block: block.reversed(),
     })?;
-    put(Value::Labels(arms), values)
+    values.push(Value::Labels(arms))
 }
 
 /// An arm of a case without a label, before others.
@@ -183,5 +166,5 @@ pub(crate) fn default_arm(values: &mut Values<'_>) -> Result<(), AllocError>
         label: None,
         block: block.reversed(),
     })?;
-    put(Value::Labels(arms), values)
+    values.push(Value::Labels(arms))
 }

@@ -1,11 +1,11 @@
 //! Parts that were made.
 
 use crate::children::Children;
-use crate::stack::Stack;
 use crate::tree::{
     Arm, CaseArm, Connection, Event, Group, NormalDeclaration, NormalExpr, NormalItem,
     NormalMember, NormalStatement, Parameter, Port,
 };
+use vast_rows::Stack;
 
 /// A path, which is no name.
 #[derive(Clone, Copy)]

@@ -64,7 +64,7 @@ impl<'t> Reader<'t> {
     fn closed<B: Build<'t>>(&mut self) -> Result<Option<B::Expr>, AllocError>
         ensures { IfOk result (λ o. ReadsClosed B.sees o self.old self.new) }
     {
-        match B::expression(self)? {
+        match B::read(self, false)? {
             None => Ok(None),
             Some(made) => {
                 if self.eat(Token::Mark(Mark::Semicolon)) {

@@ -12,3 +12,14 @@ pub(crate) enum Front<'t> {
     /// What is no token.
     Unspelled,
 }
+
+/// What stands next in a text after white space and comments.
+#[derive(Clone, Copy)]
+pub(crate) enum Position<'t> {
+    /// A token, and the text after it.
+    Token(Token<'t>, &'t str),
+    /// What is no token.
+    Unspelled,
+    /// Nothing.
+    End,
+}

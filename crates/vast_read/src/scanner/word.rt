@@ -20,19 +20,12 @@ pub(crate) fn word<'t>(text: &'t str) -> Front<'t>
     Front::Token(word_token(word), rest)
 }
 
-/// Whether a letter stands at a place.
-fn is_letter_at(text: &str, place: usize) -> bool
-    ensures { result ≡ is_letter (byte_at text.now place) }
-{
-    is_letter(byte_at(text, place))
-}
-
 /// A system word, at its `$`.
 pub(crate) fn system_word<'t>(text: &'t str) -> Front<'t>
     requires { byte_at text.now 0 ≡ 36 }
     ensures { Fronts result text.now }
 {
-    if !is_letter_at(text, 1) {
+    if !is_letter(byte_at(text, 1)) {
         return Front::Unspelled;
     }
     let (word, rest) = text.split_at(run_end(text, 2, Class::Word));
@@ -44,7 +37,7 @@ pub(crate) fn macro_word<'t>(text: &'t str) -> Front<'t>
     requires { byte_at text.now 0 ≡ 96 }
     ensures { Fronts result text.now }
 {
-    if !is_letter_at(text, 1) {
+    if !is_letter(byte_at(text, 1)) {
         return Front::Unspelled;
     }
     let end = run_end(text, 2, Class::Word);

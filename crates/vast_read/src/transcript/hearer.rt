@@ -97,26 +97,11 @@ impl<'t, H: Hearer<'t>> Telling<H> {
             (Reads (IsLoop variable.now (tree_of (written_in start.entry.told))
             (tree_of (written_in end.entry.told))) ∷ []))) self.new.hearer) }
     {
-        let told = header(variable, start, end)?;
+        let Spoken { mut told } = start;
+        told.add(end.whole())?;
+        told.say(Role::Variable, variable)?;
         self.hearer.hear(told.whole())
     }
-}
-
-/// The transcript of the header of a loop.
-fn header<'t>(
-    variable: &'t str,
-    start: Spoken<'t>,
-    end: Spoken<'t>,
-) -> Result<Transcript<'t>, AllocError>
-    ensures { IfOk result (λ told. written_in told ≡ written (entries
-        (Reads (IsLoop variable.now (tree_of (written_in start.entry.told))
-        (tree_of (written_in end.entry.told))) ∷ []))) }
-{
-    let Spoken { told } = start;
-    let mut told = told;
-    told.add(end.whole())?;
-    told.say(Role::Variable, variable)?;
-    Ok(told)
 }
 
 impl<'t, H: Hearer<'t>> Sink<Phrases<'t, Events>> for Telling<H> {

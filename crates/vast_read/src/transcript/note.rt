@@ -2,6 +2,7 @@
 
 ghost use Rattle.vast_read.specs.Internal.Comparison.{Tells};
 
+use crate::macros::same;
 use vast_expressions::Told;
 use vast_rows::Action;
 
@@ -53,10 +54,7 @@ impl Note {
                 Note::Tells(same) => is_told(told, same),
                 _ => false,
             },
-            Note::Says(role) => match other {
-                Note::Says(same) => role == same,
-                _ => false,
-            },
+            Note::Says(role) => same!(other, Note::Says, role),
         }
     }
 }
@@ -66,18 +64,9 @@ fn is_told(one: Told, other: Told) -> bool
     ensures { Tells result one other }
 {
     match one {
-        Told::Unary(sign) => match other {
-            Told::Unary(same) => sign == same,
-            _ => false,
-        },
-        Told::Binary(sign) => match other {
-            Told::Binary(same) => sign == same,
-            _ => false,
-        },
-        Told::WordCast(key) => match other {
-            Told::WordCast(same) => key == same,
-            _ => false,
-        },
+        Told::Unary(sign) => same!(other, Told::Unary, sign),
+        Told::Binary(sign) => same!(other, Told::Binary, sign),
+        Told::WordCast(key) => same!(other, Told::WordCast, key),
         Told::Ternary => matches!(other, Told::Ternary),
         Told::Index => matches!(other, Told::Index),
         Told::Slice => matches!(other, Told::Slice),

@@ -21,12 +21,8 @@ impl<'a, 't> Piece<'a, 't> {
             ((w : Written) → piece_view self.entry ≢ joined (piece_view front.entry) w)
             (λ p. piece_view self.entry ≡ joined (piece_view front.entry) (piece_view p)) }
     {
-        let Some(notes) = notes_after(self.notes, front.notes) else {
-            return None;
-        };
-        let Some(texts) = texts_after(self.texts, front.texts) else {
-            return None;
-        };
+        let notes = notes_after(self.notes, front.notes)?;
+        let texts = texts_after(self.texts, front.texts)?;
         Some(Piece { notes, texts })
     }
 

@@ -46,19 +46,16 @@ impl NormalExpr {
         match self.into_parts() {
             Parts::Nothing => (other, None),
             Parts::One(part) => (Box::into_inner(part), Some(other)),
-            Parts::Two(first, second) => {
-                let mut first = first;
+            Parts::Two(mut first, second) => {
                 let next = Box::replace(&mut first, other);
                 (next, Some(NormalExpr::Index(second, first)))
             }
-            Parts::Three(first, second, third) => {
-                let mut first = first;
+            Parts::Three(mut first, second, third) => {
                 let next = Box::replace(&mut first, other);
                 (next, Some(NormalExpr::Slice(second, third, first)))
             }
             Parts::Many(parts) => turn_list(parts, other),
-            Parts::Counted(count, parts) => {
-                let mut count = count;
+            Parts::Counted(mut count, parts) => {
                 let next = Box::replace(&mut count, other);
                 (next, Some(NormalExpr::Replicated(count, parts)))
             }

@@ -88,9 +88,9 @@ impl NormalStatement {
         ensures { MatchOption result ⊤ (λ r. statement_left r.0 r.1 < statement_alone self) }
     {
         match self {
-            NormalStatement::Blocking(_left, _right) => None,
-            NormalStatement::Nonblocking(_left, _right) => None,
-            NormalStatement::Assign(_left, _right) => None,
+            NormalStatement::Blocking(_left, _right)
+            | NormalStatement::Nonblocking(_left, _right)
+            | NormalStatement::Assign(_left, _right) => None,
             NormalStatement::Choice(arms, last) => shed_arms(arms, last),
             NormalStatement::Case(is_unique, word, selector, arms) => match arms.split_last() {
                 None => None,
@@ -114,9 +114,9 @@ impl NormalStatement {
             < statement_beside self + block_alone block) }
     {
         match self {
-            NormalStatement::Blocking(_left, _right) => taken(block),
-            NormalStatement::Nonblocking(_left, _right) => taken(block),
-            NormalStatement::Assign(_left, _right) => taken(block),
+            NormalStatement::Blocking(_left, _right)
+            | NormalStatement::Nonblocking(_left, _right)
+            | NormalStatement::Assign(_left, _right) => taken(block),
             NormalStatement::Choice(arms, last) => {
                 let rest = NormalStatement::Choice(arms, Some(block));
                 match last {

@@ -1,6 +1,5 @@
-use Rattle.std.proofs.Common.{◌≡◌, true, false, Some, sym, ap, ◌∙◌}
+use Rattle.std.proofs.Common.{◌≡◌, true, false, sym, ap, ◌∙◌}
 use Rattle.vast_literal.specs.NormalExpr.{NormalExpr, Binary}
-use Rattle.vast_read.specs.Internal.Bounds.{bound_of}
 use Rattle.vast_read.specs.Internal.Bounds.{is_bounded}
 use Rattle.vast_read.specs.Texts.{infix_of}
 use Rattle.vast_read.specs.View.{view, view_step}
@@ -18,8 +17,7 @@ returns-then-is_bounded c =
     let d = c.deref.ensures in
     let k : is_bounded c.args.name.now c.in-Binary.sign (view c.in-Binary.left.value) ≡ true = cc (h, d) in
     let a = bound_given c.args.name.now c.in-Binary.sign (view c.in-Binary.left.value) (view c.in-Binary.right.value) k in
-    let e : bound_of c.args.name.now (view c.args.self) ≡ Some (view c.in-Binary.right.value) = rw (c.in-Binary.is, b) a in
-    cc (e, c.in-Binary.right-is)
+    rw (c.in-Binary.is, b) a
 
 pub returns-in-Binary : goal.returns-in-Binary
 returns-in-Binary c =
