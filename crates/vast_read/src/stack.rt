@@ -1,6 +1,6 @@
 //! A stack.
 
-ghost use Rattle.std.specs.Prelude.{◌≡◌, [], ◌∷◌, OnOk, OnErr, MatchOption};
+ghost use Rattle.std.specs.Prelude.{◌≡◌, [], ◌∷◌, IfOk, OnOk, OnErr, MatchOption};
 
 use std::alloc::{AllocError, Global};
 use std::marker::Model;
@@ -40,6 +40,20 @@ impl<T> Stack<T> {
 }
 
 impl<T: Drop> Stack<T> {
+    /// Nothing, with room for so many items.
+    pub(crate) fn with_room(alloc: Global, room: usize) -> Result<Stack<T>, AllocError>
+        ensures { IfOk result (λ made. made ≡ []) }
+    {
+        Ok(Stack {
+            items: Vec::with_capacity(alloc, room)?,
+        })
+    }
+
+    /// How many items there are.
+    pub(crate) fn len(&self) -> usize {
+        self.items.len()
+    }
+
     /// One more on top.
     ///
     /// # Errors
