@@ -14,6 +14,7 @@ use crate::made::make::make;
 use crate::made::part::first;
 use crate::made::value::{Path, Range, Value, Values};
 use crate::phrase::{Made, Phrases};
+use crate::pile::Pile;
 use crate::tree::{NormalExpr, NormalFile, NormalItem};
 use std::alloc::{AllocError, Global};
 use vast_rows::{Action, Sink, Stack};
@@ -37,7 +38,7 @@ pub(crate) enum Told<'t> {
 #[derive(Drop)]
 pub(crate) struct Heard<'t> {
     alloc: Global,
-    pub(crate) events: Stack<Told<'t>>,
+    pub(crate) events: Pile<Told<'t>>,
 }
 
 impl<'t> Sink<Phrases<'t, Trees>> for Heard<'t> {
@@ -83,7 +84,7 @@ impl<'t> Heard<'t> {
     {
         Heard {
             alloc,
-            events: Stack::new(alloc),
+            events: Pile::new(alloc),
         }
     }
 
@@ -103,7 +104,7 @@ impl<'t> Heard<'t> {
 }
 
 /// What the events make, from the last to the first.
-fn built<'t>(alloc: Global, events: Stack<Told<'t>>) -> Result<Values<'t>, AllocError>
+fn built<'t>(alloc: Global, events: Pile<Told<'t>>) -> Result<Values<'t>, AllocError>
     ensures { IfOk result (λ values. (t : normal.NormalFile) →
         events_heard events.entry ≡ trace t [] → seen values ≡ (SeenFile t ∷ [])) }
 {
