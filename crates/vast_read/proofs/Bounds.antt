@@ -76,11 +76,11 @@ bound_less n w l r e h = rw (less_of w e, less_name n l r, h)
 
 pub ruleset names = (name_same, name_other)
 
-pub test_sign : (n w : List ℕ) (l : NormalExpr) → bytes_eq w (codes "<") ≡ false → is_bounded n w l ≡ false
+test_sign : (n w : List ℕ) (l : NormalExpr) → bytes_eq w (codes "<") ≡ false → is_bounded n w l ≡ false
 unfolding is_bounded
 test_sign n w l e = rw e
 
-pub test_name : (n w : List ℕ) (l : NormalExpr) → bytes_eq w (codes "<") ≡ true → is_bounded n w l ≡ is_name_of n l
+test_name : (n w : List ℕ) (l : NormalExpr) → bytes_eq w (codes "<") ≡ true → is_bounded n w l ≡ is_name_of n l
 unfolding is_bounded
 test_name n w l e = rw e
 
@@ -97,7 +97,5 @@ bound_missing n w l r e = go (bytes_eq w (codes "<")) refl
     go : (b : Bool) → bytes_eq w (codes "<") ≡ b → bound_of n (Binary (infix_of w) l r) ≡ None
     go true h = bound_name n w l r h (sym (test_name n w l h) ∙ e)
     go false h = bound_sign n w l r h
-
-pub ruleset tests = (test_sign, test_name)
 
 pub ruleset bounds = (bound_given, bound_missing)

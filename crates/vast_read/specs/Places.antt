@@ -1,11 +1,11 @@
 -- Places of a text between its tokens.
-use Rattle.std.specs.Prelude.{◌≡◌, ◌⊎◌, ℕ, List, [], ◌∷◌, ◌++◌, Bool, drop}
+use Rattle.std.specs.Prelude.{◌≡◌, ◌⊎◌, ℕ, List, [], ◌∷◌, ◌++◌, drop}
 use Rattle.vast_literal.specs.Tokens.{Token}
 use Rattle.vast_literal.specs.Scan.{Gap}
 use Rattle.vast_literal.specs.Lexemes.{IsLexeme, Lexes}
 use Rattle.vast_read.specs.Behind.{Behind}
 use Rattle.vast_read.specs.Lexed.{lex}
-use Rattle.vast_rows.specs.Fronts.{LongestFront, SpellsFile}
+use Rattle.vast_rows.specs.Fronts.{IsBegun, SpellsFile}
 
 -- What stands in front of this place is some of the text's lexemes, so no token goes over it.
 abbrev pub IsBetweenTokens : (text : List ℕ) → (place : ℕ) → Type 0
@@ -25,6 +25,8 @@ IsBehindFirst text rest = ((token : Token) × (lex Gap text ≡ token ∷ lex Ga
 abbrev pub BeginsWithoutGap : List ℕ → Type 0
 BeginsWithoutGap text = (front behind : List ℕ) → text ≡ front ++ behind → IsLexeme front [] → ⊥
 
--- What stands in front of this place begins a file, and no file goes on with what stands there.
+-- What stands in front of this place begins a file, and no file goes on with the token that stands there.
 abbrev pub EndsFront : (text : List ℕ) → (place : ℕ) → Type 0
-EndsFront text place = (kinds : ℕ) × (ends : Bool) × LongestFront SpellsFile (lex Gap text) (lex Gap (drop place text)) kinds ends
+EndsFront text place =
+    (front : List Token) × (lex Gap text ≡ front ++ lex Gap (drop place text)) × IsBegun SpellsFile front
+    × ((t : Token) (us rest : List Token) → lex Gap (drop place text) ≡ t ∷ us → SpellsFile (front ++ (t ∷ rest)) → ⊥)

@@ -1,13 +1,13 @@
 //! Phrases: what the machine of rows asks of the reader.
 
-ghost use Rattle.std.specs.Prelude.{◌≡◌, IfOk};
+ghost use Rattle.std.specs.Prelude.{◌≡◌, ◌≢◌, ℕ, List, [], ◌∷◌, ◌++◌, IfOk, MatchOption};
 ghost use Rattle.vast_literal.specs.Scan.{Gap};
 ghost use Rattle.vast_read.specs.Lexed.{lex};
 ghost use Rattle.vast_read.specs.Internal.PhraseReadings.{ReadsPhrase, meaning_of, phrase_of};
 ghost use Rattle.vast_rows.specs.declared.grammar.Phrase.TheVariants.{Path};
 
 use crate::build::Build;
-use crate::reader::{Reader, path_of};
+use crate::reader::Reader;
 use crate::token::kind_of;
 use std::alloc::{AllocError, Global};
 use std::marker::PhantomData;
@@ -141,5 +141,17 @@ impl<'t, B: Build<'t>> Fronts for Phrases<'t, B> {
 
     fn is_one(&self) -> bool {
         self.reader.is_first(Token::Number("1"))
+    }
+}
+
+/// The path between the quotes of a string.
+fn path_of(text: &str) -> Option<&str>
+    ensures { MatchOption result
+        ((p : List ℕ) → text.now ≢ (34 ∷ (p ++ (34 ∷ []))))
+        (λ p. text.now ≡ (34 ∷ (p.now ++ (34 ∷ [])))) }
+{
+    match text.strip_prefix('"') {
+        None => None,
+        Some(rest) => rest.strip_suffix('"'),
     }
 }

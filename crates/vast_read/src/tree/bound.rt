@@ -8,15 +8,11 @@ use crate::tree::expression::NormalExpr;
 use vast_names::Word;
 
 /// Whether a comparison by this sign with this left side bounds the name.
-#[tactic(auto, using(crate::proofs::Bounds::tests))]
+#[tactic(auto, unfolding(crate::specs::Internal::Bounds::is_bounded))]
 pub(crate) fn is_bounded(sign: &Word, left: &NormalExpr, name: &str) -> bool
     ensures { result ≡ is_bounded name.now sign.now (view left.now) }
 {
-    if sign.as_str() == "<" {
-        left.is_name(name)
-    } else {
-        false
-    }
+    sign.as_str() == "<" && left.is_name(name)
 }
 
 impl NormalExpr {
