@@ -1,7 +1,7 @@
 //! How far texts begin files.
 
 use vast_literal::{Key, Mark, Sign};
-use vast_read::longest_front;
+use vast_read::{longest_front, underived_at};
 use vast_rows::Kind;
 
 const OPEN: Kind = Kind::Mark(Mark::OpenParen);
@@ -100,6 +100,8 @@ fn a_front_ends_before_the_first_token_that_no_file_has(rt: HostRuntime) {
     for (text, before, ends, on, off) in &ROWS {
         let front = longest_front(rt.alloc(), text).expect(&rt, "memory");
         assert_eq!(rt; front.place, before.len());
+        let at = underived_at(rt.alloc(), text).expect(&rt, "memory");
+        assert!(rt; text.is_empty() || at == Some(before.len()));
         assert_eq!(rt; front.next.ends, *ends);
         for kind in on.iter() {
             assert!(rt; front.next.has(*kind));
