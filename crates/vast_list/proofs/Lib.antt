@@ -1,11 +1,14 @@
 pub mod Outputs
 mod JsonLaws
 pub mod Words
+pub mod PackedWords
+pub mod Acted
 pub mod Quoted
 pub mod LineParts
 pub mod Entered
 pub mod Replied
 pub mod Sessions
+pub mod PackedSessions
 pub mod Built
 pub mod JsonLines
 pub mod TextLines

@@ -1,8 +1,10 @@
 pub mod Lines
 pub mod Output
+pub mod Packed
 pub mod Written
 pub mod Names
 pub mod Session
+pub mod PackedCalls
 pub mod Built
 pub mod JsonLine
 pub mod PlainLists

@@ -69,7 +69,7 @@ pub fn list_output(
             finished(alloc, tries, list.title, answering)
         }
         Err(Fault::Memory) => Err(AllocError),
-        Err(Fault::Line(fault)) => bad_dialect(alloc, tries, fault),
+        Err(Fault::Line(fault)) => at_fault(alloc, tries, fault),
     }
 }
 
@@ -156,8 +156,8 @@ fn answered<'a>(
     Ok(answering)
 }
 
-/// A list without a dialect.
-pub(crate) fn bad_dialect(
+/// A list of which this fault alone is told.
+pub(crate) fn at_fault(
     alloc: Global,
     tries: Tries,
     fault: LineFault,
@@ -168,6 +168,11 @@ pub(crate) fn bad_dialect(
     let mut told = ListReport::new(alloc);
     told.keep(tries, fault)?;
     Ok(output_of(None, told))
+}
+
+/// A list in packed form.
+pub(crate) fn packed_bytes(alloc: Global, bytes: Vec<u8>) -> ListOutput {
+    output_of(Some(bytes), ListReport::new(alloc))
 }
 
 fn output_of(output: Option<Vec<u8>>, told: ListReport) -> ListOutput
@@ -227,7 +232,11 @@ fn design(tries: Tries, answering: ListRun<'_>) -> Result<ListOutput, AllocError
 }
 
 /// The file's text, or its refusal.
-fn printed(tries: Tries, session: &Session, mut told: ListReport) -> Result<ListOutput, AllocError>
+pub(crate) fn printed(
+    tries: Tries,
+    session: &Session,
+    mut told: ListReport,
+) -> Result<ListOutput, AllocError>
     ensures text { IfOk result (λ made. IfSome made.output
         (λ output. IsTextOf (tree session.now.file) output.items)) }
     ensures printed { IfOk result IsPrinted }

@@ -11,6 +11,7 @@ pub(crate) mod json;
 mod kinds;
 mod loops;
 mod modules;
+pub(crate) mod numbered;
 mod operators;
 mod questions;
 mod statements;
