@@ -15,3 +15,4 @@ pub mod PlainLists
 pub mod EndedLines
 pub mod Numbered
 pub mod Skipped
+pub mod CallRows

@@ -221,9 +221,6 @@ pub ruleset lists = (list_begun, list_more, list_ended)
 
 -- The same in other words.
 
-pub left_same : (a b : Arguments) (ps : List Piece) → AreLeft b ps → b ≡ a → AreLeft a ps
-left_same a b ps h e = subst (λ (c : Arguments). AreLeft c ps) e h
-
 pub left_in :
     (a : Arguments) (known : Known) (rest : Option (Bor (List ℕ))) (ps : List Piece) → AreLeft a ps → a.known ≡ known → a.rest ≡ rest →
     AreWritten (meaning known.names.now) known.skipped.now ps (left rest)

@@ -9,3 +9,4 @@ pub mod PlainLists
 pub mod Origins
 pub mod Untitled
 pub mod Replies
+pub mod CallRows
