@@ -18,3 +18,4 @@ pub mod PlainLists
 pub mod EndedLines
 pub mod Numbered
 pub mod Skipped
+pub mod CallRows

@@ -277,8 +277,3 @@ list_counted pieces a b c xs n h e k =
     reads_then a b c (Items (length xs) ∷ []) (flat_map pieces xs ++ End ∷ []) (subst (λ (m : ℕ). Begins a b (Some m)) (sym e) h) k
 
 pub ruleset lists = (list_begun, list_more, list_ended, list_closed, list_in_line, list_counted)
-
--- The same in other words.
-
-pub left_same : (a b : Arguments) (ps : List Piece) → AreLeft b ps → b ≡ a → AreLeft a ps
-left_same a b ps h e = subst (λ (c : Arguments). AreLeft c ps) e h

@@ -11,3 +11,4 @@ pub mod PlainLists
 pub mod Origins
 pub mod Untitled
 pub mod Replies
+pub mod CallRows
