@@ -13,6 +13,7 @@ use Rattle.vast_list.specs.declared.fault.Fault.TheVariants.{Line, Memory}
 use Rattle.vast_list.specs.declared.line.Action.{Action}
 use Rattle.vast_list.specs.declared.line.Action.TheVariants.{Ask, Call as CallAction}
 use Rattle.vast_list.specs.declared.line.Call.{Call}
+use Rattle.vast_list.specs.declared.line.Call.TheVariants.{Step as StepCall, Helper as HelperCall}
 use Rattle.vast_list.specs.declared.questions.Question.{Question}
 use Rattle.vast_list.specs.declared.questions.answered.Value.{Value}
 use Rattle.vast_list.specs.declared.session.LineResult.{LineResult}
@@ -21,13 +22,13 @@ use Rattle.vast_list.specs.declared.unpacked.PackedCall.{PackedCall}
 use Rattle.vast_list.specs.CallArguments.{Piece}
 use Rattle.vast_list.specs.Names.{IsFree}
 use Rattle.vast_list.specs.Packed.{ArePacked, IsPackedNumber}
-use Rattle.vast_list.specs.PackedCalls.{AnswersPacked, IsCallFront, IsPackedAction, IsToldOfPacked, MakesPacked, NamesPacked, action_words}
+use Rattle.vast_list.specs.PackedCalls.{AnswersPacked, GivesPacked, IsCallFront, IsPackedAction, IsToldOfPacked, MakesPacked, NamesPacked, action_words}
 use Rattle.vast_list.specs.PackedLists.{GivesFront, IsCallSplit, IsToldOfFront, RunsPacked}
 use Rattle.vast_list.specs.Questions.{Asks}
-use Rattle.vast_list.specs.Session.{IsFileLeft, IsLeft, IsMade, IsOfLine}
+use Rattle.vast_list.specs.Session.{IsFileLeft, IsLeft, IsMade, IsOfLine, next_number}
 use Rattle.vast_list.specs.Written.{meaning}
 use Rattle.vast_list.specs.Internal.Packed.{IsNumberFront}
-use Rattle.vast_list.specs.Internal.PackedCalls.{IsToldMispacked, IsUnpacked, RunsAll, TakesPacked}
+use Rattle.vast_list.specs.Internal.PackedCalls.{IsToldMispacked, IsUnpacked, RunsAll, TakesPacked, given_by}
 use Rattle.vast_list.specs.Internal.Session.{Acts, IsAskFault, IsCallFault, IsQuestionFault, IsToldOf, MakesName}
 use Rattle.vast_list.specs.Internal.Written.{AreLeft}
 use Rattle.vast_list.proofs.Acted.{acts_packed}
@@ -65,13 +66,21 @@ this_in session bytes packed action h e =
 
 -- What the call gave.
 
-pub made_packed :
+made_packed :
     (old new : Session) (bytes : List ℕ) (packed : PackedCall) (call : Call) → IsUnpacked old.skipped.items bytes packed → packed.action ≡ CallAction call → IsMade old new call →
     (IsFree (meaning old.names) None → MakesName old new None (Ok tt)) → MakesPacked old new call packed.call.now bytes
 made_packed old new bytes packed call h e m n =
     let this = this_in old bytes packed (CallAction call) h e in
     let entered = n tt in
     (this.0, this.1, m, (entered.0.1, entered.1))
+
+pub gives_made :
+    (old new : Session) (bytes : List ℕ) (packed : PackedCall) (call : Call) (number : ℕ) (given : LineResult) → IsUnpacked old.skipped.items bytes packed → packed.action ≡ CallAction call → IsMade old new call →
+    (IsFree (meaning old.names) None → MakesName old new None (Ok tt)) → number ≡ next_number old → given ≡ given_by number packed.call call → GivesPacked old new bytes given
+gives_made old new bytes packed (StepCall step) number given h e m n is g =
+    subst (λ (r : LineResult). GivesPacked old new bytes r) (sym g) (is, step, made_packed old new bytes packed (StepCall step) h e m n)
+gives_made old new bytes packed (HelperCall helper) number given h e m n is g =
+    subst (λ (r : LineResult). GivesPacked old new bytes r) (sym g) (is, helper, made_packed old new bytes packed (HelperCall helper) h e m n)
 
 pub answered_packed :
     (old : Session) (bytes : List ℕ) (packed : PackedCall) (question : Question) (value : Value) → IsUnpacked old.skipped.items bytes packed → packed.action ≡ Ask question →
@@ -161,4 +170,4 @@ split_shorter bytes call behind (b ∷ front, h, e) = omega (arith, ap length e 
 
 pub ruleset running = (runs_none, runs_more, runs_all, split_shorter)
 
-pub ruleset packed = (made_packed, answered_packed, left_packed, mispacked_told, asked_packed, called_packed, left_same, same-unused)
+pub ruleset packed = (gives_made, answered_packed, left_packed, mispacked_told, asked_packed, called_packed, left_same, same-unused)

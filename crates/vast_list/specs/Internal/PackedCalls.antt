@@ -6,7 +6,11 @@ use Rattle.vast_list.specs.Packed.{ArePacked}
 use Rattle.vast_list.specs.PackedCalls.{GivesPacked, IsCallFront, NamesPacked}
 use Rattle.vast_list.specs.PackedLists.{RunsPacked}
 use Rattle.vast_list.specs.Session.{IsLeft}
+use Rattle.std.specs.Borrow.{Bor}
+use Rattle.vast_list.specs.declared.line.Call.{Call}
+use Rattle.vast_list.specs.declared.line.Call.TheVariants.{Step as StepCall, Helper as HelperCall}
 use Rattle.vast_list.specs.declared.session.LineResult.{LineResult}
+use Rattle.vast_list.specs.declared.session.LineResult.TheVariants.{Step, Helper}
 use Rattle.vast_list.specs.declared.session.Session.{Session}
 use Rattle.vast_list.specs.Internal.Session.{Acts, IsToldOf}
 
@@ -19,6 +23,11 @@ IsUnpacked skipped bytes packed =
 abbrev pub TakesPacked : (old new : Session) → (bytes : List ℕ) → Result LineResult Fault → Type 0
 TakesPacked old new bytes (Ok given) = GivesPacked old new bytes given
 TakesPacked old new bytes (Err fault) = IsLeft old new fault
+
+-- What a call gives that is counted, under its number and its name.
+abbrev pub given_by : ℕ → Bor (List ℕ) → Call → LineResult
+given_by number name (StepCall step) = Step number name
+given_by number name (HelperCall helper) = Helper number name
 
 -- The bytes are calls that lead a session from this to that.
 abbrev pub RunsAll : (old new : Session) → (bytes : List ℕ) → Type 0

@@ -1,11 +1,11 @@
 //! Packed calls over the answers so far.
 
-ghost use Rattle.std.specs.Prelude.{IfErr, MatchResult, OnOk};
+ghost use Rattle.std.specs.Prelude.{◌≡◌, IfErr, MatchResult, OnOk};
 ghost use Rattle.xlsynth_vast.specs.Registers.{HasUnused};
 ghost use Rattle.vast_list.specs.PackedCalls.{IsToldOfPacked};
 ghost use Rattle.vast_list.specs.PackedLists.{GivesFront, IsToldOfFront};
 ghost use Rattle.vast_list.specs.Session.{IsLeft};
-ghost use Rattle.vast_list.specs.Internal.PackedCalls.{IsToldMispacked, IsUnpacked, RunsAll, TakesPacked};
+ghost use Rattle.vast_list.specs.Internal.PackedCalls.{IsToldMispacked, IsUnpacked, RunsAll, TakesPacked, given_by};
 
 use crate::fault::{Fault, mispacked};
 use crate::line::{Action, Call};
@@ -76,10 +76,7 @@ impl Session {
             Action::Call(made) => {
                 let step = self.counted();
                 self.make(number, "", None, call, made)?;
-                match made {
-                    Call::Step(_) => Ok(LineResult::Step { number: step, call }),
-                    Call::Helper(_) => Ok(LineResult::Helper { number: step, call }),
-                }
+                Ok(given(made, step, call))
             }
         }
     }
@@ -96,5 +93,15 @@ impl Session {
                 Err(mispacked(alloc, number, bytes.len(), read.call, read.misfit))
             }
         }
+    }
+}
+
+/// What a call gave that is counted.
+fn given(made: &Call, number: usize, call: &'static str) -> LineResult<'static>
+    ensures { result ≡ given_by number call.entry made.now }
+{
+    match made {
+        Call::Step(_) => LineResult::Step { number, call },
+        Call::Helper(_) => LineResult::Helper { number, call },
     }
 }
