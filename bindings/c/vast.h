@@ -95,6 +95,12 @@ int32_t vast_open(vast_session *session, int32_t dialect);
  * VAST_FORM, VAST_MEMORY: what is wrong with the line after those. VAST_NOT_OPEN: it is 0. */
 int32_t vast_lines(vast_session *session, const uint8_t *lines, size_t length, size_t *taken);
 
+/* Makes packed calls in order, up to the first at fault: the bytes of a packed list of docs/use/LISTS.md after its first
+ * seven, each call whole. They are counted as lines are, and go with lines in one session.
+ * `*taken` becomes the number of the calls that were made. The status is that of `vast_lines`, where VAST_FORM is of bytes
+ * that are no call; VAST_COLUMN is then the byte of the call, from 1. */
+int32_t vast_packed(vast_session *session, const uint8_t *calls, size_t length, size_t *taken);
+
 /* Prints the file, which VAST_FILE is then.
  * VAST_OK; VAST_REFUSED: the file has no text, VAST_LINE is the line whose call made what is refused; VAST_MEMORY;
  * VAST_NOT_OPEN. After those VAST_FILE is as before. */

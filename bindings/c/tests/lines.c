@@ -118,6 +118,28 @@ static int warnings(void)
     return 0;
 }
 
+/* Packed calls beside lines: made, asked, refused, cut off, and with a byte too many. */
+static int packed(void)
+{
+    const uint8_t calls[] = {3, 69, 1, 'm', 1, 57, 5, 75, 0, 1, 'a', 1, 3, 0x98, 1, 0}, again[] = {5, 75, 0, 1, 'a', 1};
+    const uint8_t cut[] = {1, 57, 9, 57}, many[] = {2, 57, 0};
+    vast_session s = NULL;
+    size_t taken = 7;
+    CHECK(vast_packed(&s, calls, sizeof calls, &taken) == VAST_NOT_OPEN && taken == 0);
+    CHECK(vast_open(&s, VAST_VERILOG) == VAST_OK);
+    CHECK(vast_packed(&s, calls, sizeof calls, &taken) == VAST_OK && taken == 4);
+    CHECK(is_text(&s, VAST_ANSWER, "m") && vast_number(&s, VAST_COUNT) == 3);
+    CHECK(vast_packed(&s, again, sizeof again, &taken) == VAST_CONDITION && taken == 0 && vast_number(&s, VAST_LINE) == 5);
+    CHECK(is_text(&s, VAST_MESSAGE, "5: AddWire: the name \"a\" is taken in the module"));
+    CHECK(vast_packed(&s, cut, sizeof cut, &taken) == VAST_FORM && taken == 1 && vast_number(&s, VAST_COLUMN) == 1);
+    CHECK(vast_packed(&s, many, sizeof many, &taken) == VAST_FORM && vast_number(&s, VAST_COLUMN) == 2);
+    CHECK(is_text(&s, VAST_CALL, "MakeScalarType") && vast_packed(&s, calls, 0, &taken) == VAST_OK && taken == 0);
+    CHECK(lines(&s, "AddWire 0 \"b\" 3\n", &taken) == VAST_OK && vast_number(&s, VAST_COUNT) == 5);
+    CHECK(vast_print(&s) == VAST_OK && is_text(&s, VAST_FILE, "module m;\n  wire a;\n  wire b;\nendmodule\n"));
+    vast_close(&s);
+    return 0;
+}
+
 /* A text that is refused, whose line is told; the text of before stays. */
 static int refused_text(void)
 {
@@ -135,5 +157,5 @@ static int refused_text(void)
 
 int main(void)
 {
-    return not_open() || made() || faults() || refused_text() || warnings();
+    return not_open() || made() || faults() || packed() || refused_text() || warnings();
 }

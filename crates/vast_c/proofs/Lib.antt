@@ -1,2 +1,3 @@
 -- Lemmas on lines.
 pub mod Steps
+pub mod PackedSteps

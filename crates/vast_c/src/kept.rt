@@ -7,7 +7,9 @@ ghost use Rattle.vast_list.specs.declared.fault.Fault.TheVariants.{Line};
 ghost use Rattle.vast_list.specs.declared.session.Session.{Session as AnySession};
 ghost use Rattle.vast_list.specs.Lines.{lines_of};
 ghost use Rattle.vast_c.specs.Seen.{GaveLine, IsFresh, IsPrinted, Run, TellsFault, cause_of, more_lines};
-ghost use Rattle.vast_c.specs.Internal.Seen.{IsToldOf, LeftBy, LeftIfAny};
+ghost use Rattle.vast_list.specs.PackedLists.{RunsPacked};
+ghost use Rattle.vast_c.specs.SeenPacked.{RunPacked, TellsPacked};
+ghost use Rattle.vast_c.specs.Internal.Seen.{GaveFront, IsToldOf, LeftBy, LeftIfAny};
 
 use crate::lines::first_line;
 use std::alloc::Global;
@@ -100,6 +102,35 @@ impl Kept {
         MadeLines { taken, cause: None }
     }
 
+    /// Makes the packed calls, up to the first at fault.
+    pub(crate) fn make_packed(&mut self, calls: &[u8]) -> MadeLines
+        ensures made { RunPacked self.old calls.now result.taken
+            (LeftIfAny result.cause) self.new }
+        ensures all { result.cause ≡ None →
+            RunsPacked result.taken self.old.session self.new.session calls.now [] }
+        ensures none { result.cause ≡ None → self.new.told ≡ None }
+        ensures told { IfSome result.cause (λ cause. IsToldOf cause self.new.told) }
+        ensures file { self.new.file ≡ self.old.file }
+    {
+        self.answer.clear();
+        self.told = None;
+        let mut rest = calls;
+        let mut taken = 0;
+        while !rest.is_empty() {
+            match self.make_call(rest) {
+                Ok(behind) => rest = behind,
+                Err(cause) => {
+                    return MadeLines {
+                        taken,
+                        cause: Some(cause),
+                    };
+                }
+            }
+            taken += 1;
+        }
+        MadeLines { taken, cause: None }
+    }
+
     /// Prints the file.
     ///
     /// # Errors
@@ -150,6 +181,42 @@ impl Kept {
                 self.answer.clear();
                 self.lines = number;
                 Ok(())
+            }
+            Err(fault) => Err(self.tell(fault)),
+        }
+    }
+
+    /// Makes the packed call at the front, and returns what stands after it.
+    #[tactic(auto, using(crate::proofs::PackedSteps::calls))]
+    fn make_call<'b>(&mut self, bytes: &'b [u8]) -> Result<&'b [u8], Cause>
+        ensures given { IfOk result (λ behind. GaveFront self.old.session self.new.session
+            bytes.now behind.now) }
+        ensures shorter { IfOk result (λ behind. length behind.now < length bytes.now) }
+        ensures left { IfErr result (λ cause. LeftBy self.old.session self.new.session cause) }
+        ensures lines { MatchResult result
+            (λ _. self.new.lines ≡ more_lines self.old.lines 1)
+            (λ _. self.new.lines ≡ self.old.lines) }
+        ensures none { OnOk result (self.new.told ≡ self.old.told) }
+        ensures told { IfErr result (λ cause. IsToldOf cause self.new.told) }
+        ensures fault { OnErr result (TellsPacked self.old.session self.new.session
+            (more_lines self.old.lines 1) bytes.now self.new.told) }
+        ensures file { self.new.file ≡ self.old.file }
+    {
+        let place = self.lines.saturating_add(1);
+        match self.session.packed(place, bytes) {
+            Ok((LineResult::Answer { value, .. }, behind)) => {
+                let Ok(answer) = format!(in *self.answer.allocator(); "{value}") else {
+                    self.told = None;
+                    return Err(Cause::Memory);
+                };
+                self.answer = answer;
+                self.lines = place;
+                Ok(behind)
+            }
+            Ok((_, behind)) => {
+                self.answer.clear();
+                self.lines = place;
+                Ok(behind)
             }
             Err(fault) => Err(self.tell(fault)),
         }

@@ -8,6 +8,7 @@ ghost use Rattle.vast_list.specs.Session.{IsSame};
 ghost use Rattle.vast_literal.specs.declared.kind.VastFileType.TheVariants.{Verilog, SystemVerilog};
 ghost use Rattle.vast_list.specs.Lines.{lines_of};
 ghost use Rattle.vast_c.specs.Seen.{Copied, CopiedSome, IsFresh, IsSameTree, Made, Printed};
+ghost use Rattle.vast_c.specs.SeenPacked.{MadeAllPacked, MadePacked};
 ghost use Rattle.vast_c.specs.Seen.{lines_in, number_in, session_in, status_in, status_of, text_in, told_in};
 
 mod handle;
@@ -128,6 +129,38 @@ pub extern "C" fn vast_lines(
     handle.put(kept);
     *taken = made.taken;
     match made.cause {
+        None => OK,
+        Some(cause) => status(cause),
+    }
+}
+
+/// Makes the packed calls, up to the first at fault.
+#[tactic(auto, using(crate::proofs::Steps::status_told))]
+#[unsafe(no_mangle)]
+pub extern "C" fn vast_packed(
+    alloc: Global,
+    handle: &mut Handle,
+    calls: &[u8],
+    taken: &mut usize,
+) -> i32
+    ensures closed { result ≡ NOT_OPEN ↔ handle.old.kept ≡ None }
+    ensures made { MadePacked handle.old.kept calls.now taken.new IsSameTree handle.new.kept }
+    ensures exact { result ≢ MEMORY →
+        MadePacked handle.old.kept calls.now taken.new IsSame handle.new.kept }
+    ensures all { result ≡ OK →
+        MadeAllPacked handle.old.kept calls.now taken.new handle.new.kept }
+    ensures none { result ≡ OK → told_in handle.new.kept ≡ None }
+    ensures file { text_in FILE handle.new.kept ≡ text_in FILE handle.old.kept }
+    ensures status { result ≢ OK → result ≢ NOT_OPEN → result ≡ status_in handle.new.kept }
+{
+    let Some(mut kept) = handle.take(alloc) else {
+        *taken = 0;
+        return NOT_OPEN;
+    };
+    let run = kept.make_packed(calls);
+    handle.put(kept);
+    *taken = run.taken;
+    match run.cause {
         None => OK,
         Some(cause) => status(cause),
     }

@@ -7,10 +7,13 @@ use Rattle.vast_literal.specs.declared.kind.VastFileType.{VastFileType}
 use Rattle.vast_list.specs.declared.answering.ListRun.{ListRun}
 use Rattle.vast_list.specs.declared.session.Session.{Session}
 use Rattle.vast_list.specs.declared.tries.Tries.{Tries}
+use Rattle.vast_core.specs.Bench.{Bench}
 use Rattle.vast_core.specs.FileTree.{tree}
 use Rattle.vast_list.specs.declared.output.Verdict.{Verdict}
 use Rattle.vast_list.specs.Built.{HasBuilt, IsListText}
-use Rattle.vast_list.specs.Session.{IsTextOf}
+use Rattle.vast_list.specs.PackedLists.{IsPackedText, packed_front}
+use Rattle.vast_list.specs.Session.{IsNew, IsTextOf}
+use Rattle.vast_list.specs.Internal.PackedCalls.{RunsAll}
 use Rattle.vast_list.specs.Internal.Built.{TakesLine}
 use Rattle.vast_list.proofs.Built.{lines-more}
 use Rattle.vast_list.specs.Lines.{BeginsWithDialect, Passed, dialect_word, line_kind, line_texts, without_return}
@@ -65,6 +68,13 @@ is_output tries (Some title) lines behind dialect answering verdict output begun
 is_output tries None lines behind dialect answering verdict output begun answered finished = list_text tries lines behind dialect answering output begun answered finished.0 finished.1
 
 pub ruleset outputs = (is_output)
+
+-- The file is what a packed list's calls build.
+pub packed_text :
+    (input calls : List ℕ) (dialect : VastFileType) (first last now : Session) (text : List ℕ) → input ≡ packed_front dialect ++ calls → IsNew dialect first → RunsAll first last calls → now.file ≡ last.file →
+    IsTextOf (tree now.file) text → IsPackedText input text
+packed_text input calls dialect first last now text is new runs same t =
+    (dialect, calls, runs.0, first, last, is, new, runs.1, subst (λ (file : Bench). IsTextOf (tree file) text) same t)
 
 -- The lines up to one more.
 pub texts-more : (lines : List (ℕ × Bor (List ℕ))) (i : ℕ) (line : ℕ × Bor (List ℕ)) → i < length lines → line ≡ get_or lines i line → line_texts (take (i + 1) lines) ≡ line_texts (take i lines) ++ line.1.now ∷ []

@@ -1,5 +1,5 @@
 -- The arguments of calls, in the order of the parameters, as the pieces that stand after a call's name.
-use Rattle.std.specs.Prelude.{ℕ, ℤ, Bool, true, false, List, [], ◌∷◌, ◌++◌, Option, Some, None, codes, String, string_bytes}
+use Rattle.std.specs.Prelude.{ℕ, ℤ, Bool, true, false, List, [], ◌∷◌, ◌++◌, length, Option, Some, None, codes, String, string_bytes}
 use Rattle.std.specs.List.{flat_map}
 use Rattle.std.specs.declared.alloc.Global.{Global}
 use Rattle.vast_literal.specs.declared.kind.DataKind.{DataKind}
@@ -29,13 +29,17 @@ use Rattle.vast_list.specs.declared.helpers.registers.ResetNumbers.{ResetNumbers
 use Rattle.vast_list.specs.declared.line.Call.{Call}
 use Rattle.vast_list.specs.declared.line.Call.TheVariants.{Step as StepCall, Helper as HelperCall}
 
--- What is written between two spaces, or a text: an answer by its place, a number, a number without a sign, a text or a word.
+-- What is written between two spaces, or a text: an answer by its place, a number, a number without a sign, a text or a word;
+-- the beginning of a list of so many items, that of a group, and the end of either.
 pub data Piece : Type 0 where
   Place : ℕ → Piece
   Number : ℤ → Piece
   Count : ℕ → Piece
   Text : List ℕ → Piece
   Word : List ℕ → Piece
+  Items : ℕ → Piece
+  Group : Piece
+  End : Piece
 
 abbrev pub place : ℕ → List Piece
 place n = Place n ∷ []
@@ -78,12 +82,13 @@ kind_word Genvar = codes "Genvar"
 abbrev pub kind : DataKind → List Piece
 kind k = Word (kind_word k) ∷ []
 
--- A list stands between brackets.
-abbrev pub bracketed : List Piece → List Piece
-bracketed pieces = Word (codes "[") ∷ (pieces ++ Word (codes "]") ∷ [])
+-- A group, and a list of items, between its beginning and its end.
+
+abbrev pub grouped : List Piece → List Piece
+grouped pieces = Group ∷ (pieces ++ End ∷ [])
 
 abbrev pub listed : {A : Type 0} → (A → List Piece) → List A → List Piece
-listed pieces items = bracketed (flat_map pieces items)
+listed pieces items = Items (length items) ∷ (flat_map pieces items ++ End ∷ [])
 
 -- `-` for none, and `+` before a value.
 abbrev pub optional : {A : Type 0} → (A → List Piece) → Option A → List Piece
@@ -234,10 +239,10 @@ step_pieces (Artifacts step) = artifact_pieces step
 -- A reset, `[ signal active_low ]`, and a register, `[ reg next reset_value enable ]`.
 
 abbrev pub reset_pieces : ResetNumbers → List Piece
-reset_pieces r = bracketed (place r.signal ++ truth r.active_low)
+reset_pieces r = grouped (place r.signal ++ truth r.active_low)
 
 abbrev pub register_pieces : RegisterNumbers → List Piece
-register_pieces r = bracketed (place r.reg ++ (place r.next ++ (optional place r.reset_value ++ optional place r.enable)))
+register_pieces r = grouped (place r.reg ++ (place r.next ++ (optional place r.reset_value ++ optional place r.enable)))
 
 abbrev pub helper_pieces : Helper → List Piece
 helper_pieces (AddRegisters a b c d) = place a ++ (optional reset_pieces b ++ (listed register_pieces c.items ++ place d))

@@ -1,11 +1,14 @@
 pub mod Lines
 pub mod Output
+pub mod Packed
 pub mod Written
 pub mod Names
 pub mod Session
+pub mod PackedCalls
 pub mod Built
 pub mod JsonLine
 pub mod PlainLists
 pub mod Origins
 pub mod Untitled
 pub mod Replies
+pub mod CallRows

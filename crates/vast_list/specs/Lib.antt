@@ -3,11 +3,15 @@ pub mod Output
 pub mod Json
 pub mod Helpers
 pub mod CallNames
+pub mod CallNumbers
 pub mod CallArguments
 pub mod Written
+pub mod Packed
 pub mod Names
 pub mod Questions
 pub mod Session
+pub mod PackedCalls
+pub mod PackedLists
 pub mod Built
 pub mod JsonLine
 pub mod PlainLists

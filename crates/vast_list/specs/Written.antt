@@ -1,5 +1,5 @@
 -- How the arguments of a call are written in a line: a space before each of their pieces. A text is a list of bytes.
-use Rattle.std.specs.Prelude.{◌≡◌, ℕ, ◌+◌, ◌*◌, ◌-◌, ◌≤◌, ◌<◌, ◌⊎◌, ◌≢◌, ℤ, pos, neg_ℤ, List, [], ◌∷◌, ◌++◌, length, min, Option, Some, None, encode_utf8}
+use Rattle.std.specs.Prelude.{◌≡◌, ℕ, ◌+◌, ◌*◌, ◌-◌, ◌≤◌, ◌<◌, ◌⊎◌, ◌≢◌, ℤ, pos, neg_ℤ, List, [], ◌∷◌, ◌++◌, length, min, Option, Some, None, codes, encode_utf8}
 use Rattle.std.specs.Char.{IsScalar}
 use Rattle.std.specs.List.{All, flat_map}
 use Rattle.std.specs.Str.Parse.{IsNumeral, digits_value}
@@ -8,7 +8,7 @@ use Rattle.vast_list.specs.declared.names.Named.{Named}
 use Rattle.vast_list.specs.declared.names.Names.{Names}
 use Rattle.vast_list.specs.declared.names.Named.TheVariants.{Handle, Skipped, Number as NumberNamed}
 use Rattle.vast_list.specs.Json.{letter_meaning}
-use Rattle.vast_list.specs.CallArguments.{Piece, Place, Number, Count, Text, Word}
+use Rattle.vast_list.specs.CallArguments.{Piece, Place, Number, Count, Text, Word, Items, Group, End}
 
 -- A decimal numeral, and one that may have a minus.
 
@@ -99,6 +99,9 @@ module _ (named : List ℕ → Option Named) (skipped : List ℕ) where
   IsWritten (Count n) word = IsNatural word n ⊎ IsAnswer word (pos n)
   IsWritten (Text content) word = IsQuoted word content
   IsWritten (Word w) word = word ≡ w
+  IsWritten (Items n) word = word ≡ codes "["
+  IsWritten Group word = word ≡ codes "["
+  IsWritten End word = word ≡ codes "]"
 
   -- The pieces are written one after the other, a space before each.
   abbrev pub AreWritten : List Piece → List ℕ → Type 0

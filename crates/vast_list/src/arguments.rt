@@ -1,14 +1,18 @@
 //! The arguments of a line, from the first to the last.
 
-ghost use Rattle.std.specs.Prelude.{◌≡◌, List, [], ◌++◌, IfOk, OnOk, IsTrue, None, codes, false, string_bytes};
-ghost use Rattle.vast_list.specs.CallArguments.{Piece};
+ghost use Rattle.std.specs.Prelude.{◌≡◌, List, [], ◌∷◌, IfOk, OnOk, IsTrue, false, string_bytes};
+ghost use Rattle.vast_list.specs.CallArguments.{End, Group, Piece, Text, Word};
 ghost use Rattle.vast_list.specs.Written.{IsPlaceOf, meaning};
-ghost use Rattle.vast_list.specs.Internal.Written.{AreLeft, Goes, GoesText, Reads, left};
+ghost use Rattle.vast_list.specs.Internal.Written.{Begins, Goes, GoesNumber, GoesText, Reads, is_packed, left, rest_left, sign_of};
+
+mod made;
 
 use crate::names::{Named, Names};
+use crate::packed::{Choice, number_front};
 use crate::problem::{Misfit, Problem};
 use crate::texts::unquoted;
 use std::alloc::Global;
+use std::str;
 
 /// What the reading of a line knows: the names so far, and which steps were passed over.
 #[derive(Clone, Copy)]
@@ -19,11 +23,20 @@ pub(crate) struct Known<'a> {
     pub(crate) skipped: &'a [usize],
 }
 
-/// What is left of a line after its call: arguments with a space between two.
+/// What is left of a call after its name.
 #[derive(Clone, Copy)]
 pub(crate) struct Arguments<'a> {
     known: Known<'a>,
-    rest: Option<&'a str>,
+    rest: Rest<'a>,
+}
+
+/// Arguments in one of the forms of lists.
+#[derive(Clone, Copy)]
+pub(crate) enum Rest<'a> {
+    /// Of a line: a space between two.
+    Words(Option<&'a str>),
+    /// Of a packed call.
+    Packed(&'a [u8]),
 }
 
 /// What stands as one or more arguments.
@@ -53,8 +66,8 @@ pub(crate) fn place_of(skipped: &[usize], number: usize) -> usize
 }
 
 impl<'a> Arguments<'a> {
-    /// The arguments of this text; none where there is no text.
-    pub(crate) fn new(known: Known<'a>, rest: Option<&'a str>) -> Self
+    /// These arguments.
+    pub(crate) fn new(known: Known<'a>, rest: Rest<'a>) -> Self
         ensures known { result.known ≡ known.entry }
         ensures rest { result.rest ≡ rest.entry }
     {
@@ -68,7 +81,20 @@ impl<'a> Arguments<'a> {
 
     /// The bytes that are left.
     pub(crate) fn bytes_left(&self) -> usize {
-        self.rest.map_or(0, |rest| rest.len())
+        match self.rest {
+            Rest::Words(rest) => rest.map_or(0, |rest| rest.len()),
+            Rest::Packed(bytes) => bytes.len(),
+        }
+    }
+
+    /// Whether they are those of a packed call.
+    pub(crate) fn is_packed(&self) -> bool
+        ensures { result ≡ is_packed self.now.rest }
+    {
+        match self.rest {
+            Rest::Words(_) => false,
+            Rest::Packed(_) => true,
+        }
     }
 
     /// The problem, at what is next.
@@ -77,7 +103,7 @@ impl<'a> Arguments<'a> {
         Misfit { left, problem }
     }
 
-    /// The next word, and how many bytes stand from its first on.
+    /// The next word of a line, and how many bytes stand from its first on.
     pub(crate) fn word_at(&mut self) -> Result<(usize, &'a str), Misfit>
         ensures { IfOk result (λ read. Goes self.old self.new read.1.now) }
     {
@@ -99,30 +125,30 @@ impl<'a> Arguments<'a> {
         place_of(self.known.skipped, number)
     }
 
-    /// The next word, which goes to the next space.
+    /// The next word of a line, which goes to the next space.
     #[tactic(auto, using(crate::proofs::Words::words))]
     pub(crate) fn word(&mut self) -> Result<&'a str, Misfit>
         ensures { IfOk result (λ word. Goes self.old self.new word.now) }
     {
-        let Some(rest) = self.rest else {
+        let Rest::Words(Some(rest)) = self.rest else {
             return Err(self.misfit(Problem::Missing));
         };
         match rest.split_once(' ') {
             Some((word, rest)) => {
-                self.rest = Some(rest);
+                self.rest = Rest::Words(Some(rest));
                 Ok(word)
             }
             None => {
-                self.rest = None;
+                self.rest = Rest::Words(None);
                 Ok(rest)
             }
         }
     }
 
-    /// The next word, or an empty one for the next text; `None` where there is none.
+    /// The next word of a line, or an empty one for the next text; `None` where there is none.
     pub(crate) fn word_or_text(&mut self) -> Option<&'a str> {
         match self.rest {
-            Some(rest) if rest.starts_with('"') => match self.text() {
+            Rest::Words(Some(rest)) if rest.starts_with('"') => match self.text() {
                 Ok(_) => Some(""),
                 Err(_) => None,
             },
@@ -130,34 +156,86 @@ impl<'a> Arguments<'a> {
         }
     }
 
-    /// Takes the word if it is next, and returns whether it was.
+    /// Takes the word if it is next in a line, and returns whether it was.
     #[tactic(auto, using(crate::proofs::Words::words))]
     pub(crate) fn skip(&mut self, sign: &str) -> bool
         ensures taken { IsTrue result → Goes self.old self.new sign.now }
         ensures not { result ≡ false → self.new ≡ self.old }
     {
-        let Some(behind) = self.rest.and_then(|rest| rest.strip_prefix(sign)) else {
+        let Rest::Words(Some(rest)) = self.rest else {
+            return false;
+        };
+        let Some(behind) = rest.strip_prefix(sign) else {
             return false;
         };
         if behind.is_empty() {
-            self.rest = None;
+            self.rest = Rest::Words(None);
             return true;
         }
         match behind.strip_prefix(' ') {
             Some(rest) => {
-                self.rest = Some(rest);
+                self.rest = Rest::Words(Some(rest));
                 true
             }
             None => false,
         }
     }
 
-    /// The next text, without its quotes and escapes.
-    #[tactic(auto, using(crate::proofs::Words::goes_text))]
+    /// The next number of a packed call.
+    #[tactic(auto, using(crate::proofs::PackedWords::numbers))]
+    pub(crate) fn number(&mut self) -> Result<usize, Misfit>
+        ensures { IfOk result (λ number. GoesNumber self.old self.new number) }
+    {
+        let Rest::Packed(bytes) = self.rest else {
+            return Err(self.misfit(Problem::Missing));
+        };
+        match number_front(bytes) {
+            Some((number, behind)) => {
+                self.rest = Rest::Packed(behind);
+                Ok(number)
+            }
+            None if bytes.is_empty() => Err(self.misfit(Problem::Missing)),
+            None => Err(self.misfit(Problem::NoPacked)),
+        }
+    }
+
+    /// The next word, one of these, and how many bytes stand from its first on.
+    #[tactic(auto, using(crate::proofs::PackedWords::choices))]
+    pub(crate) fn choice_at(&mut self, choice: Choice) -> Result<(usize, &'a str), Misfit>
+        ensures { IfOk result (λ read. Reads self.old self.new (Word read.1.now ∷ [])) }
+    {
+        if !self.is_packed() {
+            return self.word_at();
+        }
+        let left = self.bytes_left();
+        let number = self.number()?;
+        let words = choice.words();
+        match words.get(number) {
+            Some(word) => Ok((left, *word)),
+            None => Err(Misfit {
+                left,
+                problem: choice.problem(),
+            }),
+        }
+    }
+
+    /// The next text, without what it is written with.
+    #[tactic(auto, using(crate::proofs::Words::pieces))]
     pub(crate) fn text(&mut self) -> Result<String, Misfit>
+        ensures { IfOk result (λ text. Reads self.old self.new (Text (string_bytes text) ∷ [])) }
+    {
+        match self.rest {
+            Rest::Words(_) => Ok(self.quoted()?),
+            Rest::Packed(_) => Ok(self.packed_text()?),
+        }
+    }
+
+    /// The next text of a line, without its quotes and escapes.
+    #[tactic(auto, using(crate::proofs::Words::goes_text))]
+    fn quoted(&mut self) -> Result<String, Misfit>
         ensures { IfOk result (λ text. GoesText self.old self.new (string_bytes text)) }
     {
-        let Some(rest) = self.rest else {
+        let Rest::Words(Some(rest)) = self.rest else {
             return Err(self.misfit(Problem::Missing));
         };
         let Some(quoted) = rest.strip_prefix('"') else {
@@ -169,14 +247,78 @@ impl<'a> Arguments<'a> {
             }));
         };
         let (text, rest) = unquoted(self.known.alloc, quoted)?;
-        self.rest = behind_text(rest)?;
+        self.rest = Rest::Words(behind_text(rest)?);
         Ok(text)
     }
 
-    /// Goes into a list or a group.
-    pub(crate) fn open(&mut self) -> Result<(), Misfit>
-        ensures { OnOk result (Goes self.old self.new (codes "[")) }
+    /// The next text of a packed call, which stands after its length.
+    #[tactic(auto, using(crate::proofs::PackedWords::texts))]
+    fn packed_text(&mut self) -> Result<String, Misfit>
+        ensures { IfOk result (λ text. Reads self.old self.new (Text (string_bytes text) ∷ [])) }
     {
+        let length = self.number()?;
+        let Rest::Packed(bytes) = self.rest else {
+            return Err(self.misfit(Problem::Missing));
+        };
+        let Some((content, behind)) = bytes.split_at_checked(length) else {
+            return Err(self.misfit(Problem::OpenText));
+        };
+        let Ok(text) = str::from_utf8(content) else {
+            return Err(self.misfit(Problem::NotUtf8));
+        };
+        let text = String::from_str(self.known.alloc, text)?;
+        self.rest = Rest::Packed(behind);
+        Ok(text)
+    }
+
+    /// Whether a value stands next, of which this takes the sign.
+    #[tactic(auto, using(crate::proofs::Words::signs))]
+    pub(crate) fn sign(&mut self) -> Result<bool, Misfit>
+        ensures { IfOk result (λ some. Reads self.old self.new (Word (sign_of some) ∷ [])) }
+    {
+        if self.is_packed() {
+            let (left, word) = self.choice_at(Choice::Sign)?;
+            return match word {
+                "-" => Ok(false),
+                "+" => Ok(true),
+                _ => Err(Misfit {
+                    left,
+                    problem: Problem::NoOption,
+                }),
+            };
+        }
+        if self.skip("-") {
+            return Ok(false);
+        }
+        if self.skip("+") {
+            return Ok(true);
+        }
+        Err(self.misfit(self.or_missing(Problem::NoOption)))
+    }
+
+    /// Goes into a list, and returns of a packed one how many items it has.
+    #[tactic(auto, using(crate::proofs::Words::brackets))]
+    pub(crate) fn items(&mut self) -> Result<Option<usize>, Misfit>
+        ensures { IfOk result (Begins self.old self.new) }
+    {
+        if self.is_packed() {
+            return Ok(Some(self.number()?));
+        }
+        if self.skip("[") {
+            Ok(None)
+        } else {
+            Err(self.misfit(self.or_missing(Problem::NoList)))
+        }
+    }
+
+    /// Goes into a group.
+    #[tactic(auto, using(crate::proofs::Words::brackets))]
+    pub(crate) fn open(&mut self) -> Result<(), Misfit>
+        ensures { OnOk result (Reads self.old self.new (Group ∷ [])) }
+    {
+        if self.is_packed() {
+            return Ok(());
+        }
         if self.skip("[") {
             Ok(())
         } else {
@@ -184,10 +326,14 @@ impl<'a> Arguments<'a> {
         }
     }
 
-    /// Leaves a group.
+    /// Leaves a list or a group.
+    #[tactic(auto, using(crate::proofs::Words::brackets))]
     pub(crate) fn close(&mut self) -> Result<(), Misfit>
-        ensures { OnOk result (Goes self.old self.new (codes "]")) }
+        ensures { OnOk result (Reads self.old self.new (End ∷ [])) }
     {
+        if self.is_packed() {
+            return Ok(());
+        }
         if self.skip("]") {
             Ok(())
         } else {
@@ -198,172 +344,21 @@ impl<'a> Arguments<'a> {
     /// The problem, or that an argument is missing where nothing is left.
     pub(crate) fn or_missing(&self, problem: Problem) -> Problem {
         match self.rest {
-            None => Problem::Missing,
-            Some(_) => problem,
+            Rest::Words(None) => Problem::Missing,
+            _ => problem,
         }
     }
 
     /// Nothing is left.
     fn end(&self) -> Result<(), Misfit>
-        ensures { OnOk result (self.now.rest ≡ None) }
+        ensures { OnOk result (rest_left self.now.rest ≡ []) }
     {
         match self.rest {
-            None => Ok(()),
-            Some("") => Err(self.misfit(Problem::Space)),
-            Some(_) => Err(self.misfit(Problem::TooMany)),
+            Rest::Words(None) => Ok(()),
+            Rest::Words(Some("")) => Err(self.misfit(Problem::Space)),
+            Rest::Packed(bytes) if bytes.is_empty() => Ok(()),
+            _ => Err(self.misfit(Problem::TooMany)),
         }
-    }
-
-    /// What was made of no arguments.
-    #[tactic(auto, using(crate::proofs::Words::none_left))]
-    pub(crate) fn none<R: Drop>(&self, made: R) -> Result<R, Misfit>
-        ensures { IfOk result (λ r. (r ≡ made) × AreLeft self.now []) }
-    {
-        self.end()?;
-        Ok(made)
-    }
-
-    /// What is made of one argument.
-    #[tactic(auto, using(crate::proofs::Words::ends))]
-    pub(crate) fn one<A: FromArguments, R, M>(&mut self, make: M) -> Result<R, Misfit>
-    where
-        M: FnOnce(A) -> R + Drop,
-        requires { M.IsAlwaysCallable make }
-        ensures { IfOk result (λ made. (first : A)
-            × M.post make first made × AreLeft self.old (A.pieces first)) }
-    {
-        let first = A::take(self)?;
-        self.end()?;
-        Ok(make(first))
-    }
-
-    /// What is made of two arguments.
-    #[tactic(auto, using(crate::proofs::Words::two_end))]
-    pub(crate) fn two<A: FromArguments, B: FromArguments, R, M>(
-        &mut self,
-        make: M,
-    ) -> Result<R, Misfit>
-    where
-        M: FnOnce(A, B) -> R + Drop,
-        requires { M.IsAlwaysCallable make }
-        ensures { IfOk result (λ made.
-            (first : A) × (second : B)
-            × M.post make first second made
-            × AreLeft self.old (A.pieces first ++ B.pieces second)) }
-    {
-        let first = A::take(self)?;
-        let second = B::take(self)?;
-        self.end()?;
-        Ok(make(first, second))
-    }
-
-    /// What is made of three arguments.
-    #[tactic(auto, using(crate::proofs::Words::three_end))]
-    pub(crate) fn three<A: FromArguments, B: FromArguments, C: FromArguments, R, M>(
-        &mut self,
-        make: M,
-    ) -> Result<R, Misfit>
-    where
-        M: FnOnce(A, B, C) -> R + Drop,
-        requires { M.IsAlwaysCallable make }
-        ensures { IfOk result (λ made.
-            (first : A) × (second : B) × (third : C)
-            × M.post make first second third made
-            × AreLeft self.old (A.pieces first ++ (B.pieces second ++ C.pieces third))) }
-    {
-        let first = A::take(self)?;
-        let second = B::take(self)?;
-        let third = C::take(self)?;
-        self.end()?;
-        Ok(make(first, second, third))
-    }
-
-    /// What is made of four arguments.
-    #[tactic(auto, using(crate::proofs::Words::four_end))]
-    pub(crate) fn four<
-        A: FromArguments,
-        B: FromArguments,
-        C: FromArguments,
-        D: FromArguments,
-        R,
-        M,
-    >(&mut self, make: M) -> Result<R, Misfit>
-    where
-        M: FnOnce(A, B, C, D) -> R + Drop,
-        requires { M.IsAlwaysCallable make }
-        ensures { IfOk result (λ made.
-            (first : A) × (second : B) × (third : C) × (fourth : D)
-            × M.post make first second third fourth made
-            × AreLeft self.old (A.pieces first ++ (B.pieces second
-            ++ (C.pieces third ++ D.pieces fourth)))) }
-    {
-        let first = A::take(self)?;
-        let second = B::take(self)?;
-        let third = C::take(self)?;
-        let fourth = D::take(self)?;
-        self.end()?;
-        Ok(make(first, second, third, fourth))
-    }
-
-    /// What is made of five arguments.
-    #[tactic(auto, using(crate::proofs::Words::five_end))]
-    pub(crate) fn five<
-        A: FromArguments,
-        B: FromArguments,
-        C: FromArguments,
-        D: FromArguments,
-        E: FromArguments,
-        R,
-        M,
-    >(&mut self, make: M) -> Result<R, Misfit>
-    where
-        M: FnOnce(A, B, C, D, E) -> R + Drop,
-        requires { M.IsAlwaysCallable make }
-        ensures { IfOk result (λ made.
-            (first : A) × (second : B) × (third : C) × (fourth : D) × (fifth : E)
-            × M.post make first second third fourth fifth made
-            × AreLeft self.old (A.pieces first ++ (B.pieces second
-            ++ (C.pieces third ++ (D.pieces fourth ++ E.pieces fifth))))) }
-    {
-        let first = A::take(self)?;
-        let second = B::take(self)?;
-        let third = C::take(self)?;
-        let fourth = D::take(self)?;
-        let fifth = E::take(self)?;
-        self.end()?;
-        Ok(make(first, second, third, fourth, fifth))
-    }
-
-    /// What is made of six arguments.
-    #[tactic(auto, using(crate::proofs::Words::six_end))]
-    pub(crate) fn six<
-        A: FromArguments,
-        B: FromArguments,
-        C: FromArguments,
-        D: FromArguments,
-        E: FromArguments,
-        F: FromArguments,
-        R,
-        M,
-    >(&mut self, make: M) -> Result<R, Misfit>
-    where
-        M: FnOnce(A, B, C, D, E, F) -> R + Drop,
-        requires { M.IsAlwaysCallable make }
-        ensures { IfOk result (λ made.
-            (first : A) × (second : B) × (third : C) × (fourth : D) × (fifth : E) × (sixth : F)
-            × M.post make first second third fourth fifth sixth made
-            × AreLeft self.old (A.pieces first ++ (B.pieces second
-            ++ (C.pieces third ++ (D.pieces fourth
-            ++ (E.pieces fifth ++ F.pieces sixth)))))) }
-    {
-        let first = A::take(self)?;
-        let second = B::take(self)?;
-        let third = C::take(self)?;
-        let fourth = D::take(self)?;
-        let fifth = E::take(self)?;
-        let sixth = F::take(self)?;
-        self.end()?;
-        Ok(make(first, second, third, fourth, fifth, sixth))
     }
 }
 

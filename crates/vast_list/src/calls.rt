@@ -28,31 +28,30 @@ use vast_script::Step;
 ///
 /// # Errors
 /// Where no call has the name or the arguments are not those of the call, and out of memory.
-#[tactic(auto, using(crate::proofs::Words::left_same))]
 pub(crate) fn make_step(name: &str, arguments: &mut Arguments<'_>) -> Result<Step, Misfit>
     ensures named { IfOk result (λ step. step_name step ≡ name.now) }
     ensures written { IfOk result (λ step. AreLeft arguments.old (step_pieces step)) }
 {
-    if let Some(made) = operator_step(name, arguments) {
-        return Ok(Step::Operators(made?));
+    if let Some(place) = operators::place_of(name) {
+        return Ok(Step::Operators(operator_step(place, arguments)?));
     }
-    if let Some(made) = expression_step(name, arguments) {
-        return Ok(Step::Expressions(made?));
+    if let Some(place) = expressions::place_of(name) {
+        return Ok(Step::Expressions(expression_step(place, arguments)?));
     }
-    if let Some(made) = data_type_step(name, arguments) {
-        return Ok(Step::Types(made?));
+    if let Some(place) = types::place_of(name) {
+        return Ok(Step::Types(data_type_step(place, arguments)?));
     }
-    if let Some(made) = module_step(name, arguments) {
-        return Ok(Step::Modules(made?));
+    if let Some(place) = modules::place_of(name) {
+        return Ok(Step::Modules(module_step(place, arguments)?));
     }
-    if let Some(made) = generate_loop_step(name, arguments) {
-        return Ok(Step::Loops(made?));
+    if let Some(place) = loops::place_of(name) {
+        return Ok(Step::Loops(generate_loop_step(place, arguments)?));
     }
-    if let Some(made) = statement_step(name, arguments) {
-        return Ok(Step::Statements(made?));
+    if let Some(place) = statements::place_of(name) {
+        return Ok(Step::Statements(statement_step(place, arguments)?));
     }
-    match artifact_step(name, arguments) {
-        Some(made) => Ok(Step::Artifacts(made?)),
-        None => Err(arguments.misfit(Problem::UnknownCall)),
+    if let Some(place) = artifacts::place_of(name) {
+        return Ok(Step::Artifacts(artifact_step(place, arguments)?));
     }
+    Err(arguments.misfit(Problem::UnknownCall))
 }

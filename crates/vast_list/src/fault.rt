@@ -96,7 +96,28 @@ pub(crate) fn misread(alloc: Global, line: usize, text: &str, call: &str, misfit
     if let Problem::Memory = misfit.problem {
         return Fault::Memory;
     }
-    match told(alloc, line, text, call, misfit) {
+    let column = column(text, text.len().saturating_sub(misfit.left));
+    match told(alloc, line, column, text, call, misfit) {
+        Ok(fault) => Fault::Line(fault),
+        Err(_) => Fault::Memory,
+    }
+}
+
+/// The fault of a packed call of so many bytes that is not in the form.
+pub(crate) fn mispacked(
+    alloc: Global,
+    number: usize,
+    bytes: usize,
+    call: &str,
+    misfit: Misfit,
+) -> Fault
+    ensures { IsToldOf number call.now None None result }
+{
+    if let Problem::Memory = misfit.problem {
+        return Fault::Memory;
+    }
+    let column = bytes.saturating_sub(misfit.left).saturating_add(1);
+    match told(alloc, number, column, "", call, misfit) {
         Ok(fault) => Fault::Line(fault),
         Err(_) => Fault::Memory,
     }
@@ -105,6 +126,7 @@ pub(crate) fn misread(alloc: Global, line: usize, text: &str, call: &str, misfit
 fn told(
     alloc: Global,
     line: usize,
+    column: usize,
     text: &str,
     call: &str,
     misfit: Misfit,
@@ -114,10 +136,9 @@ fn told(
     ensures step { IfOk result (λ fault. fault.step ≡ None) }
     ensures cause { IfOk result (λ fault. fault.cause ≡ None) }
 {
-    let before = text.len().saturating_sub(misfit.left);
     Ok(LineFault {
         line,
-        column: Some(column(text, before)),
+        column: Some(column),
         call: String::from_str(alloc, call)?,
         step: None,
         cause: None,
@@ -149,6 +170,10 @@ fn words(alloc: Global, text: &str, call: &str, misfit: Misfit) -> Result<String
         Problem::Missing => {
             let usage = usage(alloc, call)?;
             format!(in alloc; "an argument is missing: {usage}")
+        }
+        Problem::TooMany if word.is_empty() => {
+            let usage = usage(alloc, call)?;
+            format!(in alloc; "an argument too many: {usage}")
         }
         Problem::TooMany => {
             let usage = usage(alloc, call)?;

@@ -1,11 +1,13 @@
 //! What may stand as an argument.
 
-ghost use Rattle.std.specs.Prelude.{◌≢◌, Ok, IfOk, IsTrue, slice_index};
-ghost use Rattle.vast_list.specs.CallArguments.{count, format, kind, listed, number, optional, place, text, truth};
-ghost use Rattle.vast_list.specs.Internal.Written.{IsAnswered, IsCountWord, IsHandleWord, IsIntegerWord};
+ghost use Rattle.std.specs.Prelude.{◌≡◌, ◌≢◌, [], ◌∷◌, ◌++◌, Ok, IfOk, IsTrue, slice_index, length};
+ghost use Rattle.std.specs.List.{flat_map};
+ghost use Rattle.vast_list.specs.CallArguments.{End, count, format, kind, listed, number, optional, place, text, truth};
+ghost use Rattle.vast_list.specs.Internal.Written.{IsAnswered, IsCountWord, IsHandleWord, IsIntegerWord, Reads};
 
 use crate::arguments::{Arguments, FromArguments, SKIPPED};
 use crate::names::{Named, is_name};
+use crate::packed::{Choice, unfolded};
 use crate::problem::{Misfit, Problem};
 use std::str::FromStr;
 use xlsynth_vast::{DataKind, LiteralFormat};
@@ -129,6 +131,10 @@ impl FromArguments for usize {
 
     #[tactic(auto, using(crate::proofs::Words::pieces))]
     fn take(arguments: &mut Arguments<'_>) -> Result<usize, Misfit> {
+        if arguments.is_packed() {
+            let number = arguments.number()?;
+            return Ok(arguments.place(number));
+        }
         let (left, word) = arguments.word_at()?;
         handle(arguments, word).map_err(|problem| Misfit { left, problem })
     }
@@ -139,6 +145,9 @@ impl FromArguments for Count {
 
     #[tactic(auto, using(crate::proofs::Words::pieces))]
     fn take(arguments: &mut Arguments<'_>) -> Result<Count, Misfit> {
+        if arguments.is_packed() {
+            return Ok(Count(arguments.number()?));
+        }
         let (left, word) = arguments.word_at()?;
         match unsigned(arguments, word) {
             Ok(number) => Ok(Count(number)),
@@ -152,9 +161,20 @@ impl FromArguments for i64 {
 
     #[tactic(auto, using(crate::proofs::Words::pieces))]
     fn take(arguments: &mut Arguments<'_>) -> Result<i64, Misfit> {
+        if arguments.is_packed() {
+            return packed_integer(arguments);
+        }
         let (left, word) = arguments.word_at()?;
         signed(arguments, word).map_err(|problem| Misfit { left, problem })
     }
+}
+
+/// The next number with a sign of a packed call.
+#[tactic(auto, using(crate::proofs::PackedWords::numbers))]
+fn packed_integer(arguments: &mut Arguments<'_>) -> Result<i64, Misfit>
+    ensures { IfOk result (λ z. Reads arguments.old arguments.new (number z)) }
+{
+    Ok(unfolded(arguments.number()?))
 }
 
 impl FromArguments for i32 {
@@ -162,6 +182,16 @@ impl FromArguments for i32 {
 
     #[tactic(auto, using(crate::proofs::Words::pieces))]
     fn take(arguments: &mut Arguments<'_>) -> Result<i32, Misfit> {
+        if arguments.is_packed() {
+            let left = arguments.bytes_left();
+            return match i32::try_from(packed_integer(arguments)?) {
+                Ok(number) => Ok(number),
+                Err(_) => Err(Misfit {
+                    left,
+                    problem: Problem::OutOfRange,
+                }),
+            };
+        }
         let (left, word) = arguments.word_at()?;
         narrow(arguments, word).map_err(|problem| Misfit { left, problem })
     }
@@ -172,7 +202,7 @@ impl FromArguments for bool {
 
     #[tactic(auto, using(crate::proofs::Words::pieces))]
     fn take(arguments: &mut Arguments<'_>) -> Result<bool, Misfit> {
-        let (left, word) = arguments.word_at()?;
+        let (left, word) = arguments.choice_at(Choice::Truth)?;
         match word {
             "true" => Ok(true),
             "false" => Ok(false),
@@ -198,20 +228,49 @@ impl<T: FromArguments> FromArguments for Vec<T> {
 
     #[tactic(auto, using(crate::proofs::Words::lists))]
     fn take(arguments: &mut Arguments<'_>) -> Result<Vec<T>, Misfit> {
-        arguments.open()?;
-        let mut items = Vec::new(arguments.allocator());
-        // An item takes a word at least.
-        for _ in 0..arguments.bytes_left() {
-            if arguments.skip("]") {
-                return Ok(items);
-            }
-            if arguments.bytes_left() == 0 {
-                break;
-            }
-            items.push(T::take(arguments)?)?;
+        match arguments.items()? {
+            None => Ok(items_up_to_end(arguments)?),
+            Some(count) => Ok(counted_items(arguments, count)?),
         }
-        Err(arguments.misfit(Problem::OpenList))
     }
+}
+
+/// The items of a list in a line, up to its end.
+#[tactic(auto, using(crate::proofs::Words::lists))]
+fn items_up_to_end<T: FromArguments>(arguments: &mut Arguments<'_>) -> Result<Vec<T>, Misfit>
+    ensures { IfOk result (λ items. Reads arguments.old arguments.new
+        (flat_map T.pieces items.items ++ End ∷ [])) }
+{
+    let mut items = Vec::new(arguments.allocator());
+    // An item takes a word at least.
+    for _ in 0..arguments.bytes_left() {
+        if arguments.skip("]") {
+            return Ok(items);
+        }
+        if arguments.bytes_left() == 0 {
+            break;
+        }
+        items.push(T::take(arguments)?)?;
+    }
+    Err(arguments.misfit(Problem::OpenList))
+}
+
+/// So many items, and the end of a list.
+#[tactic(auto, using(crate::proofs::Words::lists))]
+fn counted_items<T: FromArguments>(
+    arguments: &mut Arguments<'_>,
+    count: usize,
+) -> Result<Vec<T>, Misfit>
+    ensures count { IfOk result (λ items. length items.items ≡ count) }
+    ensures read { IfOk result (λ items. Reads arguments.old arguments.new
+        (flat_map T.pieces items.items ++ End ∷ [])) }
+{
+    let mut items = Vec::new(arguments.allocator());
+    for _ in 0..count {
+        items.push(T::take(arguments)?)?;
+    }
+    arguments.close()?;
+    Ok(items)
 }
 
 impl<T: FromArguments> FromArguments for Option<T> {
@@ -219,13 +278,11 @@ impl<T: FromArguments> FromArguments for Option<T> {
 
     #[tactic(auto, using(crate::proofs::Words::pieces))]
     fn take(arguments: &mut Arguments<'_>) -> Result<Option<T>, Misfit> {
-        if arguments.skip("-") {
-            return Ok(None);
+        if arguments.sign()? {
+            Ok(Some(T::take(arguments)?))
+        } else {
+            Ok(None)
         }
-        if !arguments.skip("+") {
-            return Err(arguments.misfit(arguments.or_missing(Problem::NoOption)));
-        }
-        Ok(Some(T::take(arguments)?))
     }
 }
 
@@ -234,7 +291,7 @@ impl FromArguments for LiteralFormat {
 
     #[tactic(auto, using(crate::proofs::Words::pieces))]
     fn take(arguments: &mut Arguments<'_>) -> Result<LiteralFormat, Misfit> {
-        let (left, word) = arguments.word_at()?;
+        let (left, word) = arguments.choice_at(Choice::Format)?;
         match word {
             "Binary" => Ok(LiteralFormat::Binary),
             "Hex" => Ok(LiteralFormat::Hex),
@@ -256,7 +313,7 @@ impl FromArguments for DataKind {
 
     #[tactic(auto, using(crate::proofs::Words::pieces))]
     fn take(arguments: &mut Arguments<'_>) -> Result<DataKind, Misfit> {
-        let (left, word) = arguments.word_at()?;
+        let (left, word) = arguments.choice_at(Choice::Kind)?;
         match word {
             "Reg" => Ok(DataKind::Reg),
             "Wire" => Ok(DataKind::Wire),

@@ -1,18 +1,21 @@
 //! Helpers, which make expressions or registers on the file.
 
-ghost use Rattle.std.specs.Prelude.{◌≡◌, IfOk};
+ghost use Rattle.std.specs.Prelude.{◌≡◌, IfOk, IfSome};
 ghost use Rattle.vast_script.specs.Arguments.{many, one};
 ghost use Rattle.vast_script.specs.Kinds.{an_expr, an_indexable};
 ghost use Rattle.vast_script.specs.Internal.Outcome.{WrapsRefusable};
 ghost use Rattle.vast_list.specs.CallArguments.{helper_pieces};
 ghost use Rattle.vast_list.specs.CallNames.{helper_name};
 ghost use Rattle.vast_list.specs.Helpers.{Helps, Makes, all_hold, any_holds, elements_joined, joined};
+ghost use Rattle.vast_list.specs.Internal.CallRows.{StandsAt, helper_names};
 ghost use Rattle.vast_list.specs.Internal.Written.{AreLeft};
 
 mod registers;
 
 use crate::arguments::Arguments;
 use crate::problem::{Misfit, Problem};
+use crate::table::helpers::CALLS;
+use crate::table::place_in;
 use registers::{RegisterNumbers, ResetNumbers, add_registers};
 use vast_script::{Answer, StepFault, many, one};
 use xlsynth_vast::{Expr, IndexableExpr, VastFault, VastFile, helpers};
@@ -27,6 +30,13 @@ pub(crate) enum Helper {
     LogicalOrReduce(Vec<usize>, bool),
 }
 
+/// The place of the helper of the name in the table.
+fn place_of(name: &str) -> Option<usize>
+    ensures { IfSome result (λ place. StandsAt helper_names place name.now) }
+{
+    place_in(&CALLS, name)
+}
+
 /// The helper of the name, its sign included, over the arguments.
 ///
 /// # Errors
@@ -35,12 +45,12 @@ pub(crate) fn make_helper(name: &str, arguments: &mut Arguments<'_>) -> Result<H
     ensures named { IfOk result (λ helper. helper_name helper ≡ name.now) }
     ensures written { IfOk result (λ helper. AreLeft arguments.old (helper_pieces helper)) }
 {
-    match name {
-        "!AddRegisters" => arguments.four(Helper::AddRegisters),
-        "!BitwiseOrReduce" => arguments.one(Helper::BitwiseOrReduce),
-        "!BitwiseOrReduceArrayElements" => arguments.two(Helper::BitwiseOrReduceArrayElements),
-        "!LogicalAndReduce" => arguments.two(Helper::LogicalAndReduce),
-        "!LogicalOrReduce" => arguments.two(Helper::LogicalOrReduce),
+    match place_of(name) {
+        Some(0) => arguments.four(Helper::AddRegisters),
+        Some(1) => arguments.one(Helper::BitwiseOrReduce),
+        Some(2) => arguments.two(Helper::BitwiseOrReduceArrayElements),
+        Some(3) => arguments.two(Helper::LogicalAndReduce),
+        Some(4) => arguments.two(Helper::LogicalOrReduce),
         _ => Err(arguments.misfit(Problem::UnknownCall)),
     }
 }

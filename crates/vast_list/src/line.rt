@@ -6,11 +6,11 @@ ghost use Rattle.vast_list.specs.Lines.{HasKind, NamesDialect, Passed, Stepped, 
 ghost use Rattle.vast_list.specs.Internal.Lines.{rest_text};
 ghost use Rattle.vast_list.specs.Names.{IsFree};
 ghost use Rattle.vast_list.specs.Session.{IsOfLine};
-ghost use Rattle.vast_list.specs.Internal.Session.{IsActionOf, IsRead, NamesWord};
+ghost use Rattle.vast_list.specs.Internal.Session.{Acts, IsActionOf, IsRead, NamesWord};
 ghost use Rattle.vast_list.specs.Written.{meaning};
-ghost use Rattle.vast_list.specs.Internal.Written.{left};
+ghost use Rattle.vast_list.specs.Internal.Written.{AreLeft, left};
 
-use crate::arguments::{Arguments, Known};
+use crate::arguments::{Arguments, Known, Rest};
 use crate::calls::make_step;
 use crate::fault::{Fault, misread};
 use crate::helpers::{Helper, make_helper};
@@ -204,20 +204,31 @@ fn check_name(known: Known<'_>, text: &str, name: Option<&str>) -> Result<(), Mi
     Ok(())
 }
 
-#[tactic(auto, using(crate::proofs::Words::left_in))]
+#[tactic(auto, using(crate::proofs::Acted::in_a_line))]
 fn read_action(known: Known<'_>, call: &str, rest: Option<&str>) -> Result<Action, Misfit>
     ensures { IfOk result
         (IsActionOf (meaning known.entry.names.now) known.entry.skipped.now call.now
         (left rest.entry)) }
 {
-    let mut arguments = Arguments::new(known, rest);
+    let mut arguments = Arguments::new(known, Rest::Words(rest));
+    let action = action_of(call, &mut arguments)?;
+    Ok(action)
+}
+
+/// What a call of the name over the arguments does.
+///
+/// # Errors
+/// Where no call has the name or the arguments are not those of the call, and out of memory.
+pub(crate) fn action_of(call: &str, arguments: &mut Arguments<'_>) -> Result<Action, Misfit>
+    ensures { IfOk result (Acts (AreLeft arguments.old) call.now) }
+{
     if call.starts_with('?') {
-        return Ok(Action::Ask(make_question(call, &mut arguments)?));
+        return Ok(Action::Ask(make_question(call, arguments)?));
     }
     if call.starts_with('!') {
-        return Ok(Action::Call(Call::Helper(make_helper(call, &mut arguments)?)));
+        return Ok(Action::Call(Call::Helper(make_helper(call, arguments)?)));
     }
-    Ok(Action::Call(Call::Step(make_step(call, &mut arguments)?)))
+    Ok(Action::Call(Call::Step(make_step(call, arguments)?)))
 }
 
 /// The dialect that the line names.

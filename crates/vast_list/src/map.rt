@@ -1,6 +1,6 @@
 //! Which line of a list each line of its file's text comes from.
 
-ghost use Rattle.std.specs.Prelude.{IfOk};
+ghost use Rattle.std.specs.Prelude.{◌≡◌, IfOk, IsTrue, None, Some, false};
 ghost use Rattle.vast_list.specs.Lines.{line_texts};
 ghost use Rattle.vast_list.specs.Origins.{IsMapped};
 ghost use Rattle.vast_list.specs.Internal.Output.{IsAnswered};
@@ -82,28 +82,41 @@ fn follow(origins: &mut Origins, session: &Session, number: usize) -> Result<(),
     }
 }
 
-/// All calls were made.
-#[tactic(auto, using(crate::proofs::Mapped::maps))]
+/// All calls were made. The run is let go by a call: where it went out of scope at an early return, the check would
+/// write how each of its fields is let go once more for each of them.
 fn finished(
     mut origins: Origins,
-    answering: ListRun<'_>,
+    mut answering: ListRun<'_>,
 ) -> Result<(Option<Origins>, Verdict), AllocError>
     ensures { IfOk result (λ made. IsMapOfFile answering.entry made.0 made.1) }
 {
-    let ListRun {
-        session,
-        mut told,
-        ..
-    } = answering;
-    match session.text() {
+    let ended = end(&mut origins, &mut answering);
+    let verdict = answering.told.verdict;
+    drop(answering);
+    if ended? {
+        Ok((Some(origins), verdict))
+    } else {
+        Ok((None, verdict))
+    }
+}
+
+/// Numbers the lines of the file's text; `false` where it has none.
+#[tactic(auto, using(crate::proofs::Mapped::maps))]
+fn end(origins: &mut Origins, answering: &mut ListRun<'_>) -> Result<bool, AllocError>
+    ensures text { IfOk result (λ is_written. IsTrue is_written →
+        IsMapOfFile answering.old (Some origins.new) answering.new.told.verdict) }
+    ensures none { IfOk result (λ is_written. is_written ≡ false →
+        IsMapOfFile answering.old None answering.new.told.verdict) }
+{
+    match answering.session.text() {
         Ok(text) => {
             origins.follow(0, text.as_bytes())?;
-            Ok((Some(origins), told.verdict))
+            Ok(true)
         }
         Err(Fault::Memory) => Err(AllocError),
         Err(Fault::Line(fault)) => {
-            told.keep(Tries::Once, fault)?;
-            Ok((None, told.verdict))
+            answering.told.keep(Tries::Once, fault)?;
+            Ok(false)
         }
     }
 }

@@ -16,6 +16,7 @@ use crate::session::Session;
 use crate::tried;
 use crate::tries::Tries;
 use std::alloc::{AllocError, Global};
+use std::mem::replace;
 use xlsynth_vast::VastFileType;
 
 /// How a list was taken.
@@ -69,7 +70,7 @@ pub fn list_output(
             finished(alloc, tries, list.title, answering)
         }
         Err(Fault::Memory) => Err(AllocError),
-        Err(Fault::Line(fault)) => bad_dialect(alloc, tries, fault),
+        Err(Fault::Line(fault)) => at_fault(alloc, tries, fault),
     }
 }
 
@@ -156,8 +157,8 @@ fn answered<'a>(
     Ok(answering)
 }
 
-/// A list without a dialect.
-pub(crate) fn bad_dialect(
+/// A list of which this fault alone is told.
+pub(crate) fn at_fault(
     alloc: Global,
     tries: Tries,
     fault: LineFault,
@@ -168,6 +169,11 @@ pub(crate) fn bad_dialect(
     let mut told = ListReport::new(alloc);
     told.keep(tries, fault)?;
     Ok(output_of(None, told))
+}
+
+/// A list in packed form.
+pub(crate) fn packed_bytes(alloc: Global, bytes: Vec<u8>) -> ListOutput {
+    output_of(Some(bytes), ListReport::new(alloc))
 }
 
 fn output_of(output: Option<Vec<u8>>, told: ListReport) -> ListOutput
@@ -227,7 +233,11 @@ fn design(tries: Tries, answering: ListRun<'_>) -> Result<ListOutput, AllocError
 }
 
 /// The file's text, or its refusal.
-fn printed(tries: Tries, session: &Session, mut told: ListReport) -> Result<ListOutput, AllocError>
+pub(crate) fn printed(
+    tries: Tries,
+    session: &Session,
+    mut told: ListReport,
+) -> Result<ListOutput, AllocError>
     ensures text { IfOk result (λ made. IfSome made.output
         (λ output. IsTextOf (tree session.now.file) output.items)) }
     ensures printed { IfOk result IsPrinted }
@@ -252,7 +262,7 @@ fn text_again(tries: Tries, session: &Session) -> Result<String, Fault>
     }
 }
 
-/// The header, and after it what the lines give and the file's text.
+/// The header, and after it what the lines give and the file's text. The run is let go by a call.
 fn report(
     alloc: Global,
     tries: Tries,
@@ -263,17 +273,26 @@ fn report(
         (λ output. IsReport title.now answering.entry made.verdict output.items)) }
     ensures printed { IfOk result IsPrinted }
 {
+    let output = report_text(alloc, tries, title, &mut answering);
+    let told = replace(&mut answering.told, ListReport::new(alloc));
+    drop(answering);
+    Ok(output_of(Some(output?), told))
+}
+
+/// What is printed of a list with a header.
+fn report_text(
+    alloc: Global,
+    tries: Tries,
+    title: &[u8],
+    answering: &mut ListRun<'_>,
+) -> Result<Vec<u8>, AllocError>
+    ensures { IfOk result (λ output.
+        IsReport title.now answering.old answering.new.told.verdict output.items) }
+{
     answering.print_left()?;
-    let ListRun {
-        session,
-        report,
-        mut told,
-        ..
-    } = answering;
-    let mut body = report.unwrap_or(Vec::new(alloc));
-    append_file(tries, &session, &mut body, &mut told)?;
-    let output = tried!(tries, titled(alloc, title, &body))?;
-    Ok(output_of(Some(output), told))
+    let mut body = answering.report.take().unwrap_or(Vec::new(alloc));
+    append_file(tries, &answering.session, &mut body, &mut answering.told)?;
+    tried!(tries, titled(alloc, title, &body))
 }
 
 /// Appends the file's text, or its refusal, which is then told.

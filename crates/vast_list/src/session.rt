@@ -26,6 +26,7 @@ use vast_literal::VastFault;
 use vast_script::{Answer, Step, StepFault, one, replay_step};
 use xlsynth_vast::{Expr, FileIds, VastFile, VastFileType};
 
+mod packed;
 mod told;
 
 /// A file with the answers so far: the lines of a list are its calls. It keeps no lines.
@@ -282,7 +283,7 @@ impl Session {
         }
     }
 
-    fn known(&self) -> Known<'_>
+    pub(crate) fn known(&self) -> Known<'_>
         ensures names { result.names.now ≡ self.now.names }
         ensures skipped { result.skipped.now ≡ self.now.skipped.items }
     {

@@ -1,21 +1,23 @@
 //! The table of calls: each by its name in lists, with what its arguments are and what it returns.
 
 ghost use Rattle.std.specs.Prelude.{◌≡◌, IfSome};
+ghost use Rattle.vast_list.specs.Internal.CallRows.{StandsAt, row_names};
 
-mod artifacts;
+pub(crate) mod artifacts;
 mod by_name;
 mod described;
-mod expressions;
-mod helpers;
+pub(crate) mod expressions;
+pub(crate) mod helpers;
 pub(crate) mod json;
 mod kinds;
-mod loops;
-mod modules;
-mod operators;
-mod questions;
-mod statements;
+pub(crate) mod loops;
+pub(crate) mod modules;
+pub(crate) mod numbered;
+pub(crate) mod operators;
+pub(crate) mod questions;
+pub(crate) mod statements;
 pub(crate) mod text;
-mod types;
+pub(crate) mod types;
 
 /// A call as lists name it: a row of the table, with its name, its parameters in order, and what it returns.
 #[derive(Clone, Copy)]
@@ -202,6 +204,20 @@ pub(crate) fn row_of(name: &str) -> Option<&'static CallRow>
     for group in groups() {
         if let Some(row) = group.calls.iter().find(|call| call.name() == name) {
             return Some(row);
+        }
+    }
+    None
+}
+
+/// The place of the call of the name, its sign included, among these. Lengths are compared first, since few names have
+/// that of another.
+pub(crate) fn place_in(calls: &[CallRow], name: &str) -> Option<usize>
+    ensures { IfSome result (λ place. StandsAt (row_names calls.now) place name.now) }
+{
+    for place in 0..calls.len() {
+        match calls.get(place) {
+            Some(row) if row.0.len() == name.len() && row.0 == name => return Some(place),
+            _ => {}
         }
     }
     None

@@ -9,7 +9,7 @@ ghost use Rattle.vast_list.specs.Internal.Untitled.{LeadsTo};
 use crate::answering::ListRun;
 use crate::fault::{Fault, LineFault};
 use crate::line::{dialect_missing, dialect_of, is_empty_line};
-use crate::output::{ListOutput, bad_dialect, finished};
+use crate::output::{ListOutput, at_fault, finished};
 use crate::tries::Tries;
 use std::alloc::{AllocError, Global};
 
@@ -72,10 +72,10 @@ impl UntitledList {
         match stage {
             Stage::Before => match dialect_missing(alloc, 1) {
                 Fault::Memory => Err(AllocError),
-                Fault::Line(fault) => bad_dialect(alloc, Tries::Once, fault),
+                Fault::Line(fault) => at_fault(alloc, Tries::Once, fault),
             },
             Stage::Behind(answering) => finished(alloc, Tries::Once, None, answering),
-            Stage::Astray(fault) => bad_dialect(alloc, Tries::Once, fault),
+            Stage::Astray(fault) => at_fault(alloc, Tries::Once, fault),
         }
     }
 }

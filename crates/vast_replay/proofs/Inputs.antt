@@ -1,13 +1,16 @@
 -- What is read of an input, and what is printed of it.
-use Rattle.std.proofs.Common.{◌≡◌, ◌==◌, ℕ, ◌<◌, ◌≤◌, Bool, true, false, cond, List, [], ◌∷◌, ◌++◌, length, Option, Some, None, IfSome, Result, Ok, Err, IfOk, OnOk, Vec, Global, refl, sym, ap, subst, ◌∙◌, arith, append_assoc, append-nil}
+use Rattle.std.proofs.Common.{◌≡◌, ◌==◌, ℕ, ◌<◌, ◌≤◌, Bool, true, false, cond, List, [], ◌∷◌, ◌++◌, length, drop, Option, Some, None, IfSome, Result, Ok, Err, IfOk, OnOk, Vec, Global, inl, inr, refl, sym, ap, subst, ◌∙◌, arith, append_assoc, append-nil}
 use Rattle.std.proofs.KnownBytes.{Consumes-trans, Consumes-kept}
+use Rattle.std.specs.Io.{StartsWith, appended_bytes}
 use Rattle.std.specs.Io.KnownBytes.{Consumes, Keeps}
 use Rattle.std.proofs.lemmas.Bool.{eqb-true, false≢true}
-use Rattle.std.proofs.lemmas.List.{nil_from_length}
+use Rattle.std.proofs.lemmas.List.{nil_from_length, take-append-drop}
+use Rattle.std.proofs.lemmas.Option.{IfSome_then}
 use Rattle.std.specs.Prelude.{IsTrue, if◌then◌else◌, is_ok, is_some, vec_len}
 use Rattle.vast_list.specs.Built.{IsListText}
 use Rattle.vast_list.specs.Lines.{HasNoFeed, IsEnded, lines_of}
 use Rattle.vast_list.specs.Output.{IsPrinted}
+use Rattle.vast_list.specs.PackedLists.{IsPackedText}
 use Rattle.vast_list.specs.Untitled.{GoesOnTo, HasTaken, IsPrintedOf}
 use Rattle.vast_list.specs.declared.output.ListOutput.{ListOutput}
 use Rattle.vast_list.specs.declared.untitled.UntitledList.{UntitledList}
@@ -148,7 +151,7 @@ same_mark (a ∷ b ∷ c ∷ front) rest six = mark_at (begins_with (239 ∷ 187
 pub short_taken :
     (a b : Option (List ℕ)) (front : List ℕ) (old new : InputLines) (made : ListOutput) → Consumes a b front → HasRead old [] → ReadsOn old new (unmarked front) → IsPrinted made → GivesTextOf new made →
     GivesTaken a b (OneList made)
-short_taken a b front old new made f none read printed text = (front, f, (printed, text (unmarked front) (read [] none)))
+short_taken a b front old new made f none read printed text = (front, f, (printed, IfSome_then made.output (text (unmarked front) (read [] none)) (λ output is. inl is)))
 
 pub long_taken :
     (a b c : Option (List ℕ)) (front : List ℕ) (old between new : InputLines) (made : ListOutput) → 6 ≤ length front → Consumes a b front → HasRead old [] → ReadsOn old between (unmarked front) →
@@ -158,10 +161,20 @@ long_taken a b c front old between new made six f none read (more, m, reads) pri
   Consumes-trans a b c front more f m,
   (
     printed,
-    subst (λ (bytes : List ℕ). IfSome made.output (λ text. IsListText false (lines_of bytes) text.items)) (sym (same_mark front more six))
-        (text (unmarked front ++ more) (reads (unmarked front) (read [] none))),
+    IfSome_then made.output (subst (λ (bytes : List ℕ). IfSome made.output (λ text. IsListText false (lines_of bytes) text.items)) (sym (same_mark front more six))
+        (text (unmarked front ++ more) (reads (unmarked front) (read [] none))))
+        (λ output is. inl is),
   ),
 )
+
+-- What a packed list gives, of which the front was read and then the rest.
+pub packed_taken :
+    (a b c : Option (List ℕ)) (front input : List ℕ) (made : ListOutput) → Consumes a b front → StartsWith input front → Consumes b c (appended_bytes front input) → IsPrinted made →
+    IfSome made.output (λ text. IsPackedText input text.items) → GivesTaken a c (OneList made)
+packed_taken a b c front input made f is more printed text =
+    let whole : front ++ appended_bytes front input ≡ input =
+    ap (λ (bytes : List ℕ). bytes ++ drop (length front) input) (sym is) ∙ take-append-drop (length front) input in
+    (input, subst (Consumes a c) whole (Consumes-trans a b c front (appended_bytes front input) f more), (printed, IfSome_then made.output text (λ output is. inr is)))
 
 -- What is written of it.
 

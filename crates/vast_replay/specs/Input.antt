@@ -1,10 +1,11 @@
 -- What is printed of an input that is one list. A text is a list of bytes.
-use Rattle.std.specs.Prelude.{◌≡◌, ◌==◌, ℕ, Bool, true, false, List, ◌∷◌, [], Option, IfSome, IsTrue, cond, codes, drop, is_some, ⊤}
+use Rattle.std.specs.Prelude.{◌≡◌, ◌==◌, ◌⊎◌, ℕ, Bool, true, false, List, ◌∷◌, [], Option, IfSome, IsTrue, cond, codes, drop, is_some, ⊤}
 use Rattle.std.specs.Io.KnownBytes.{Appends, Consumes}
 use Rattle.std.specs.List.{starts_with}
 use Rattle.vast_list.specs.Built.{IsListText}
 use Rattle.vast_list.specs.Lines.{lines_of}
 use Rattle.vast_list.specs.Output.{IsPrinted}
+use Rattle.vast_list.specs.PackedLists.{IsPackedText}
 use Rattle.vast_list.specs.declared.output.ListOutput.{ListOutput}
 use Rattle.vast_list.specs.declared.tries.Tries.TheVariants.{Once}
 use Rattle.vast_replay.specs.declared.input.ReadInput.{ReadInput}
@@ -25,9 +26,9 @@ unmarked input = cond (begins_with (239 ∷ 187 ∷ 191 ∷ []) input) (drop 3 i
 abbrev pub has_header : (input : List ℕ) → Bool
 has_header input = begins_with (codes "== ") (unmarked input)
 
--- The text is the printed layout of the tree that the input's lines build.
+-- The text is the printed layout of the tree that the input's lines build; or its calls, where it is a packed list.
 abbrev pub IsTextOfInput : (input text : List ℕ) → Type 0
-IsTextOfInput input text = IsListText false (lines_of (unmarked input)) text
+IsTextOfInput input text = IsListText false (lines_of (unmarked input)) text ⊎ IsPackedText input text
 
 -- Texts alone are printed, and each line is taken once.
 pub record PrintsTexts (manner : Manner) : Type 0 where

@@ -5,6 +5,7 @@ pub(crate) const HELP: &str = "\
 vast_replay [--json] [--map] [--lint] [--strict] [--again] [FILE ..]
 vast_replay --check [--lint] [--strict] [FILE ..]
 vast_replay --plain [FILE ..]
+vast_replay --pack [FILE ..]
 vast_replay --session [--lint]
 vast_replay --calls [--json]
 
@@ -21,6 +22,8 @@ standard input.
   --strict   --lint, and status 1 where anything was told
   --plain    prints whether each list's file is plain, `counter.list: plain`; else the first call that makes it so,
              `counter.list:12: AddWire: not plain`, and status 1
+  --pack     writes each list in packed form, as bytes; a list in that form is told by its first bytes, and is taken
+             without words and with --check
   --session  answers each line of standard input at once, by a line of JSON
   --calls    prints the table of all calls, with --json as JSON
   --again    tries once more what was refused memory, for tests that refuse it

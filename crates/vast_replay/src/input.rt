@@ -11,14 +11,16 @@ ghost use Rattle.vast_replay.specs.Internal.Input.{GivesTextOf, HasRead, ReadsIn
 use std::alloc::{AllocError, Global};
 use std::io;
 use std::io::{Error, ErrorKind, Read};
-use vast_list::{HEADER, ListLines, ListOutput, UntitledList, ended_line};
+use vast_list::{
+    HEADER, ListLines, ListOutput, UntitledList, ended_line, is_packed_list, packed_output,
+};
 
 /// What is read of an input.
 #[derive(Drop)]
 pub(crate) enum ReadInput {
     /// All its bytes.
     Bytes(Vec<u8>),
-    /// What its one list gives, which has no header, and whose lines were not kept.
+    /// What its one list gives, which is packed, or has no header, and whose lines were not kept.
     List(ListOutput),
 }
 
@@ -72,7 +74,7 @@ fn without_mark(input: &[u8]) -> &[u8]
 }
 
 /// Reads the input to its end. The lines of a list without a header are taken as they come, and no more than the longest
-/// is kept; where the first line is a header all bytes are.
+/// is kept; where the first line is a header, or the list is packed, all bytes are.
 ///
 /// # Errors
 /// A failed read, and out of memory.
@@ -81,6 +83,10 @@ pub(crate) fn take_input<R: Read>(alloc: Global, input: &mut R) -> io::Result<Re
     ensures taken { IfOk result (GivesTaken (R.remaining input.old) (R.remaining input.new)) }
 {
     let mut front = read_front(alloc, input)?;
+    if is_packed_list(&front) {
+        input.read_to_end(&mut front)?;
+        return Ok(ReadInput::List(packed_output(alloc, &front)?));
+    }
     let lines = without_mark(&front);
     if lines.starts_with(HEADER) {
         input.read_to_end(&mut front)?;

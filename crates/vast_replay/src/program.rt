@@ -13,11 +13,15 @@ use std::fmt::Write as _;
 use std::io;
 use std::io::{Read, Write};
 use vast_list::{
-    ListLines, ListOutput, Plainness, Tries, Verdict, json_with_map, list_json, list_origins,
-    list_output, list_plainness, tried,
+    ListLines, ListOutput, Plainness, Tries, Verdict, is_packed_list, json_with_map, list_json,
+    list_origins, list_output, list_plainness, pack_list, tried,
 };
 use vast_shell::{Failure, ended, tell, write_whole};
 use vast_talk::{LineWarning, json_with_warnings, list_warnings};
+
+/// What is told of a packed list that is asked for more.
+const PACKED_ALONE: &str =
+    "a packed list is answered alone, or with --check, and without other words";
 
 /// How lists are answered.
 #[derive(Clone, Copy)]
@@ -121,6 +125,10 @@ fn answer_lists<W: Write, E: Write>(
 ) -> Result<Outcome, Failure>
     ensures { IfOk result (λ o. o ≡ Outcome.Made → E.contents err.new ≡ E.contents err.old) }
 {
+    if is_packed_list(input) {
+        let told = format!(in manner.alloc; "{}: {PACKED_ALONE}\n", manner.source)?;
+        return Ok(tell(&told, Outcome::NotInForm, err));
+    }
     let lists = tried!(manner.tries, split_lists(manner.alloc, input))?;
     let mut outcome = Outcome::Made;
     for list in &lists {
@@ -141,6 +149,10 @@ fn answer_list<W: Write, E: Write>(
         Form::Text | Form::Faults => answer_text(manner, list, out, err),
         Form::Json => answer_json(manner, list, out, err),
         Form::Plain => answer_plain(manner, list, out, err),
+        Form::Packed => {
+            let packed = pack_list(manner.alloc, list)?;
+            answer_made(manner, list.title.is_some(), packed, out, err)
+        }
     }
 }
 
@@ -178,7 +190,7 @@ fn answer_made<W: Write, E: Write>(
         verdict,
         ..
     } = made;
-    if let (Form::Text, Some(output)) = (manner.form, &output) {
+    if let (Form::Text | Form::Packed, Some(output)) = (manner.form, &output) {
         write_whole(output, out)?;
     }
     let outcome = outcome_of(verdict, has_title);

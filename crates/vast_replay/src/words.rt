@@ -41,6 +41,8 @@ pub(crate) enum Form {
     Json,
     /// Whether the file is plain.
     Plain,
+    /// The list in packed form.
+    Packed,
 }
 
 /// Whether forms that are no SystemVerilog, or that a tool refuses, are told.
@@ -65,6 +67,7 @@ enum Mode {
     Check,
     Json,
     Plain,
+    Pack,
 }
 
 /// The words so far.
@@ -122,6 +125,7 @@ impl<'a> Seen<'a> {
             "--check" => self.choose(Mode::Check, "--check")?,
             "--json" => self.choose(Mode::Json, "--json")?,
             "--plain" => self.choose(Mode::Plain, "--plain")?,
+            "--pack" => self.choose(Mode::Pack, "--pack")?,
             _ => return Err(WordFault::Unknown(word)),
         }
         Ok(())
@@ -154,6 +158,7 @@ impl<'a> Seen<'a> {
             Mode::Check => Ok(self.lists(Form::Faults)),
             Mode::Plain => Ok(self.lists(Form::Plain)),
             _ if self.lint == Linting::Strict => Err(WordFault::Together("--strict", word)),
+            Mode::Pack if self.lint == Linting::Off => Ok(self.lists(Form::Packed)),
             _ if !self.files.is_empty() => Err(WordFault::Takes(word, "no file")),
             Mode::Session => Ok(Request::Session {
                 lint: self.lint == Linting::Told,
@@ -162,6 +167,7 @@ impl<'a> Seen<'a> {
             Mode::Version => Ok(Request::Version),
             Mode::Calls => Ok(Request::Calls),
             Mode::CallsJson => Ok(Request::CallsJson),
+            Mode::Pack => Err(WordFault::Together("--lint", word)),
         }
     }
 

@@ -1,3 +1,4 @@
 pub mod Outcome
 pub mod Owned
 pub mod Arguments
+pub mod Operators

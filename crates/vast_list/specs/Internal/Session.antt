@@ -13,7 +13,7 @@ use Rattle.vast_list.specs.declared.session.Session.{Session}
 use Rattle.vast_list.specs.declared.names.Named.{Named}
 use Rattle.vast_list.specs.declared.names.Named.TheVariants.{Handle}
 use Rattle.vast_list.specs.declared.questions.Question.{Question}
-use Rattle.vast_list.specs.CallArguments.{call_pieces}
+use Rattle.vast_list.specs.CallArguments.{Piece, call_pieces}
 use Rattle.vast_list.specs.CallNames.{call_name}
 use Rattle.vast_list.specs.Lines.{Asked, begins_blank, behind_call, call_word, text_name, word_kind}
 use Rattle.vast_list.specs.Names.{IsFree}
@@ -62,12 +62,14 @@ abbrev pub IsQuestionFault : Session → Question → Fault → Type 0
 IsQuestionFault session question (Line fault) = IfSome fault.cause (λ cause. Asks session.file session.answers.items (Err cause) question)
 IsQuestionFault session question Memory = ⊤
 
+-- What a call of this name does, of which these are the arguments.
+abbrev pub Acts : (AreThese : List Piece → Type 0) → (name : List ℕ) → Action → Type 0
+Acts AreThese name (Ask question) = (word_kind name ≡ Asked) × ((question_words question).0 ≡ name) × AreThese (question_words question).1
+Acts AreThese name (CallAction call) = (word_kind name ≡ call_kind call) × (call_name call ≡ name) × AreThese (call_pieces call)
+
 -- What a line does whose call has this name and, over the names so far, these arguments.
 abbrev pub IsActionOf : (named : List ℕ → Option Named) → (skipped name arguments : List ℕ) → Action → Type 0
-IsActionOf named skipped name arguments (Ask question) =
-    (word_kind name ≡ Asked) × ((question_words question).0 ≡ name) × AreWritten named skipped (question_words question).1 arguments
-IsActionOf named skipped name arguments (CallAction call) =
-    (word_kind name ≡ call_kind call) × (call_name call ≡ name) × AreWritten named skipped (call_pieces call) arguments
+IsActionOf named skipped name arguments action = Acts (λ pieces. AreWritten named skipped pieces arguments) name action
 
 -- What a call does to a session.
 abbrev pub Makes : (old new : Session) → Call → Result (Unit {0}) Fault → Type 0

@@ -1,52 +1,51 @@
-//! Calls of parts that are made beforehand, and that add them to modules, by their names.
+//! Calls of parts that are made beforehand, and that add them to modules, by their places in the table.
 
-ghost use Rattle.std.specs.Prelude.{◌≡◌, IfNone, IfOk, IfSome};
+ghost use Rattle.std.specs.Prelude.{IfOk, IfSome};
 ghost use Rattle.vast_list.specs.CallArguments.{artifact_pieces};
 ghost use Rattle.vast_list.specs.CallNames.{artifact_name};
+ghost use Rattle.vast_list.specs.Internal.CallRows.{StandsAt, artifact_names};
 ghost use Rattle.vast_list.specs.Internal.Written.{AreLeft};
 
 use crate::arguments::Arguments;
-use crate::problem::Misfit;
+use crate::problem::{Misfit, Problem};
+use crate::table::artifacts::CALLS;
+use crate::table::place_in;
 use vast_script::ArtifactStep;
 
-/// The call of the name over the arguments; `None` where no such call has the name.
-pub(crate) fn artifact_step(
-    name: &str,
-    arguments: &mut Arguments<'_>,
-) -> Option<Result<ArtifactStep, Misfit>>
-    ensures named { IfSome result (λ made. IfOk made (λ step. artifact_name step ≡ name.now)) }
-    ensures written { IfSome result
-        (λ made. IfOk made (λ step. AreLeft arguments.old (artifact_pieces step))) }
-    ensures none { IfNone result (arguments.new ≡ arguments.old) }
+/// The place of the call of the name in its group.
+pub(super) fn place_of(name: &str) -> Option<usize>
+    ensures { IfSome result (λ place. StandsAt artifact_names place name.now) }
 {
-    match (name.len(), name) {
-        (7, "MakeDef") => Some(arguments.three(ArtifactStep::MakeDef)),
-        (13, "MakeBlankLine") => Some(arguments.none(ArtifactStep::MakeBlankLine)),
-        (11, "MakeComment") => Some(arguments.one(ArtifactStep::MakeComment)),
-        (26, "MakeInlineVerilogStatement") => Some(arguments.one(
-            ArtifactStep::MakeInlineVerilogStatement,
-        )),
-        (18, "MakeMacroStatement") => Some(arguments.two(ArtifactStep::MakeMacroStatement)),
-        (24, "MakeContinuousAssignment") => Some(arguments.two(
-            ArtifactStep::MakeContinuousAssignment,
-        )),
-        (25, "MakeNonblockingAssignment") => Some(arguments.two(
-            ArtifactStep::MakeNonblockingAssignment,
-        )),
-        (22, "MakeBlockingAssignment") => Some(arguments.two(ArtifactStep::MakeBlockingAssignment)),
-        (17, "MakeInstantiation") => Some(arguments.six(ArtifactStep::MakeInstantiation)),
-        (22, "AddMemberInstantiation") => Some(arguments.two(ArtifactStep::AddMemberInstantiation)),
-        (29, "AddMemberContinuousAssignment") => Some(arguments.two(
-            ArtifactStep::AddMemberContinuousAssignment,
-        )),
-        (18, "AddMemberBlankLine") => Some(arguments.two(ArtifactStep::AddMemberBlankLine)),
-        (16, "AddMemberComment") => Some(arguments.two(ArtifactStep::AddMemberComment)),
-        (24, "AddMemberInlineStatement") => Some(arguments.two(
-            ArtifactStep::AddMemberInlineStatement,
-        )),
-        (23, "AddMemberMacroStatement") => Some(arguments.two(
-            ArtifactStep::AddMemberMacroStatement,
-        )),
-        _ => None,
+    place_in(&CALLS, name)
+}
+
+/// The call of this place in its group, over the arguments.
+///
+/// # Errors
+/// Where no call has the place or the arguments are not those of the call, and out of memory.
+pub(super) fn artifact_step(
+    place: usize,
+    arguments: &mut Arguments<'_>,
+) -> Result<ArtifactStep, Misfit>
+    ensures named { IfOk result (λ step. StandsAt artifact_names place (artifact_name step)) }
+    ensures written { IfOk result (λ step. AreLeft arguments.old (artifact_pieces step)) }
+{
+    match place {
+        0 => arguments.three(ArtifactStep::MakeDef),
+        1 => arguments.none(ArtifactStep::MakeBlankLine),
+        2 => arguments.one(ArtifactStep::MakeComment),
+        3 => arguments.one(ArtifactStep::MakeInlineVerilogStatement),
+        4 => arguments.two(ArtifactStep::MakeMacroStatement),
+        5 => arguments.two(ArtifactStep::MakeContinuousAssignment),
+        6 => arguments.two(ArtifactStep::MakeNonblockingAssignment),
+        7 => arguments.two(ArtifactStep::MakeBlockingAssignment),
+        8 => arguments.six(ArtifactStep::MakeInstantiation),
+        9 => arguments.two(ArtifactStep::AddMemberInstantiation),
+        10 => arguments.two(ArtifactStep::AddMemberContinuousAssignment),
+        11 => arguments.two(ArtifactStep::AddMemberBlankLine),
+        12 => arguments.two(ArtifactStep::AddMemberComment),
+        13 => arguments.two(ArtifactStep::AddMemberInlineStatement),
+        14 => arguments.two(ArtifactStep::AddMemberMacroStatement),
+        _ => Err(arguments.misfit(Problem::UnknownCall)),
     }
 }

@@ -1,65 +1,62 @@
-//! Calls that make any other expression, by their names.
+//! Calls that make any other expression, by their places in the table.
 
-ghost use Rattle.std.specs.Prelude.{◌≡◌, IfNone, IfOk, IfSome};
+ghost use Rattle.std.specs.Prelude.{IfOk, IfSome};
 ghost use Rattle.vast_list.specs.CallArguments.{expression_pieces};
 ghost use Rattle.vast_list.specs.CallNames.{expression_name};
+ghost use Rattle.vast_list.specs.Internal.CallRows.{StandsAt, expression_names};
 ghost use Rattle.vast_list.specs.Internal.Written.{AreLeft};
 
 use crate::arguments::Arguments;
-use crate::problem::Misfit;
+use crate::problem::{Misfit, Problem};
+use crate::table::expressions::CALLS;
+use crate::table::place_in;
 use vast_script::ExpressionStep;
 
-/// The call of the name over the arguments; `None` where no such call has the name.
-pub(crate) fn expression_step(
-    name: &str,
-    arguments: &mut Arguments<'_>,
-) -> Option<Result<ExpressionStep, Misfit>>
-    ensures named { IfSome result (λ made. IfOk made (λ step. expression_name step ≡ name.now)) }
-    ensures written { IfSome result
-        (λ made. IfOk made (λ step. AreLeft arguments.old (expression_pieces step))) }
-    ensures none { IfNone result (arguments.new ≡ arguments.old) }
+/// The place of the call of the name in its group.
+pub(super) fn place_of(name: &str) -> Option<usize>
+    ensures { IfSome result (λ place. StandsAt expression_names place name.now) }
 {
-    match (name.len(), name) {
-        (11, "MakeLiteral") => Some(arguments.two(ExpressionStep::MakeLiteral)),
-        (17, "MakeBinaryPattern") => Some(arguments.one(ExpressionStep::MakeBinaryPattern)),
-        (25, "MakeUnsizedDecimalLiteral") => Some(arguments.one(
-            ExpressionStep::MakeUnsizedDecimalLiteral,
-        )),
-        (17, "MakeStringLiteral") => Some(arguments.one(ExpressionStep::MakeStringLiteral)),
-        (21, "MakeUnsizedOneLiteral") => Some(arguments.none(
-            ExpressionStep::MakeUnsizedOneLiteral,
-        )),
-        (22, "MakeUnsizedZeroLiteral") => Some(arguments.none(
-            ExpressionStep::MakeUnsizedZeroLiteral,
-        )),
-        (19, "MakeUnsizedXLiteral") => Some(arguments.none(ExpressionStep::MakeUnsizedXLiteral)),
-        (8, "MakeName") => Some(arguments.one(ExpressionStep::MakeName)),
-        (23, "MakeIndexableExpression") => Some(arguments.one(
-            ExpressionStep::MakeIndexableExpression,
-        )),
-        (9, "MakeSlice") => Some(arguments.three(ExpressionStep::MakeSlice)),
-        (9, "MakeIndex") => Some(arguments.two(ExpressionStep::MakeIndex)),
-        (13, "MakeSliceExpr") => Some(arguments.three(ExpressionStep::MakeSliceExpr)),
-        (13, "MakeIndexExpr") => Some(arguments.two(ExpressionStep::MakeIndexExpr)),
-        (21, "MakeIndexedPartSelect") => Some(arguments.three(
-            ExpressionStep::MakeIndexedPartSelect,
-        )),
-        (16, "MakeFunctionCall") => Some(arguments.two(ExpressionStep::MakeFunctionCall)),
-        (10, "MakeConcat") => Some(arguments.one(ExpressionStep::MakeConcat)),
-        (20, "MakeReplicatedConcat") => Some(arguments.two(ExpressionStep::MakeReplicatedConcat)),
-        (23, "MakeReplicatedConcatI64") => Some(arguments.two(
-            ExpressionStep::MakeReplicatedConcatI64,
-        )),
-        (26, "MakeArrayAssignmentPattern") => Some(arguments.one(
-            ExpressionStep::MakeArrayAssignmentPattern,
-        )),
-        (11, "MakeTernary") => Some(arguments.three(ExpressionStep::MakeTernary)),
-        (13, "MakeWidthCast") => Some(arguments.two(ExpressionStep::MakeWidthCast)),
-        (12, "MakeTypeCast") => Some(arguments.two(ExpressionStep::MakeTypeCast)),
-        (11, "MakePosEdge") => Some(arguments.one(ExpressionStep::MakePosEdge)),
-        (11, "MakeNegEdge") => Some(arguments.one(ExpressionStep::MakeNegEdge)),
-        (12, "MakeMacroRef") => Some(arguments.one(ExpressionStep::MakeMacroRef)),
-        (20, "MakeMacroRefWithArgs") => Some(arguments.two(ExpressionStep::MakeMacroRefWithArgs)),
-        _ => None,
+    place_in(&CALLS, name)
+}
+
+/// The call of this place in its group, over the arguments.
+///
+/// # Errors
+/// Where no call has the place or the arguments are not those of the call, and out of memory.
+pub(super) fn expression_step(
+    place: usize,
+    arguments: &mut Arguments<'_>,
+) -> Result<ExpressionStep, Misfit>
+    ensures named { IfOk result (λ step. StandsAt expression_names place (expression_name step)) }
+    ensures written { IfOk result (λ step. AreLeft arguments.old (expression_pieces step)) }
+{
+    match place {
+        0 => arguments.two(ExpressionStep::MakeLiteral),
+        1 => arguments.one(ExpressionStep::MakeBinaryPattern),
+        2 => arguments.one(ExpressionStep::MakeUnsizedDecimalLiteral),
+        3 => arguments.one(ExpressionStep::MakeStringLiteral),
+        4 => arguments.none(ExpressionStep::MakeUnsizedOneLiteral),
+        5 => arguments.none(ExpressionStep::MakeUnsizedZeroLiteral),
+        6 => arguments.none(ExpressionStep::MakeUnsizedXLiteral),
+        7 => arguments.one(ExpressionStep::MakeName),
+        8 => arguments.one(ExpressionStep::MakeIndexableExpression),
+        9 => arguments.three(ExpressionStep::MakeSlice),
+        10 => arguments.two(ExpressionStep::MakeIndex),
+        11 => arguments.three(ExpressionStep::MakeSliceExpr),
+        12 => arguments.two(ExpressionStep::MakeIndexExpr),
+        13 => arguments.three(ExpressionStep::MakeIndexedPartSelect),
+        14 => arguments.two(ExpressionStep::MakeFunctionCall),
+        15 => arguments.one(ExpressionStep::MakeConcat),
+        16 => arguments.two(ExpressionStep::MakeReplicatedConcat),
+        17 => arguments.two(ExpressionStep::MakeReplicatedConcatI64),
+        18 => arguments.one(ExpressionStep::MakeArrayAssignmentPattern),
+        19 => arguments.three(ExpressionStep::MakeTernary),
+        20 => arguments.two(ExpressionStep::MakeWidthCast),
+        21 => arguments.two(ExpressionStep::MakeTypeCast),
+        22 => arguments.one(ExpressionStep::MakePosEdge),
+        23 => arguments.one(ExpressionStep::MakeNegEdge),
+        24 => arguments.one(ExpressionStep::MakeMacroRef),
+        25 => arguments.two(ExpressionStep::MakeMacroRefWithArgs),
+        _ => Err(arguments.misfit(Problem::UnknownCall)),
     }
 }

@@ -1,48 +1,51 @@
-//! Calls of generate loops and their members, by their names.
+//! Calls of generate loops and their members, by their places in the table.
 
-ghost use Rattle.std.specs.Prelude.{◌≡◌, IfNone, IfOk, IfSome};
+ghost use Rattle.std.specs.Prelude.{IfOk, IfSome};
 ghost use Rattle.vast_list.specs.CallArguments.{loop_pieces};
 ghost use Rattle.vast_list.specs.CallNames.{loop_name};
+ghost use Rattle.vast_list.specs.Internal.CallRows.{StandsAt, loop_names};
 ghost use Rattle.vast_list.specs.Internal.Written.{AreLeft};
 
 use crate::arguments::Arguments;
-use crate::problem::Misfit;
+use crate::problem::{Misfit, Problem};
+use crate::table::loops::CALLS;
+use crate::table::place_in;
 use vast_script::LoopStep;
 
-/// The call of the name over the arguments; `None` where no such call has the name.
-pub(crate) fn generate_loop_step(
-    name: &str,
-    arguments: &mut Arguments<'_>,
-) -> Option<Result<LoopStep, Misfit>>
-    ensures named { IfSome result (λ made. IfOk made (λ step. loop_name step ≡ name.now)) }
-    ensures written { IfSome result
-        (λ made. IfOk made (λ step. AreLeft arguments.old (loop_pieces step))) }
-    ensures none { IfNone result (arguments.new ≡ arguments.old) }
+/// The place of the call of the name in its group.
+pub(super) fn place_of(name: &str) -> Option<usize>
+    ensures { IfSome result (λ place. StandsAt loop_names place name.now) }
 {
-    match (name.len(), name) {
-        (15, "AddGenerateLoop") => Some(arguments.five(LoopStep::AddGenerateLoop)),
-        (23, "GenerateAddGenerateLoop") => Some(arguments.five(LoopStep::GenerateAddGenerateLoop)),
-        (14, "GenerateGenvar") => Some(arguments.one(LoopStep::GenerateGenvar)),
-        (21, "GenerateAddAlwaysComb") => Some(arguments.one(LoopStep::GenerateAddAlwaysComb)),
-        (19, "GenerateAddAlwaysFf") => Some(arguments.two(LoopStep::GenerateAddAlwaysFf)),
-        (19, "GenerateAddAlwaysAt") => Some(arguments.two(LoopStep::GenerateAddAlwaysAt)),
-        (21, "GenerateAddLocalparam") => Some(arguments.three(LoopStep::GenerateAddLocalparam)),
-        (26, "GenerateAddTypedLocalparam") => Some(arguments.three(
-            LoopStep::GenerateAddTypedLocalparam,
-        )),
-        (31, "GenerateAddContinuousAssignment") => Some(arguments.three(
-            LoopStep::GenerateAddContinuousAssignment,
-        )),
-        (22, "GenerateAddConditional") => Some(arguments.two(LoopStep::GenerateAddConditional)),
-        (20, "GenerateAddBlankLine") => Some(arguments.one(LoopStep::GenerateAddBlankLine)),
-        (18, "GenerateAddComment") => Some(arguments.two(LoopStep::GenerateAddComment)),
-        (24, "GenerateAddInstantiation") => Some(arguments.two(LoopStep::GenerateAddInstantiation)),
-        (26, "GenerateAddInlineStatement") => Some(arguments.two(
-            LoopStep::GenerateAddInlineStatement,
-        )),
-        (25, "GenerateAddMacroStatement") => Some(arguments.two(
-            LoopStep::GenerateAddMacroStatement,
-        )),
-        _ => None,
+    place_in(&CALLS, name)
+}
+
+/// The call of this place in its group, over the arguments.
+///
+/// # Errors
+/// Where no call has the place or the arguments are not those of the call, and out of memory.
+pub(super) fn generate_loop_step(
+    place: usize,
+    arguments: &mut Arguments<'_>,
+) -> Result<LoopStep, Misfit>
+    ensures named { IfOk result (λ step. StandsAt loop_names place (loop_name step)) }
+    ensures written { IfOk result (λ step. AreLeft arguments.old (loop_pieces step)) }
+{
+    match place {
+        0 => arguments.five(LoopStep::AddGenerateLoop),
+        1 => arguments.five(LoopStep::GenerateAddGenerateLoop),
+        2 => arguments.one(LoopStep::GenerateGenvar),
+        3 => arguments.one(LoopStep::GenerateAddAlwaysComb),
+        4 => arguments.two(LoopStep::GenerateAddAlwaysFf),
+        5 => arguments.two(LoopStep::GenerateAddAlwaysAt),
+        6 => arguments.three(LoopStep::GenerateAddLocalparam),
+        7 => arguments.three(LoopStep::GenerateAddTypedLocalparam),
+        8 => arguments.three(LoopStep::GenerateAddContinuousAssignment),
+        9 => arguments.two(LoopStep::GenerateAddConditional),
+        10 => arguments.one(LoopStep::GenerateAddBlankLine),
+        11 => arguments.two(LoopStep::GenerateAddComment),
+        12 => arguments.two(LoopStep::GenerateAddInstantiation),
+        13 => arguments.two(LoopStep::GenerateAddInlineStatement),
+        14 => arguments.two(LoopStep::GenerateAddMacroStatement),
+        _ => Err(arguments.misfit(Problem::UnknownCall)),
     }
 }

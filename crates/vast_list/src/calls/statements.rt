@@ -1,61 +1,64 @@
-//! Calls of functions, always blocks, conditionals and statements, by their names.
+//! Calls of functions, always blocks, conditionals and statements, by their places in the table.
 
-ghost use Rattle.std.specs.Prelude.{◌≡◌, IfNone, IfOk, IfSome};
+ghost use Rattle.std.specs.Prelude.{IfOk, IfSome};
 ghost use Rattle.vast_list.specs.CallArguments.{statement_pieces};
 ghost use Rattle.vast_list.specs.CallNames.{statement_name};
+ghost use Rattle.vast_list.specs.Internal.CallRows.{StandsAt, statement_names};
 ghost use Rattle.vast_list.specs.Internal.Written.{AreLeft};
 
 use crate::arguments::Arguments;
-use crate::problem::Misfit;
+use crate::problem::{Misfit, Problem};
+use crate::table::place_in;
+use crate::table::statements::CALLS;
 use vast_script::StatementStep;
 
-/// The call of the name over the arguments; `None` where no such call has the name.
-pub(crate) fn statement_step(
-    name: &str,
-    arguments: &mut Arguments<'_>,
-) -> Option<Result<StatementStep, Misfit>>
-    ensures named { IfSome result (λ made. IfOk made (λ step. statement_name step ≡ name.now)) }
-    ensures written { IfSome result
-        (λ made. IfOk made (λ step. AreLeft arguments.old (statement_pieces step))) }
-    ensures none { IfNone result (arguments.new ≡ arguments.old) }
+/// The place of the call of the name in its group.
+pub(super) fn place_of(name: &str) -> Option<usize>
+    ensures { IfSome result (λ place. StandsAt statement_names place name.now) }
 {
-    match (name.len(), name) {
-        (11, "AddFunction") => Some(arguments.three(StatementStep::AddFunction)),
-        (16, "FunctionAddInput") => Some(arguments.three(StatementStep::FunctionAddInput)),
-        (21, "FunctionAddLogicInput") => Some(arguments.three(
-            StatementStep::FunctionAddLogicInput,
-        )),
-        (14, "FunctionAddReg") => Some(arguments.three(StatementStep::FunctionAddReg)),
-        (16, "FunctionAddLogic") => Some(arguments.three(StatementStep::FunctionAddLogic)),
-        (12, "FunctionBody") => Some(arguments.one(StatementStep::FunctionBody)),
-        (14, "FunctionResult") => Some(arguments.one(StatementStep::FunctionResult)),
-        (11, "AddAlwaysFf") => Some(arguments.two(StatementStep::AddAlwaysFf)),
-        (11, "AddAlwaysAt") => Some(arguments.two(StatementStep::AddAlwaysAt)),
-        (13, "AddAlwaysComb") => Some(arguments.one(StatementStep::AddAlwaysComb)),
-        (14, "StatementBlock") => Some(arguments.one(StatementStep::StatementBlock)),
-        (26, "BlockAddBlockingAssignment") => Some(arguments.three(
-            StatementStep::BlockAddBlockingAssignment,
-        )),
-        (29, "BlockAddNonblockingAssignment") => Some(arguments.three(
-            StatementStep::BlockAddNonblockingAssignment,
-        )),
-        (28, "BlockAddContinuousAssignment") => Some(arguments.three(
-            StatementStep::BlockAddContinuousAssignment,
-        )),
-        (19, "BlockAddCommentText") => Some(arguments.two(StatementStep::BlockAddCommentText)),
-        (18, "BlockAddInlineText") => Some(arguments.two(StatementStep::BlockAddInlineText)),
-        (17, "BlockAddBlankLine") => Some(arguments.one(StatementStep::BlockAddBlankLine)),
-        (14, "AddConditional") => Some(arguments.two(StatementStep::AddConditional)),
-        (12, "BlockAddCond") => Some(arguments.two(StatementStep::BlockAddCond)),
-        (20, "ConditionalThenBlock") => Some(arguments.one(StatementStep::ConditionalThenBlock)),
-        (20, "ConditionalAddElseIf") => Some(arguments.two(StatementStep::ConditionalAddElseIf)),
-        (18, "ConditionalAddElse") => Some(arguments.one(StatementStep::ConditionalAddElse)),
-        (12, "BlockAddCase") => Some(arguments.two(StatementStep::BlockAddCase)),
-        (13, "BlockAddCasez") => Some(arguments.two(StatementStep::BlockAddCasez)),
-        (13, "BlockAddCasex") => Some(arguments.two(StatementStep::BlockAddCasex)),
-        (11, "CaseAddItem") => Some(arguments.two(StatementStep::CaseAddItem)),
-        (14, "CaseAddDefault") => Some(arguments.one(StatementStep::CaseAddDefault)),
-        (13, "CaseSetUnique") => Some(arguments.two(StatementStep::CaseSetUnique)),
-        _ => None,
+    place_in(&CALLS, name)
+}
+
+/// The call of this place in its group, over the arguments.
+///
+/// # Errors
+/// Where no call has the place or the arguments are not those of the call, and out of memory.
+pub(super) fn statement_step(
+    place: usize,
+    arguments: &mut Arguments<'_>,
+) -> Result<StatementStep, Misfit>
+    ensures named { IfOk result (λ step. StandsAt statement_names place (statement_name step)) }
+    ensures written { IfOk result (λ step. AreLeft arguments.old (statement_pieces step)) }
+{
+    match place {
+        0 => arguments.three(StatementStep::AddFunction),
+        1 => arguments.three(StatementStep::FunctionAddInput),
+        2 => arguments.three(StatementStep::FunctionAddLogicInput),
+        3 => arguments.three(StatementStep::FunctionAddReg),
+        4 => arguments.three(StatementStep::FunctionAddLogic),
+        5 => arguments.one(StatementStep::FunctionBody),
+        6 => arguments.one(StatementStep::FunctionResult),
+        7 => arguments.two(StatementStep::AddAlwaysFf),
+        8 => arguments.two(StatementStep::AddAlwaysAt),
+        9 => arguments.one(StatementStep::AddAlwaysComb),
+        10 => arguments.one(StatementStep::StatementBlock),
+        11 => arguments.three(StatementStep::BlockAddBlockingAssignment),
+        12 => arguments.three(StatementStep::BlockAddNonblockingAssignment),
+        13 => arguments.three(StatementStep::BlockAddContinuousAssignment),
+        14 => arguments.two(StatementStep::BlockAddCommentText),
+        15 => arguments.two(StatementStep::BlockAddInlineText),
+        16 => arguments.one(StatementStep::BlockAddBlankLine),
+        17 => arguments.two(StatementStep::AddConditional),
+        18 => arguments.two(StatementStep::BlockAddCond),
+        19 => arguments.one(StatementStep::ConditionalThenBlock),
+        20 => arguments.two(StatementStep::ConditionalAddElseIf),
+        21 => arguments.one(StatementStep::ConditionalAddElse),
+        22 => arguments.two(StatementStep::BlockAddCase),
+        23 => arguments.two(StatementStep::BlockAddCasez),
+        24 => arguments.two(StatementStep::BlockAddCasex),
+        25 => arguments.two(StatementStep::CaseAddItem),
+        26 => arguments.one(StatementStep::CaseAddDefault),
+        27 => arguments.two(StatementStep::CaseSetUnique),
+        _ => Err(arguments.misfit(Problem::UnknownCall)),
     }
 }

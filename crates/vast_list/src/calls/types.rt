@@ -1,34 +1,45 @@
-//! Calls that make a type, by their names.
+//! Calls that make a type, by their places in the table.
 
-ghost use Rattle.std.specs.Prelude.{◌≡◌, IfNone, IfOk, IfSome};
+ghost use Rattle.std.specs.Prelude.{IfOk, IfSome};
 ghost use Rattle.vast_list.specs.CallArguments.{type_pieces};
 ghost use Rattle.vast_list.specs.CallNames.{type_name};
+ghost use Rattle.vast_list.specs.Internal.CallRows.{StandsAt, type_names};
 ghost use Rattle.vast_list.specs.Internal.Written.{AreLeft};
 
 use crate::arguments::Arguments;
-use crate::problem::Misfit;
+use crate::problem::{Misfit, Problem};
+use crate::table::place_in;
+use crate::table::types::CALLS;
 use vast_script::TypeStep;
 
-/// The call of the name over the arguments; `None` where no such call has the name.
-pub(crate) fn data_type_step(
-    name: &str,
-    arguments: &mut Arguments<'_>,
-) -> Option<Result<TypeStep, Misfit>>
-    ensures named { IfSome result (λ made. IfOk made (λ step. type_name step ≡ name.now)) }
-    ensures written { IfSome result
-        (λ made. IfOk made (λ step. AreLeft arguments.old (type_pieces step))) }
-    ensures none { IfNone result (arguments.new ≡ arguments.old) }
+/// The place of the call of the name in its group.
+pub(super) fn place_of(name: &str) -> Option<usize>
+    ensures { IfSome result (λ place. StandsAt type_names place name.now) }
 {
-    Some(match (name.len(), name) {
-        (14, "MakeScalarType") => arguments.none(TypeStep::MakeScalarType),
-        (15, "MakeIntegerType") => arguments.one(TypeStep::MakeIntegerType),
-        (11, "MakeIntType") => arguments.one(TypeStep::MakeIntType),
-        (14, "MakeExternType") => arguments.one(TypeStep::MakeExternType),
-        (21, "MakeExternPackageType") => arguments.two(TypeStep::MakeExternPackageType),
-        (17, "MakeBitVectorType") => arguments.two(TypeStep::MakeBitVectorType),
-        (21, "MakeBitVectorTypeExpr") => arguments.two(TypeStep::MakeBitVectorTypeExpr),
-        (19, "MakePackedArrayType") => arguments.two(TypeStep::MakePackedArrayType),
-        (21, "MakeUnpackedArrayType") => arguments.two(TypeStep::MakeUnpackedArrayType),
-        _ => return None,
-    })
+    place_in(&CALLS, name)
+}
+
+/// The call of this place in its group, over the arguments.
+///
+/// # Errors
+/// Where no call has the place or the arguments are not those of the call, and out of memory.
+pub(super) fn data_type_step(
+    place: usize,
+    arguments: &mut Arguments<'_>,
+) -> Result<TypeStep, Misfit>
+    ensures named { IfOk result (λ step. StandsAt type_names place (type_name step)) }
+    ensures written { IfOk result (λ step. AreLeft arguments.old (type_pieces step)) }
+{
+    match place {
+        0 => arguments.none(TypeStep::MakeScalarType),
+        1 => arguments.one(TypeStep::MakeIntegerType),
+        2 => arguments.one(TypeStep::MakeIntType),
+        3 => arguments.one(TypeStep::MakeExternType),
+        4 => arguments.two(TypeStep::MakeExternPackageType),
+        5 => arguments.two(TypeStep::MakeBitVectorType),
+        6 => arguments.two(TypeStep::MakeBitVectorTypeExpr),
+        7 => arguments.two(TypeStep::MakePackedArrayType),
+        8 => arguments.two(TypeStep::MakeUnpackedArrayType),
+        _ => Err(arguments.misfit(Problem::UnknownCall)),
+    }
 }

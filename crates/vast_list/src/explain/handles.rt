@@ -1,6 +1,6 @@
 //! Arguments that are no answers, or answers of another kind.
 
-use crate::arguments::{Arguments, Known, SKIPPED};
+use crate::arguments::{Arguments, Known, Rest, SKIPPED};
 use crate::explain::kinds::{is_of, kind_of};
 use crate::from_arguments::handle;
 use crate::line::split_line;
@@ -25,7 +25,7 @@ fn handle_words<'a>(known: Known<'a>, text: &'a str) -> Result<Vec<HandleWord<'a
     let Some(row) = row_of(call) else {
         return Ok(words);
     };
-    let mut arguments = Arguments::new(known, rest);
+    let mut arguments = Arguments::new(known, Rest::Words(rest));
     for parameter in row.parameters() {
         take_argument(&mut arguments, parameter, &mut words)?;
     }

@@ -1,13 +1,14 @@
 //! Questions of modules, their ports and their names.
 
-ghost use Rattle.std.specs.Prelude.{◌≡◌, All, IfErr, IfNone, IfOk, IfSome, None, Ok, map};
+ghost use Rattle.std.specs.Prelude.{◌≡◌, All, IfErr, IfOk, None, Ok, map};
 ghost use Rattle.vast_core.specs.Bench.{OwnsPort};
 ghost use Rattle.vast_script.specs.Outcome.{cause_of};
 ghost use Rattle.vast_list.specs.Questions.{PortsAre, Tells, module_fact, module_words, port_fact, port_told};
+ghost use Rattle.vast_list.specs.Internal.CallRows.{StandsAt, question_names};
 ghost use Rattle.vast_list.specs.Internal.Written.{AreLeft};
 
 use crate::arguments::Arguments;
-use crate::problem::Misfit;
+use crate::problem::{Misfit, Problem};
 use crate::questions::answered::{PortValue, Value};
 use vast_script::{Answer, StepFault, one};
 use xlsynth_vast::{LogicRef, ModulePort, VastFile, VastModule};
@@ -24,27 +25,28 @@ pub(crate) enum ModuleQuestion {
     NameIsFree(usize, String),
 }
 
-/// The question of the name over the arguments; `None` where no such question has the name.
-pub(crate) fn module_question(
-    name: &str,
+/// The question of this place in the table, over the arguments.
+///
+/// # Errors
+/// Where no such question has the place or the arguments are not those of the question, and out of memory.
+pub(super) fn module_question(
+    place: usize,
     arguments: &mut Arguments<'_>,
-) -> Option<Result<ModuleQuestion, Misfit>>
-    ensures named { IfSome result
-        (λ made. IfOk made (λ question. (module_words question).0 ≡ name.now)) }
-    ensures written { IfSome result
-        (λ made. IfOk made (λ question. AreLeft arguments.old (module_words question).1)) }
-    ensures none { IfNone result (arguments.new ≡ arguments.old) }
+) -> Result<ModuleQuestion, Misfit>
+    ensures named { IfOk result
+        (λ question. StandsAt question_names place (module_words question).0) }
+    ensures written { IfOk result (λ question. AreLeft arguments.old (module_words question).1) }
 {
-    Some(match name {
-        "?LogicRefName" => arguments.one(ModuleQuestion::LogicRefName),
-        "?ModuleInputPorts" => arguments.one(ModuleQuestion::ModuleInputPorts),
-        "?ModuleMemberCount" => arguments.one(ModuleQuestion::ModuleMemberCount),
-        "?ModuleName" => arguments.one(ModuleQuestion::ModuleName),
-        "?ModuleOutputPorts" => arguments.one(ModuleQuestion::ModuleOutputPorts),
-        "?ModulePorts" => arguments.one(ModuleQuestion::ModulePorts),
-        "?NameIsFree" => arguments.two(ModuleQuestion::NameIsFree),
-        _ => return None,
-    })
+    match place {
+        5 => arguments.one(ModuleQuestion::LogicRefName),
+        6 => arguments.one(ModuleQuestion::ModuleInputPorts),
+        7 => arguments.one(ModuleQuestion::ModuleMemberCount),
+        8 => arguments.one(ModuleQuestion::ModuleName),
+        9 => arguments.one(ModuleQuestion::ModuleOutputPorts),
+        10 => arguments.one(ModuleQuestion::ModulePorts),
+        11 => arguments.two(ModuleQuestion::NameIsFree),
+        _ => Err(arguments.misfit(Problem::UnknownCall)),
+    }
 }
 
 /// The answer to the question.

@@ -1,11 +1,12 @@
 //! Questions of expressions, types and words.
 
-ghost use Rattle.std.specs.Prelude.{◌≡◌, IfNone, IfOk, IfSome};
+ghost use Rattle.std.specs.Prelude.{IfOk};
 ghost use Rattle.vast_list.specs.Questions.{Tells, value_fact, value_words};
+ghost use Rattle.vast_list.specs.Internal.CallRows.{StandsAt, question_names};
 ghost use Rattle.vast_list.specs.Internal.Written.{AreLeft};
 
 use crate::arguments::Arguments;
-use crate::problem::Misfit;
+use crate::problem::{Misfit, Problem};
 use crate::questions::answered::Value;
 use vast_script::{Answer, StepFault, one};
 use xlsynth_vast::{Conditional, Expr, VastDataType, VastFile, is_system_verilog_keyword};
@@ -27,32 +28,33 @@ pub(crate) enum ValueQuestion {
     WidthIsUsable(usize),
 }
 
-/// The question of the name over the arguments; `None` where no such question has the name.
-pub(crate) fn value_question(
-    name: &str,
+/// The question of this place in the table, over the arguments.
+///
+/// # Errors
+/// Where no such question has the place or the arguments are not those of the question, and out of memory.
+pub(super) fn value_question(
+    place: usize,
     arguments: &mut Arguments<'_>,
-) -> Option<Result<ValueQuestion, Misfit>>
-    ensures named { IfSome result
-        (λ made. IfOk made (λ question. (value_words question).0 ≡ name.now)) }
-    ensures written { IfSome result
-        (λ made. IfOk made (λ question. AreLeft arguments.old (value_words question).1)) }
-    ensures none { IfNone result (arguments.new ≡ arguments.old) }
+) -> Result<ValueQuestion, Misfit>
+    ensures named { IfOk result
+        (λ question. StandsAt question_names place (value_words question).0) }
+    ensures written { IfOk result (λ question. AreLeft arguments.old (value_words question).1) }
 {
-    Some(match name {
-        "?ConditionalHasElse" => arguments.one(ValueQuestion::ConditionalHasElse),
-        "?Emit" => arguments.none(ValueQuestion::Emit),
-        "?EmitExpression" => arguments.one(ValueQuestion::EmitExpression),
-        "?FileIsPlain" => arguments.none(ValueQuestion::FileIsPlain),
-        "?IsSystemVerilogKeyword" => arguments.one(ValueQuestion::IsSystemVerilogKeyword),
-        "?TypeCanBeCast" => arguments.one(ValueQuestion::TypeCanBeCast),
-        "?TypeCanBePacked" => arguments.one(ValueQuestion::TypeCanBePacked),
-        "?TypeFlatBitCountAsInt64" => arguments.one(ValueQuestion::TypeFlatBitCountAsInt64),
-        "?TypeIsSigned" => arguments.one(ValueQuestion::TypeIsSigned),
-        "?TypeWidthAsInt64" => arguments.one(ValueQuestion::TypeWidthAsInt64),
-        "?TypeWidthExpr" => arguments.one(ValueQuestion::TypeWidthExpr),
-        "?WidthIsUsable" => arguments.one(ValueQuestion::WidthIsUsable),
-        _ => return None,
-    })
+    match place {
+        0 => arguments.one(ValueQuestion::ConditionalHasElse),
+        1 => arguments.none(ValueQuestion::Emit),
+        2 => arguments.one(ValueQuestion::EmitExpression),
+        3 => arguments.none(ValueQuestion::FileIsPlain),
+        4 => arguments.one(ValueQuestion::IsSystemVerilogKeyword),
+        12 => arguments.one(ValueQuestion::TypeCanBeCast),
+        13 => arguments.one(ValueQuestion::TypeCanBePacked),
+        14 => arguments.one(ValueQuestion::TypeFlatBitCountAsInt64),
+        15 => arguments.one(ValueQuestion::TypeIsSigned),
+        16 => arguments.one(ValueQuestion::TypeWidthAsInt64),
+        17 => arguments.one(ValueQuestion::TypeWidthExpr),
+        18 => arguments.one(ValueQuestion::WidthIsUsable),
+        _ => Err(arguments.misfit(Problem::UnknownCall)),
+    }
 }
 
 /// The answer to the question.

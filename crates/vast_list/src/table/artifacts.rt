@@ -8,7 +8,7 @@ use super::by_name::{
 use super::{CallRow, kinds};
 
 /// Calls of parts that are made beforehand, and that add them to modules.
-pub(super) static CALLS: [CallRow; 15] = [
+pub(crate) static CALLS: [CallRow; 15] = [
     CallRow("MakeDef", &[NAME, KIND, DATA_TYPE], kinds::DEFINITION),
     CallRow("MakeBlankLine", &[], kinds::BLANK_LINE),
     CallRow("MakeComment", &[TEXT], kinds::COMMENT),

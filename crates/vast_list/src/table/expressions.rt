@@ -8,7 +8,7 @@ use super::by_name::{
 use super::{CallRow, kinds};
 
 /// Calls that make any other expression.
-pub(super) static CALLS: [CallRow; 26] = [
+pub(crate) static CALLS: [CallRow; 26] = [
     CallRow("MakeLiteral", &[TEXT, FORMAT], kinds::EXPRESSION),
     CallRow("MakeBinaryPattern", &[BITS_MSB], kinds::EXPRESSION),
     CallRow(

@@ -4,7 +4,7 @@ use super::by_name::{CLK, DIMENSIONS, INVERT, REGISTERS, RESET, SCOPE, VALUE_IND
 use super::{CallRow, kinds};
 
 /// Helpers.
-pub(super) static CALLS: [CallRow; 5] = [
+pub(crate) static CALLS: [CallRow; 5] = [
     CallRow(
         "!AddRegisters",
         &[CLK, RESET, REGISTERS, SCOPE],

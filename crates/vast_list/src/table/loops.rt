@@ -7,7 +7,7 @@ use super::by_name::{
 use super::{CallRow, kinds};
 
 /// Calls of generate loops and their members.
-pub(super) static CALLS: [CallRow; 15] = [
+pub(crate) static CALLS: [CallRow; 15] = [
     CallRow(
         "AddGenerateLoop",
         &[OWNER, NAME, START, END, LABEL],

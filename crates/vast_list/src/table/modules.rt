@@ -6,7 +6,7 @@ use super::by_name::{
 use super::{CallRow, kinds};
 
 /// Calls of the file's items, and of modules with their ports, declarations and parameters.
-pub(super) static CALLS: [CallRow; 20] = [
+pub(crate) static CALLS: [CallRow; 20] = [
     CallRow("AddInclude", &[INCLUDE], kinds::NOTHING),
     CallRow("AddBlankLine", &[BLANK_LINE], kinds::NOTHING),
     CallRow("AddCommentText", &[TEXT], kinds::NOTHING),

@@ -4,7 +4,7 @@ use super::by_name::{EXPRESSION, LHS, RHS};
 use super::{CallRow, kinds};
 
 /// Calls that make an expression of one or two operands.
-pub(super) static CALLS: [CallRow; 31] = [
+pub(crate) static CALLS: [CallRow; 31] = [
     CallRow("MakeNot", &[EXPRESSION], kinds::EXPRESSION),
     CallRow("MakeBitwiseNot", &[EXPRESSION], kinds::EXPRESSION),
     CallRow("MakeNegate", &[EXPRESSION], kinds::EXPRESSION),

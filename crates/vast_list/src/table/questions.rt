@@ -4,7 +4,7 @@ use super::by_name::{CONDITIONAL, DATA_TYPE, E, IDENTIFIER, LOGIC_REF, NAME, OWN
 use super::{CallRow, kinds};
 
 /// Questions, which change nothing.
-pub(super) static CALLS: [CallRow; 19] = [
+pub(crate) static CALLS: [CallRow; 19] = [
     CallRow("?ConditionalHasElse", &[CONDITIONAL], kinds::TRUTH),
     CallRow("?Emit", &[], kinds::TEXT),
     CallRow("?EmitExpression", &[E], kinds::TEXT),

@@ -7,7 +7,7 @@ use super::by_name::{
 use super::{CallRow, kinds};
 
 /// Calls of functions, always blocks, conditionals and statements.
-pub(super) static CALLS: [CallRow; 28] = [
+pub(crate) static CALLS: [CallRow; 28] = [
     CallRow("AddFunction", &[OWNER, NAME, RESULT_TYPE], kinds::FUNCTION),
     CallRow(
         "FunctionAddInput",

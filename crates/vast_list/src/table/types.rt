@@ -4,7 +4,7 @@ use super::by_name::{BIT_COUNT, DIMENSIONS, ELEMENT, NAME, PACKAGE_NAME, SIGNED,
 use super::{CallRow, kinds};
 
 /// Calls that make a type.
-pub(super) static CALLS: [CallRow; 9] = [
+pub(crate) static CALLS: [CallRow; 9] = [
     CallRow("MakeScalarType", &[], kinds::TYPE),
     CallRow("MakeIntegerType", &[SIGNED], kinds::TYPE),
     CallRow("MakeIntType", &[SIGNED], kinds::TYPE),

@@ -1,9 +1,10 @@
-use Rattle.std.proofs.Common.{◌≡◌, ◌≤◌, length, sym, ap, subst, ◌∙◌, arith}
+use Rattle.std.proofs.Common.{◌≡◌, ◌≤◌, ℕ, List, IfSome, length, sym, ap, subst, ◌∙◌, arith}
+use Rattle.vast_list.specs.PackedLists.{IsPackedText}
 use Rattle.vast_replay.specs.Input.{GivesTaken, unmarked}
 use Rattle.vast_replay.specs.Internal.Input.{GivesTextOf, ReadsOn}
 use Rattle.vast_replay.specs.declared.input.InputLines.{InputLines}
 use Rattle.vast_replay.specs.declared.input.ReadInput.TheVariants.{List as OneList}
-use Rattle.vast_replay.proofs.Inputs.{long_taken, short_taken}
+use Rattle.vast_replay.proofs.Inputs.{long_taken, packed_taken, short_taken}
 use Rattle.vast_replay.proofs.input.take_input.Goals as goal
 use Rattle.vast_replay.proofs.input.take_input.Goals.{then-len-ge-FRONT_BYTES+in_ok-take_rest, else-len-ge-FRONT_BYTES}
 
@@ -26,3 +27,11 @@ returns-clause-taken g c =
           (short_taken before between front c.empty-list.result c.take_bytes.new.self made c.in_ok-front.ensures.bytes c.empty-list.ensures reads c.in_ok-finish.ensures.printed
           (subst (λ (l : InputLines). GivesTextOf l made) w.list-is c.in_ok-finish.ensures.text))
     ]
+
+pub returns-then-is_packed_list-clause-taken : goal.returns-then-is_packed_list-clause-taken
+returns-then-is_packed_list-clause-taken g c =
+    let remaining = g.R.Read.remaining in
+    let made = c.in_ok-packed_output.field-0 in
+    let text = subst (λ (input : List ℕ). IfSome made.output (λ text. IsPackedText input text.items)) c.deref-then-is_packed_list.ensures.value c.in_ok-packed_output.ensures.text in
+    packed_taken (remaining c.args.input.now) (remaining c.read_front.new.input) (remaining c.read_to_end.new.self) c.in_ok-front.front.items c.read_to_end.new.buf.items made c.in_ok-front.ensures.bytes c.read_to_end.ensures.appends
+    c.read_to_end.ensures.none_lost c.in_ok-packed_output.ensures.printed text

@@ -1,0 +1,49 @@
+-- Packed lists: the form's version, the dialect, and calls.
+use Rattle.std.specs.Prelude.{◌≡◌, ◌==◌, ◌⊎◌, ℕ, zero, suc, Bool, List, [], ◌∷◌, ◌++◌, length, codes}
+use Rattle.std.specs.List.{starts_with}
+use Rattle.vast_core.specs.FileTree.{tree}
+use Rattle.vast_literal.specs.declared.kind.VastFileType.{VastFileType}
+use Rattle.vast_literal.specs.declared.kind.VastFileType.TheVariants.{Verilog, SystemVerilog}
+use Rattle.vast_list.specs.declared.session.LineResult.{LineResult}
+use Rattle.vast_list.specs.declared.session.Session.{Session}
+use Rattle.vast_list.specs.Packed.{IsPackedNumber}
+use Rattle.vast_list.specs.declared.fault.Fault.{Fault}
+use Rattle.vast_list.specs.PackedCalls.{GivesPacked, IsToldOfPacked}
+use Rattle.vast_list.specs.Session.{IsNew, IsTextOf}
+
+-- The call's bytes stand at the front, after how many they are, and this after them.
+abbrev pub IsCallSplit : (bytes call behind : List ℕ) → Type 0
+IsCallSplit bytes call behind = (front : List ℕ) × IsPackedNumber front (length call) × (bytes ≡ front ++ (call ++ behind))
+
+-- The call at the front gave this, and that stands after it.
+abbrev pub GivesFront : (old new : Session) → (bytes : List ℕ) → LineResult → (behind : List ℕ) → Type 0
+GivesFront old new bytes given behind = (call : List ℕ) × IsCallSplit bytes call behind × GivesPacked old new call given
+
+-- What is told of the call at the front; or of no bytes, where none stands there.
+abbrev pub IsToldOfFront : (old new : Session) → (number : ℕ) → (bytes : List ℕ) → Fault → Type 0
+IsToldOfFront old new number bytes fault =
+    ((call : List ℕ) × (behind : List ℕ) × IsCallSplit bytes call behind × IsToldOfPacked old new number call fault) ⊎ IsToldOfPacked old new number [] fault
+
+-- So many calls stand at the front, one after another, and this after them; they lead a session from this to that.
+abbrev pub RunsPacked : ℕ → (old new : Session) → (bytes behind : List ℕ) → Type 0
+RunsPacked zero old new bytes behind = (behind ≡ bytes) × (new ≡ old)
+RunsPacked (suc n) old new bytes behind =
+    (rest : List ℕ) × (next : Session) × (given : LineResult) × GivesFront old next bytes given rest × RunsPacked n next new rest behind
+
+-- Zero and `vast`: no list of text begins so.
+abbrev pub packed_sign : List ℕ
+packed_sign = 0 ∷ codes "vast"
+
+abbrev pub is_packed_list : (input : List ℕ) → Bool
+is_packed_list input = starts_with (λ b c. b == c) input packed_sign
+
+-- After the sign the version, which is 1, and the dialect.
+abbrev pub packed_front : VastFileType → List ℕ
+packed_front Verilog = packed_sign ++ 1 ∷ 0 ∷ []
+packed_front SystemVerilog = packed_sign ++ 1 ∷ 1 ∷ []
+
+-- The text is the printed layout of the tree that the list's calls build, from a file of its dialect on.
+abbrev pub IsPackedText : (input text : List ℕ) → Type 0
+IsPackedText input text =
+    (dialect : VastFileType) × (calls : List ℕ) × (n : ℕ) × (first : Session) × (last : Session) × (input ≡ packed_front dialect ++ calls) × IsNew dialect first × RunsPacked n first last calls []
+    × IsTextOf (tree last.file) text

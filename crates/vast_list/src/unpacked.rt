@@ -1,0 +1,66 @@
+//! Packed calls.
+
+ghost use Rattle.std.specs.Prelude.{IfOk, IfSome, MatchResult};
+ghost use Rattle.vast_list.specs.PackedCalls.{IsCallFront, NamesPacked};
+ghost use Rattle.vast_list.specs.PackedLists.{IsCallSplit};
+ghost use Rattle.vast_list.specs.Internal.PackedCalls.{IsUnpacked};
+
+use crate::arguments::{Arguments, Known, Rest};
+use crate::line::{Action, Misread, action_of};
+use crate::packed::number_front;
+use crate::problem::{Misfit, Problem};
+use crate::table::numbered::numbered;
+
+/// A packed call.
+#[derive(Drop)]
+pub(crate) struct PackedCall {
+    /// The call's name, its sign included.
+    pub(crate) call: &'static str,
+    pub(crate) action: Action,
+}
+
+/// Reads a packed call.
+///
+/// # Errors
+/// Where the bytes are no call, and out of memory.
+#[tactic(auto, using(crate::proofs::PackedSessions::unpacking))]
+pub(crate) fn unpacked(known: Known<'_>, bytes: &[u8]) -> Result<PackedCall, Misread<'static>>
+    ensures { MatchResult result
+        (IsUnpacked known.entry.skipped.now bytes.now)
+        (λ read. NamesPacked bytes.now read.call.now) }
+{
+    let (call, behind) = match call_front(bytes) {
+        Ok(front) => front,
+        Err(misfit) => return Err(Misread { call: "", misfit }),
+    };
+    let mut arguments = Arguments::new(known, Rest::Packed(behind));
+    match action_of(call, &mut arguments) {
+        Ok(action) => Ok(PackedCall { call, action }),
+        Err(misfit) => Err(Misread { call, misfit }),
+    }
+}
+
+/// The first call's bytes, which stand after how many they are, and what stands after them.
+#[tactic(auto, using(crate::proofs::PackedSessions::splitting))]
+pub(crate) fn split_call(bytes: &[u8]) -> Option<(&[u8], &[u8])>
+    ensures { IfSome result (λ split. IsCallSplit bytes.now split.0.now split.1.now) }
+{
+    let (length, behind) = number_front(bytes)?;
+    let (call, behind) = behind.split_at_checked(length)?;
+    Some((call, behind))
+}
+
+/// The name of the call whose number stands at the front, and what stands after that.
+fn call_front(bytes: &[u8]) -> Result<(&'static str, &[u8]), Misfit>
+    ensures { IfOk result (λ read. IsCallFront bytes.now read.0.now read.1.now) }
+{
+    let left = bytes.len();
+    let problem = Problem::NoCall;
+    let Some((number, behind)) = number_front(bytes) else {
+        return Err(Misfit { left, problem });
+    };
+    match numbered(number) {
+        Some(call) => Ok((call, behind)),
+        None => Err(Misfit { left, problem }),
+    }
+}
