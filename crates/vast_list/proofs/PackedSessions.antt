@@ -18,7 +18,9 @@ use Rattle.vast_list.specs.declared.questions.Question.{Question}
 use Rattle.vast_list.specs.declared.questions.answered.Value.{Value}
 use Rattle.vast_list.specs.declared.session.LineResult.{LineResult}
 use Rattle.vast_list.specs.declared.session.Session.{Session}
+use Rattle.vast_list.specs.declared.table.numbered.Place.{Place}
 use Rattle.vast_list.specs.declared.unpacked.PackedCall.{PackedCall}
+use Rattle.vast_list.specs.Internal.CallRows.{name_at}
 use Rattle.vast_list.specs.CallArguments.{Piece}
 use Rattle.vast_list.specs.Names.{IsFree}
 use Rattle.vast_list.specs.Packed.{ArePacked, IsPackedNumber}
@@ -29,7 +31,7 @@ use Rattle.vast_list.specs.Session.{IsFileLeft, IsLeft, IsMade, IsOfLine, next_n
 use Rattle.vast_list.specs.Written.{meaning}
 use Rattle.vast_list.specs.Internal.Packed.{IsNumberFront}
 use Rattle.vast_list.specs.Internal.PackedCalls.{IsToldMispacked, IsUnpacked, RunsAll, TakesPacked, given_by}
-use Rattle.vast_list.specs.Internal.Session.{Acts, IsAskFault, IsCallFault, IsQuestionFault, IsToldOf, MakesName}
+use Rattle.vast_list.specs.Internal.Session.{Acts, ActsAt, IsAskFault, IsCallFault, IsQuestionFault, IsToldOf, MakesName}
 use Rattle.vast_list.specs.Internal.Written.{AreLeft}
 use Rattle.vast_list.proofs.Acted.{acts_packed}
 use Rattle.vast_list.proofs.Sessions.{left_same, same-unused}
@@ -37,10 +39,10 @@ use Rattle.vast_list.proofs.Sessions.{left_same, same-unused}
 -- What was read.
 
 pub unpacked_action :
-    (a : Arguments) (known : Known) (behind : Bor (List ℕ)) (bytes : List ℕ) (name : Bor (List ℕ)) (action : Action) (packed : PackedCall) → IsCallFront bytes name.now behind.now →
-    Acts (AreLeft a) name.now action → a.known ≡ known → a.rest ≡ Packed behind → packed ≡ record { call = name; action = action } → IsUnpacked known.skipped.now bytes packed
-unpacked_action a known behind bytes name action packed front acts k r e =
-    subst (λ (p : PackedCall). IsUnpacked known.skipped.now bytes p) (sym e) (behind.now, front, acts_packed a known behind name.now action acts k r)
+    (a : Arguments) (known : Known) (behind : Bor (List ℕ)) (bytes : List ℕ) (place : Place) (name : Bor (List ℕ)) (action : Action) (packed : PackedCall) → IsCallFront bytes name.now behind.now →
+    name_at place ≡ Some name.now → ActsAt (AreLeft a) place action → a.known ≡ known → a.rest ≡ Packed behind → packed ≡ record { call = name; action = action } → IsUnpacked known.skipped.now bytes packed
+unpacked_action a known behind bytes place name action packed front at acts k r e =
+    subst (λ (p : PackedCall). IsUnpacked known.skipped.now bytes p) (sym e) (behind.now, front, acts_packed a known behind place name.now action at acts k r)
 
 pub ruleset unpacking = (unpacked_action)
 

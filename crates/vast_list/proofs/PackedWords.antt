@@ -9,7 +9,6 @@ use Rattle.vast_list.specs.declared.arguments.Arguments.{Arguments}
 use Rattle.vast_list.specs.declared.arguments.Known.{Known}
 use Rattle.vast_list.specs.declared.arguments.Rest.TheVariants.{Packed}
 use Rattle.vast_list.specs.declared.packed.Choice.{Choice}
-use Rattle.vast_list.specs.CallNumbers.{IsNumberOf, call_names}
 use Rattle.vast_list.specs.CallArguments.{Count, Items, Number, Piece, Place, Text, Word}
 use Rattle.vast_list.specs.Packed.{ArePacked, IsFolded, IsPacked, IsPackedNumber, choice_words}
 use Rattle.vast_list.specs.Written.{IsPlaceOf, meaning}
@@ -81,13 +80,6 @@ reads_choice a b choice words n word h e l k =
     reads_packed a b (Word word.now) h.3 h.0 h.1 h.2 (choice, n, h.4, word_at words (choice_words choice) n word e l k) h.5
 
 pub ruleset choices = (reads_choice, reads_word)
-
--- A call by its number.
-pub name_at :
-    (names : List (Bor (List ℕ))) (n : ℕ) (name : Bor (List ℕ)) → map (λ (w : Bor (List ℕ)). w.now) names ≡ call_names → n < length names → name ≡ get_or names n name → IsNumberOf n name.now
-name_at names n name e l k = word_at names call_names n name e l k
-
-pub ruleset named = (name_at)
 
 -- A text after its length.
 pub reads_content :

@@ -157,26 +157,6 @@ ends a b ps h e =
     subst (λ (xs : List ℕ). AreIn (is_packed a.rest) (meaning a.known.names.now) a.known.skipped.now ps xs)
     (sym (h.left_is ∙ ap (λ (xs : List ℕ). h.front ++ xs) e ∙ append-nil h.front)) h.there
 
-pub two_end : (a b c : Arguments) (ps qs : List Piece) → Reads a b ps → Reads b c qs → rest_left c.rest ≡ [] → AreLeft a (ps ++ qs)
-two_end a b c ps qs h i e = ends a c (ps ++ qs) (reads_then a b c ps qs h i) e
-
-pub three_end : (a b c d : Arguments) (ps qs rs : List Piece) → Reads a b ps → Reads b c qs → Reads c d rs → rest_left d.rest ≡ [] → AreLeft a (ps ++ (qs ++ rs))
-three_end a b c d ps qs rs h i j e = two_end a b d ps (qs ++ rs) h (reads_then b c d qs rs i j) e
-
-pub four_end :
-    (a b c d f : Arguments) (ps qs rs ss : List Piece) → Reads a b ps → Reads b c qs → Reads c d rs → Reads d f ss → rest_left f.rest ≡ [] → AreLeft a (ps ++ (qs ++ (rs ++ ss)))
-four_end a b c d f ps qs rs ss h i j k e = three_end a b c f ps qs (rs ++ ss) h i (reads_then c d f rs ss j k) e
-
-pub five_end :
-    (a b c d f g : Arguments) (ps qs rs ss ts : List Piece) → Reads a b ps → Reads b c qs → Reads c d rs → Reads d f ss → Reads f g ts → rest_left g.rest ≡ [] →
-    AreLeft a (ps ++ (qs ++ (rs ++ (ss ++ ts))))
-five_end a b c d f g ps qs rs ss ts h i j k l e = four_end a b c d g ps qs rs (ss ++ ts) h i j (reads_then d f g ss ts k l) e
-
-pub six_end :
-    (a b c d f g i : Arguments) (ps qs rs ss ts us : List Piece) → Reads a b ps → Reads b c qs → Reads c d rs → Reads d f ss → Reads f g ts → Reads g i us → rest_left i.rest ≡ [] →
-    AreLeft a (ps ++ (qs ++ (rs ++ (ss ++ (ts ++ us)))))
-six_end a b c d f g i ps qs rs ss ts us h j k l m n e = five_end a b c d f i ps qs rs ss (ts ++ us) h j k l (reads_then f g i ts us m n) e
-
 pub none_left : (a : Arguments) → rest_left a.rest ≡ [] → AreLeft a []
 none_left a e = none_in (meaning a.known.names.now) a.known.skipped.now (is_packed a.rest) (rest_left a.rest) e
 

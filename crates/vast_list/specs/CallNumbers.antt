@@ -1,10 +1,76 @@
 -- The numbers of calls in packed lists.
-use Rattle.std.specs.Prelude.{◌≡◌, ℕ, List, map, Some, slice_get}
-use Rattle.vast_list.specs.declared.table.numbered.TheConstants.{NAMES}
+use Rattle.std.specs.Prelude.{◌≡◌, ℕ, List, [], ◌∷◌, ◌++◌, Some, slice_get, codes}
 
--- The names of all calls, signs included, in the order of their numbers.
+-- The names of the calls of each group, signs included, in the order of `src/table`.
+
+abbrev pub operator_names : List (List ℕ)
+operator_names =
+    codes "MakeNot" ∷ codes "MakeBitwiseNot" ∷ codes "MakeNegate" ∷ codes "MakeLogicalNot" ∷ codes "MakeAndReduce" ∷ codes "MakeOrReduce" ∷
+    codes "MakeXorReduce" ∷ codes "MakeAdd" ∷ codes "MakeSub" ∷ codes "MakeMul" ∷ codes "MakeDiv" ∷ codes "MakeMod" ∷ codes "MakePower" ∷
+    codes "MakeBitwiseAnd" ∷ codes "MakeBitwiseOr" ∷ codes "MakeBitwiseXor" ∷ codes "MakeShll" ∷ codes "MakeShra" ∷ codes "MakeShrl" ∷
+    codes "MakeNe" ∷ codes "MakeCaseNe" ∷ codes "MakeEq" ∷ codes "MakeCaseEq" ∷ codes "MakeGe" ∷ codes "MakeGt" ∷ codes "MakeLe" ∷ codes "MakeLt" ∷
+    codes "MakeLogicalAnd" ∷ codes "MakeLogicalOr" ∷ codes "MakeNeX" ∷ codes "MakeEqX" ∷ []
+
+abbrev pub expression_names : List (List ℕ)
+expression_names =
+    codes "MakeLiteral" ∷ codes "MakeBinaryPattern" ∷ codes "MakeUnsizedDecimalLiteral" ∷ codes "MakeStringLiteral" ∷ codes "MakeUnsizedOneLiteral" ∷
+    codes "MakeUnsizedZeroLiteral" ∷ codes "MakeUnsizedXLiteral" ∷ codes "MakeName" ∷ codes "MakeIndexableExpression" ∷ codes "MakeSlice" ∷
+    codes "MakeIndex" ∷ codes "MakeSliceExpr" ∷ codes "MakeIndexExpr" ∷ codes "MakeIndexedPartSelect" ∷ codes "MakeFunctionCall" ∷
+    codes "MakeConcat" ∷ codes "MakeReplicatedConcat" ∷ codes "MakeReplicatedConcatI64" ∷ codes "MakeArrayAssignmentPattern" ∷ codes "MakeTernary" ∷
+    codes "MakeWidthCast" ∷ codes "MakeTypeCast" ∷ codes "MakePosEdge" ∷ codes "MakeNegEdge" ∷ codes "MakeMacroRef" ∷ codes "MakeMacroRefWithArgs" ∷
+    []
+
+abbrev pub type_names : List (List ℕ)
+type_names =
+    codes "MakeScalarType" ∷ codes "MakeIntegerType" ∷ codes "MakeIntType" ∷ codes "MakeExternType" ∷ codes "MakeExternPackageType" ∷
+    codes "MakeBitVectorType" ∷ codes "MakeBitVectorTypeExpr" ∷ codes "MakePackedArrayType" ∷ codes "MakeUnpackedArrayType" ∷ []
+
+abbrev pub module_names : List (List ℕ)
+module_names =
+    codes "AddInclude" ∷ codes "AddBlankLine" ∷ codes "AddCommentText" ∷ codes "AddModule" ∷ codes "AddInput" ∷ codes "AddOutput" ∷ codes "AddInout" ∷
+    codes "AddLogicInput" ∷ codes "AddLogicOutput" ∷ codes "AddWire" ∷ codes "AddReg" ∷ codes "AddLogic" ∷ codes "AddParameterPort" ∷
+    codes "AddTypedParameterPort" ∷ codes "AddParameter" ∷ codes "AddParameterWithDef" ∷ codes "AddLocalparam" ∷ codes "AddIntLocalparam" ∷
+    codes "AddTypedLocalparam" ∷ codes "HoistModuleDeclarations" ∷ []
+
+abbrev pub loop_names : List (List ℕ)
+loop_names =
+    codes "AddGenerateLoop" ∷ codes "GenerateAddGenerateLoop" ∷ codes "GenerateGenvar" ∷ codes "GenerateAddAlwaysComb" ∷ codes "GenerateAddAlwaysFf" ∷
+    codes "GenerateAddAlwaysAt" ∷ codes "GenerateAddLocalparam" ∷ codes "GenerateAddTypedLocalparam" ∷ codes "GenerateAddContinuousAssignment" ∷
+    codes "GenerateAddConditional" ∷ codes "GenerateAddBlankLine" ∷ codes "GenerateAddComment" ∷ codes "GenerateAddInstantiation" ∷
+    codes "GenerateAddInlineStatement" ∷ codes "GenerateAddMacroStatement" ∷ []
+
+abbrev pub statement_names : List (List ℕ)
+statement_names =
+    codes "AddFunction" ∷ codes "FunctionAddInput" ∷ codes "FunctionAddLogicInput" ∷ codes "FunctionAddReg" ∷ codes "FunctionAddLogic" ∷
+    codes "FunctionBody" ∷ codes "FunctionResult" ∷ codes "AddAlwaysFf" ∷ codes "AddAlwaysAt" ∷ codes "AddAlwaysComb" ∷ codes "StatementBlock" ∷
+    codes "BlockAddBlockingAssignment" ∷ codes "BlockAddNonblockingAssignment" ∷ codes "BlockAddContinuousAssignment" ∷ codes "BlockAddCommentText" ∷
+    codes "BlockAddInlineText" ∷ codes "BlockAddBlankLine" ∷ codes "AddConditional" ∷ codes "BlockAddCond" ∷ codes "ConditionalThenBlock" ∷
+    codes "ConditionalAddElseIf" ∷ codes "ConditionalAddElse" ∷ codes "BlockAddCase" ∷ codes "BlockAddCasez" ∷ codes "BlockAddCasex" ∷
+    codes "CaseAddItem" ∷ codes "CaseAddDefault" ∷ codes "CaseSetUnique" ∷ []
+
+abbrev pub artifact_names : List (List ℕ)
+artifact_names =
+    codes "MakeDef" ∷ codes "MakeBlankLine" ∷ codes "MakeComment" ∷ codes "MakeInlineVerilogStatement" ∷ codes "MakeMacroStatement" ∷
+    codes "MakeContinuousAssignment" ∷ codes "MakeNonblockingAssignment" ∷ codes "MakeBlockingAssignment" ∷ codes "MakeInstantiation" ∷
+    codes "AddMemberInstantiation" ∷ codes "AddMemberContinuousAssignment" ∷ codes "AddMemberBlankLine" ∷ codes "AddMemberComment" ∷
+    codes "AddMemberInlineStatement" ∷ codes "AddMemberMacroStatement" ∷ []
+
+abbrev pub question_names : List (List ℕ)
+question_names =
+    codes "?ConditionalHasElse" ∷ codes "?Emit" ∷ codes "?EmitExpression" ∷ codes "?FileIsPlain" ∷ codes "?IsSystemVerilogKeyword" ∷
+    codes "?LogicRefName" ∷ codes "?ModuleInputPorts" ∷ codes "?ModuleMemberCount" ∷ codes "?ModuleName" ∷ codes "?ModuleOutputPorts" ∷
+    codes "?ModulePorts" ∷ codes "?NameIsFree" ∷ codes "?TypeCanBeCast" ∷ codes "?TypeCanBePacked" ∷ codes "?TypeFlatBitCountAsInt64" ∷
+    codes "?TypeIsSigned" ∷ codes "?TypeWidthAsInt64" ∷ codes "?TypeWidthExpr" ∷ codes "?WidthIsUsable" ∷ []
+
+abbrev pub helper_names : List (List ℕ)
+helper_names =
+    codes "!AddRegisters" ∷ codes "!BitwiseOrReduce" ∷ codes "!BitwiseOrReduceArrayElements" ∷ codes "!LogicalAndReduce" ∷ codes "!LogicalOrReduce" ∷
+    []
+
+-- The names of all calls in the order of their numbers: group after group.
 abbrev pub call_names : List (List ℕ)
-call_names = map (λ name. name.now) NAMES
+call_names =
+    operator_names ++ (expression_names ++ (type_names ++ (module_names ++ (loop_names ++ (statement_names ++ (artifact_names ++ (question_names ++ helper_names)))))))
 
 -- The call of this number, from 0, has this name.
 abbrev pub IsNumberOf : ℕ → (name : List ℕ) → Type 0

@@ -1,8 +1,10 @@
-//! Calls by their names.
+//! Calls by their places in the table.
 
-ghost use Rattle.std.specs.Prelude.{◌≡◌, IfOk};
+ghost use Rattle.std.specs.Prelude.{◌≡◌, IfOk, Some};
 ghost use Rattle.vast_list.specs.CallArguments.{step_pieces};
 ghost use Rattle.vast_list.specs.CallNames.{step_name};
+ghost use Rattle.vast_list.specs.Lines.{Stepped, word_kind};
+ghost use Rattle.vast_list.specs.Internal.CallRows.{name_at};
 ghost use Rattle.vast_list.specs.Internal.Written.{AreLeft};
 
 mod artifacts;
@@ -15,6 +17,7 @@ mod types;
 
 use crate::arguments::Arguments;
 use crate::problem::{Misfit, Problem};
+use crate::table::numbered::Place;
 use artifacts::artifact_step;
 use expressions::expression_step;
 use loops::generate_loop_step;
@@ -24,34 +27,24 @@ use statements::statement_step;
 use types::data_type_step;
 use vast_script::Step;
 
-/// The call of the name over the arguments.
+/// The step of this place over the arguments.
 ///
 /// # Errors
-/// Where no call has the name or the arguments are not those of the call, and out of memory.
-pub(crate) fn make_step(name: &str, arguments: &mut Arguments<'_>) -> Result<Step, Misfit>
-    ensures named { IfOk result (λ step. step_name step ≡ name.now) }
+/// Where the place is no step's or the arguments are not those of the step, and out of memory.
+#[tactic(auto, using(crate::proofs::CallRows::steps))]
+pub(crate) fn make_step(place: Place, arguments: &mut Arguments<'_>) -> Result<Step, Misfit>
+    ensures named { IfOk result (λ step. name_at place ≡ Some (step_name step)) }
+    ensures kind { IfOk result (λ step. word_kind (step_name step) ≡ Stepped) }
     ensures written { IfOk result (λ step. AreLeft arguments.old (step_pieces step)) }
 {
-    if let Some(place) = operators::place_of(name) {
-        return Ok(Step::Operators(operator_step(place, arguments)?));
+    match place {
+        Place::Operator(place) => Ok(Step::Operators(operator_step(place, arguments)?)),
+        Place::Expression(place) => Ok(Step::Expressions(expression_step(place, arguments)?)),
+        Place::DataType(place) => Ok(Step::Types(data_type_step(place, arguments)?)),
+        Place::Module(place) => Ok(Step::Modules(module_step(place, arguments)?)),
+        Place::Loop(place) => Ok(Step::Loops(generate_loop_step(place, arguments)?)),
+        Place::Statement(place) => Ok(Step::Statements(statement_step(place, arguments)?)),
+        Place::Artifact(place) => Ok(Step::Artifacts(artifact_step(place, arguments)?)),
+        Place::Question(_) | Place::Helper(_) => Err(arguments.misfit(Problem::UnknownCall)),
     }
-    if let Some(place) = expressions::place_of(name) {
-        return Ok(Step::Expressions(expression_step(place, arguments)?));
-    }
-    if let Some(place) = types::place_of(name) {
-        return Ok(Step::Types(data_type_step(place, arguments)?));
-    }
-    if let Some(place) = modules::place_of(name) {
-        return Ok(Step::Modules(module_step(place, arguments)?));
-    }
-    if let Some(place) = loops::place_of(name) {
-        return Ok(Step::Loops(generate_loop_step(place, arguments)?));
-    }
-    if let Some(place) = statements::place_of(name) {
-        return Ok(Step::Statements(statement_step(place, arguments)?));
-    }
-    if let Some(place) = artifacts::place_of(name) {
-        return Ok(Step::Artifacts(artifact_step(place, arguments)?));
-    }
-    Err(arguments.misfit(Problem::UnknownCall))
 }

@@ -8,7 +8,8 @@ ghost use Rattle.vast_script.specs.declared.fault.StepFault.TheVariants.{Refused
 use crate::nearest::nearest_call;
 use crate::problem::{Misfit, Problem};
 use crate::session::Session;
-use crate::table::{Parameter, row_of};
+use crate::table::Parameter;
+use crate::table::numbered::row_of;
 use std::alloc::{AllocError, AllocFailed, Global};
 use std::fmt;
 use vast_literal::{VastError, VastFault};

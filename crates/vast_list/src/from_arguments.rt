@@ -223,6 +223,18 @@ impl FromArguments for String {
     }
 }
 
+/// Two values, one after the other.
+impl<A: FromArguments, B: FromArguments> FromArguments for (A, B) {
+    ghost pieces = { λ pair. A.pieces pair.0 ++ B.pieces pair.1 };
+
+    #[tactic(auto, using(crate::proofs::Words::reads_then))]
+    fn take(arguments: &mut Arguments<'_>) -> Result<(A, B), Misfit> {
+        let first = A::take(arguments)?;
+        let second = B::take(arguments)?;
+        Ok((first, second))
+    }
+}
+
 impl<T: FromArguments> FromArguments for Vec<T> {
     ghost pieces = { λ items. listed T.pieces items.items };
 

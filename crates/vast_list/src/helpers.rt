@@ -1,21 +1,20 @@
 //! Helpers, which make expressions or registers on the file.
 
-ghost use Rattle.std.specs.Prelude.{◌≡◌, IfOk, IfSome};
+ghost use Rattle.std.specs.Prelude.{IfOk};
 ghost use Rattle.vast_script.specs.Arguments.{many, one};
 ghost use Rattle.vast_script.specs.Kinds.{an_expr, an_indexable};
 ghost use Rattle.vast_script.specs.Internal.Outcome.{WrapsRefusable};
 ghost use Rattle.vast_list.specs.CallArguments.{helper_pieces};
 ghost use Rattle.vast_list.specs.CallNames.{helper_name};
+ghost use Rattle.vast_list.specs.CallNumbers.{helper_names};
 ghost use Rattle.vast_list.specs.Helpers.{Helps, Makes, all_hold, any_holds, elements_joined, joined};
-ghost use Rattle.vast_list.specs.Internal.CallRows.{StandsAt, helper_names};
+ghost use Rattle.vast_list.specs.Internal.CallRows.{StandsAt};
 ghost use Rattle.vast_list.specs.Internal.Written.{AreLeft};
 
 mod registers;
 
 use crate::arguments::Arguments;
 use crate::problem::{Misfit, Problem};
-use crate::table::helpers::CALLS;
-use crate::table::place_in;
 use registers::{RegisterNumbers, ResetNumbers, add_registers};
 use vast_script::{Answer, StepFault, many, one};
 use xlsynth_vast::{Expr, IndexableExpr, VastFault, VastFile, helpers};
@@ -30,27 +29,20 @@ pub(crate) enum Helper {
     LogicalOrReduce(Vec<usize>, bool),
 }
 
-/// The place of the helper of the name in the table.
-fn place_of(name: &str) -> Option<usize>
-    ensures { IfSome result (λ place. StandsAt helper_names place name.now) }
-{
-    place_in(&CALLS, name)
-}
-
-/// The helper of the name, its sign included, over the arguments.
+/// The helper of this place in the table, over the arguments.
 ///
 /// # Errors
-/// Where no helper has the name or the arguments are not those of the helper, and out of memory.
-pub(crate) fn make_helper(name: &str, arguments: &mut Arguments<'_>) -> Result<Helper, Misfit>
-    ensures named { IfOk result (λ helper. helper_name helper ≡ name.now) }
+/// Where no helper has the place or the arguments are not those of the helper, and out of memory.
+pub(crate) fn make_helper(place: usize, arguments: &mut Arguments<'_>) -> Result<Helper, Misfit>
+    ensures named { IfOk result (λ helper. StandsAt helper_names place (helper_name helper)) }
     ensures written { IfOk result (λ helper. AreLeft arguments.old (helper_pieces helper)) }
 {
-    match place_of(name) {
-        Some(0) => arguments.four(Helper::AddRegisters),
-        Some(1) => arguments.one(Helper::BitwiseOrReduce),
-        Some(2) => arguments.two(Helper::BitwiseOrReduceArrayElements),
-        Some(3) => arguments.two(Helper::LogicalAndReduce),
-        Some(4) => arguments.two(Helper::LogicalOrReduce),
+    match place {
+        0 => arguments.four(Helper::AddRegisters),
+        1 => arguments.one(Helper::BitwiseOrReduce),
+        2 => arguments.two(Helper::BitwiseOrReduceArrayElements),
+        3 => arguments.two(Helper::LogicalAndReduce),
+        4 => arguments.two(Helper::LogicalOrReduce),
         _ => Err(arguments.misfit(Problem::UnknownCall)),
     }
 }

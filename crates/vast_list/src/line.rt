@@ -6,7 +6,7 @@ ghost use Rattle.vast_list.specs.Lines.{HasKind, NamesDialect, Passed, Stepped, 
 ghost use Rattle.vast_list.specs.Internal.Lines.{rest_text};
 ghost use Rattle.vast_list.specs.Names.{IsFree};
 ghost use Rattle.vast_list.specs.Session.{IsOfLine};
-ghost use Rattle.vast_list.specs.Internal.Session.{Acts, IsActionOf, IsRead, NamesWord};
+ghost use Rattle.vast_list.specs.Internal.Session.{ActsAt, IsActionOf, IsRead, NamesWord};
 ghost use Rattle.vast_list.specs.Written.{meaning};
 ghost use Rattle.vast_list.specs.Internal.Written.{AreLeft, left};
 
@@ -17,7 +17,7 @@ use crate::helpers::{Helper, make_helper};
 use crate::names::is_name;
 use crate::problem::{Misfit, Problem};
 use crate::questions::{Question, make_question};
-use crate::table::row_of;
+use crate::table::numbered::{Place, row_of};
 use std::alloc::Global;
 use std::str;
 use vast_script::Step;
@@ -211,24 +211,26 @@ fn read_action(known: Known<'_>, call: &str, rest: Option<&str>) -> Result<Actio
         (left rest.entry)) }
 {
     let mut arguments = Arguments::new(known, Rest::Words(rest));
-    let action = action_of(call, &mut arguments)?;
+    let Some(place) = Place::find(call) else {
+        return Err(arguments.misfit(Problem::UnknownCall));
+    };
+    let action = action_of(place, &mut arguments)?;
     Ok(action)
 }
 
-/// What a call of the name over the arguments does.
+/// What the call of this place over the arguments does.
 ///
 /// # Errors
-/// Where no call has the name or the arguments are not those of the call, and out of memory.
-pub(crate) fn action_of(call: &str, arguments: &mut Arguments<'_>) -> Result<Action, Misfit>
-    ensures { IfOk result (Acts (AreLeft arguments.old) call.now) }
+/// Where no call has the place or the arguments are not those of the call, and out of memory.
+#[tactic(auto, using(crate::proofs::Acted::at_places))]
+pub(crate) fn action_of(place: Place, arguments: &mut Arguments<'_>) -> Result<Action, Misfit>
+    ensures { IfOk result (ActsAt (AreLeft arguments.old) place) }
 {
-    if call.starts_with('?') {
-        return Ok(Action::Ask(make_question(call, arguments)?));
+    match place {
+        Place::Question(question) => Ok(Action::Ask(make_question(question, arguments)?)),
+        Place::Helper(helper) => Ok(Action::Call(Call::Helper(make_helper(helper, arguments)?))),
+        _ => Ok(Action::Call(Call::Step(make_step(place, arguments)?))),
     }
-    if call.starts_with('!') {
-        return Ok(Action::Call(Call::Helper(make_helper(call, arguments)?)));
-    }
-    Ok(Action::Call(Call::Step(make_step(call, arguments)?)))
 }
 
 /// The dialect that the line names.

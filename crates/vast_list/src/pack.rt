@@ -10,8 +10,8 @@ use crate::packed::{Choice, folded, push_number};
 use crate::packed_list::packed_front;
 use crate::problem::{Misfit, Problem};
 use crate::session::Session;
-use crate::table::numbered::number_of;
-use crate::table::{Item, Kind, Parameter, Range, Words, parameters};
+use crate::table::numbered::{number_of, row_of};
+use crate::table::{Item, Kind, Parameter, Range, Words};
 use crate::tries::Tries;
 use std::alloc::{AllocError, Global};
 
@@ -58,7 +58,7 @@ fn pack_line(
         Err(misfit) => return Err(misread(alloc, number, "", "", misfit)),
     };
     let (_, call, rest) = split_line(text);
-    let (Some(place), Some(parameters)) = (number_of(call), parameters(call)) else {
+    let (Some(place), Some(row)) = (number_of(call), row_of(call)) else {
         let problem = Problem::UnknownCall;
         let misfit = Misfit {
             left: text.len(),
@@ -68,7 +68,7 @@ fn pack_line(
     };
     push_number(bytes, place)?;
     let mut arguments = Arguments::new(session.known(), Rest::Words(rest));
-    match pack_all(&mut arguments, parameters, bytes) {
+    match pack_all(&mut arguments, row.parameters(), bytes) {
         Ok(()) => Ok(()),
         Err(misfit) => Err(misread(alloc, number, text, call, misfit)),
     }

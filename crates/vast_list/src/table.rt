@@ -1,7 +1,6 @@
 //! The table of calls: each by its name in lists, with what its arguments are and what it returns.
 
-ghost use Rattle.std.specs.Prelude.{◌≡◌, IfSome};
-ghost use Rattle.vast_list.specs.Internal.CallRows.{StandsAt, row_names};
+ghost use Rattle.std.specs.Prelude.{◌≡◌};
 
 pub(crate) mod artifacts;
 mod by_name;
@@ -195,35 +194,4 @@ pub(crate) fn groups() -> [Group; 9] {
 
 fn group_of(name: &'static str, calls: &'static [CallRow]) -> Group {
     Group { name, calls }
-}
-
-/// The call of the name, its sign included.
-pub(crate) fn row_of(name: &str) -> Option<&'static CallRow>
-    ensures { IfSome result (λ row. row.now.0.now ≡ name.now) }
-{
-    for group in groups() {
-        if let Some(row) = group.calls.iter().find(|call| call.name() == name) {
-            return Some(row);
-        }
-    }
-    None
-}
-
-/// The place of the call of the name, its sign included, among these. Lengths are compared first, since few names have
-/// that of another.
-pub(crate) fn place_in(calls: &[CallRow], name: &str) -> Option<usize>
-    ensures { IfSome result (λ place. StandsAt (row_names calls.now) place name.now) }
-{
-    for place in 0..calls.len() {
-        match calls.get(place) {
-            Some(row) if row.0.len() == name.len() && row.0 == name => return Some(place),
-            _ => {}
-        }
-    }
-    None
-}
-
-/// The parameters of the call of the name, its sign included; `None` where no call has the name.
-pub(crate) fn parameters(name: &str) -> Option<&'static [Parameter]> {
-    Some(row_of(name)?.parameters())
 }

@@ -1,15 +1,16 @@
 //! Packed calls.
 
-ghost use Rattle.std.specs.Prelude.{IfOk, IfSome, MatchResult};
+ghost use Rattle.std.specs.Prelude.{◌≡◌, IfOk, IfSome, MatchResult, Some};
 ghost use Rattle.vast_list.specs.PackedCalls.{IsCallFront, NamesPacked};
 ghost use Rattle.vast_list.specs.PackedLists.{IsCallSplit};
+ghost use Rattle.vast_list.specs.Internal.CallRows.{name_at};
 ghost use Rattle.vast_list.specs.Internal.PackedCalls.{IsUnpacked};
 
 use crate::arguments::{Arguments, Known, Rest};
 use crate::line::{Action, Misread, action_of};
 use crate::packed::number_front;
 use crate::problem::{Misfit, Problem};
-use crate::table::numbered::numbered;
+use crate::table::numbered::Place;
 
 /// A packed call.
 #[derive(Drop)]
@@ -29,12 +30,12 @@ pub(crate) fn unpacked(known: Known<'_>, bytes: &[u8]) -> Result<PackedCall, Mis
         (IsUnpacked known.entry.skipped.now bytes.now)
         (λ read. NamesPacked bytes.now read.call.now) }
 {
-    let (call, behind) = match call_front(bytes) {
+    let (place, call, behind) = match call_front(bytes) {
         Ok(front) => front,
         Err(misfit) => return Err(Misread { call: "", misfit }),
     };
     let mut arguments = Arguments::new(known, Rest::Packed(behind));
-    match action_of(call, &mut arguments) {
+    match action_of(place, &mut arguments) {
         Ok(action) => Ok(PackedCall { call, action }),
         Err(misfit) => Err(Misread { call, misfit }),
     }
@@ -50,17 +51,22 @@ pub(crate) fn split_call(bytes: &[u8]) -> Option<(&[u8], &[u8])>
     Some((call, behind))
 }
 
-/// The name of the call whose number stands at the front, and what stands after that.
-fn call_front(bytes: &[u8]) -> Result<(&'static str, &[u8]), Misfit>
-    ensures { IfOk result (λ read. IsCallFront bytes.now read.0.now read.1.now) }
+/// The call whose number stands at the front, its name, and what stands after that.
+#[tactic(auto, using(crate::proofs::CallRows::named))]
+fn call_front(bytes: &[u8]) -> Result<(Place, &'static str, &[u8]), Misfit>
+    ensures place { IfOk result (λ read. name_at read.0 ≡ Some read.1.now) }
+    ensures front { IfOk result (λ read. IsCallFront bytes.now read.1.now read.2.now) }
 {
     let left = bytes.len();
     let problem = Problem::NoCall;
     let Some((number, behind)) = number_front(bytes) else {
         return Err(Misfit { left, problem });
     };
-    match numbered(number) {
-        Some(call) => Ok((call, behind)),
+    let Some(place) = Place::numbered(number) else {
+        return Err(Misfit { left, problem });
+    };
+    match place.row() {
+        Some(row) => Ok((place, row.name(), behind)),
         None => Err(Misfit { left, problem }),
     }
 }

@@ -13,12 +13,14 @@ use Rattle.vast_list.specs.declared.session.Session.{Session}
 use Rattle.vast_list.specs.declared.names.Named.{Named}
 use Rattle.vast_list.specs.declared.names.Named.TheVariants.{Handle}
 use Rattle.vast_list.specs.declared.questions.Question.{Question}
+use Rattle.vast_list.specs.declared.table.numbered.Place.{Place}
 use Rattle.vast_list.specs.CallArguments.{Piece, call_pieces}
 use Rattle.vast_list.specs.CallNames.{call_name}
 use Rattle.vast_list.specs.Lines.{Asked, begins_blank, behind_call, call_word, text_name, word_kind}
 use Rattle.vast_list.specs.Names.{IsFree}
 use Rattle.vast_list.specs.Questions.{Asks, question_words}
 use Rattle.vast_list.specs.Written.{AreWritten}
+use Rattle.vast_list.specs.Internal.CallRows.{name_at}
 use Rattle.vast_list.specs.Session.{Calls, IsMade, IsSameKnown, Enters, IsFileLeft, IsFront, call_kind, next_number}
 
 -- Refused memory is told as such; any other fault as a line's, unless memory for its words was refused.
@@ -66,6 +68,10 @@ IsQuestionFault session question Memory = ⊤
 abbrev pub Acts : (AreThese : List Piece → Type 0) → (name : List ℕ) → Action → Type 0
 Acts AreThese name (Ask question) = (word_kind name ≡ Asked) × ((question_words question).0 ≡ name) × AreThese (question_words question).1
 Acts AreThese name (CallAction call) = (word_kind name ≡ call_kind call) × (call_name call ≡ name) × AreThese (call_pieces call)
+
+-- What the call of this place does, of which these are the arguments.
+abbrev pub ActsAt : (AreThese : List Piece → Type 0) → Place → Action → Type 0
+ActsAt AreThese place action = (name : List ℕ) × (name_at place ≡ Some name) × Acts AreThese name action
 
 -- What a line does whose call has this name and, over the names so far, these arguments.
 abbrev pub IsActionOf : (named : List ℕ → Option Named) → (skipped name arguments : List ℕ) → Action → Type 0

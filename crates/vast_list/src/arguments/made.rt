@@ -16,22 +16,32 @@ impl Arguments<'_> {
         Ok(made)
     }
 
-    /// What is made of one argument.
+    /// All that is left, as one value: several arguments are pairs of pairs, since a function that holds several values
+    /// across several `?` is dear to prove.
     #[tactic(auto, using(crate::proofs::Words::ends))]
+    fn all<A: FromArguments>(&mut self) -> Result<A, Misfit>
+        ensures { IfOk result (λ all. AreLeft self.old (A.pieces all)) }
+    {
+        let all = A::take(self)?;
+        self.end()?;
+        Ok(all)
+    }
+
+    /// What is made of one argument.
     pub(crate) fn one<A: FromArguments, R, M>(&mut self, make: M) -> Result<R, Misfit>
     where
         M: FnOnce(A) -> R + Drop,
         requires { M.IsAlwaysCallable make }
-        ensures { IfOk result (λ made. (first : A)
-            × M.post make first made × AreLeft self.old (A.pieces first)) }
+        ensures { IfOk result (λ made.
+            (first : A)
+            × M.post make first made
+            × AreLeft self.old (A.pieces first)) }
     {
-        let first = A::take(self)?;
-        self.end()?;
+        let first: A = self.all()?;
         Ok(make(first))
     }
 
     /// What is made of two arguments.
-    #[tactic(auto, using(crate::proofs::Words::two_end))]
     pub(crate) fn two<A: FromArguments, B: FromArguments, R, M>(
         &mut self,
         make: M,
@@ -44,14 +54,11 @@ impl Arguments<'_> {
             × M.post make first second made
             × AreLeft self.old (A.pieces first ++ B.pieces second)) }
     {
-        let first = A::take(self)?;
-        let second = B::take(self)?;
-        self.end()?;
+        let (first, second): (A, B) = self.all()?;
         Ok(make(first, second))
     }
 
     /// What is made of three arguments.
-    #[tactic(auto, using(crate::proofs::Words::three_end))]
     pub(crate) fn three<A: FromArguments, B: FromArguments, C: FromArguments, R, M>(
         &mut self,
         make: M,
@@ -64,15 +71,11 @@ impl Arguments<'_> {
             × M.post make first second third made
             × AreLeft self.old (A.pieces first ++ (B.pieces second ++ C.pieces third))) }
     {
-        let first = A::take(self)?;
-        let second = B::take(self)?;
-        let third = C::take(self)?;
-        self.end()?;
+        let (first, (second, third)): (A, (B, C)) = self.all()?;
         Ok(make(first, second, third))
     }
 
     /// What is made of four arguments.
-    #[tactic(auto, using(crate::proofs::Words::four_end))]
     pub(crate) fn four<
         A: FromArguments,
         B: FromArguments,
@@ -90,16 +93,11 @@ impl Arguments<'_> {
             × AreLeft self.old (A.pieces first ++ (B.pieces second
             ++ (C.pieces third ++ D.pieces fourth)))) }
     {
-        let first = A::take(self)?;
-        let second = B::take(self)?;
-        let third = C::take(self)?;
-        let fourth = D::take(self)?;
-        self.end()?;
+        let (first, (second, (third, fourth))): (A, (B, (C, D))) = self.all()?;
         Ok(make(first, second, third, fourth))
     }
 
     /// What is made of five arguments.
-    #[tactic(auto, using(crate::proofs::Words::five_end))]
     pub(crate) fn five<
         A: FromArguments,
         B: FromArguments,
@@ -118,17 +116,11 @@ impl Arguments<'_> {
             × AreLeft self.old (A.pieces first ++ (B.pieces second
             ++ (C.pieces third ++ (D.pieces fourth ++ E.pieces fifth))))) }
     {
-        let first = A::take(self)?;
-        let second = B::take(self)?;
-        let third = C::take(self)?;
-        let fourth = D::take(self)?;
-        let fifth = E::take(self)?;
-        self.end()?;
+        let (first, (second, (third, (fourth, fifth)))): (A, (B, (C, (D, E)))) = self.all()?;
         Ok(make(first, second, third, fourth, fifth))
     }
 
     /// What is made of six arguments.
-    #[tactic(auto, using(crate::proofs::Words::six_end))]
     pub(crate) fn six<
         A: FromArguments,
         B: FromArguments,
@@ -149,13 +141,8 @@ impl Arguments<'_> {
             ++ (C.pieces third ++ (D.pieces fourth
             ++ (E.pieces fifth ++ F.pieces sixth)))))) }
     {
-        let first = A::take(self)?;
-        let second = B::take(self)?;
-        let third = C::take(self)?;
-        let fourth = D::take(self)?;
-        let fifth = E::take(self)?;
-        let sixth = F::take(self)?;
-        self.end()?;
+        let (first, (second, (third, (fourth, (fifth, sixth))))): (A, (B, (C, (D, (E, F))))) =
+            self.all()?;
         Ok(make(first, second, third, fourth, fifth, sixth))
     }
 }

@@ -1,23 +1,15 @@
 //! Calls of parts that are made beforehand, and that add them to modules, by their places in the table.
 
-ghost use Rattle.std.specs.Prelude.{IfOk, IfSome};
+ghost use Rattle.std.specs.Prelude.{IfOk};
 ghost use Rattle.vast_list.specs.CallArguments.{artifact_pieces};
 ghost use Rattle.vast_list.specs.CallNames.{artifact_name};
-ghost use Rattle.vast_list.specs.Internal.CallRows.{StandsAt, artifact_names};
+ghost use Rattle.vast_list.specs.CallNumbers.{artifact_names};
+ghost use Rattle.vast_list.specs.Internal.CallRows.{StandsAt};
 ghost use Rattle.vast_list.specs.Internal.Written.{AreLeft};
 
 use crate::arguments::Arguments;
 use crate::problem::{Misfit, Problem};
-use crate::table::artifacts::CALLS;
-use crate::table::place_in;
 use vast_script::ArtifactStep;
-
-/// The place of the call of the name in its group.
-pub(super) fn place_of(name: &str) -> Option<usize>
-    ensures { IfSome result (λ place. StandsAt artifact_names place name.now) }
-{
-    place_in(&CALLS, name)
-}
 
 /// The call of this place in its group, over the arguments.
 ///

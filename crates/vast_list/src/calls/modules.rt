@@ -1,24 +1,16 @@
 //! Calls of the file's items, and of modules with their ports, declarations and parameters, by their places in the table.
 
-ghost use Rattle.std.specs.Prelude.{IfOk, IfSome};
+ghost use Rattle.std.specs.Prelude.{IfOk};
 ghost use Rattle.vast_list.specs.CallArguments.{module_pieces};
 ghost use Rattle.vast_list.specs.CallNames.{module_name};
-ghost use Rattle.vast_list.specs.Internal.CallRows.{StandsAt, module_names};
+ghost use Rattle.vast_list.specs.CallNumbers.{module_names};
+ghost use Rattle.vast_list.specs.Internal.CallRows.{StandsAt};
 ghost use Rattle.vast_list.specs.Internal.Written.{AreLeft};
 
 use crate::arguments::Arguments;
 use crate::from_arguments::Count;
 use crate::problem::{Misfit, Problem};
-use crate::table::modules::CALLS;
-use crate::table::place_in;
 use vast_script::ModuleStep;
-
-/// The place of the call of the name in its group.
-pub(super) fn place_of(name: &str) -> Option<usize>
-    ensures { IfSome result (λ place. StandsAt module_names place name.now) }
-{
-    place_in(&CALLS, name)
-}
 
 /// The call of this place in its group, over the arguments.
 ///

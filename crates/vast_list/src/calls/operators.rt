@@ -1,23 +1,15 @@
 //! Calls that make an expression of one or two operands, by their places in the table.
 
-ghost use Rattle.std.specs.Prelude.{IfOk, IfSome};
+ghost use Rattle.std.specs.Prelude.{IfOk};
 ghost use Rattle.vast_list.specs.CallArguments.{operator_pieces};
 ghost use Rattle.vast_list.specs.CallNames.{operator_name};
-ghost use Rattle.vast_list.specs.Internal.CallRows.{StandsAt, operator_names};
+ghost use Rattle.vast_list.specs.CallNumbers.{operator_names};
+ghost use Rattle.vast_list.specs.Internal.CallRows.{StandsAt};
 ghost use Rattle.vast_list.specs.Internal.Written.{AreLeft};
 
 use crate::arguments::Arguments;
 use crate::problem::{Misfit, Problem};
-use crate::table::operators::CALLS;
-use crate::table::place_in;
 use vast_script::OperatorStep;
-
-/// The place of the call of the name in its group.
-pub(super) fn place_of(name: &str) -> Option<usize>
-    ensures { IfSome result (λ place. StandsAt operator_names place name.now) }
-{
-    place_in(&CALLS, name)
-}
 
 /// The call of this place in its group, over the arguments.
 ///

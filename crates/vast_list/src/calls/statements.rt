@@ -1,23 +1,15 @@
 //! Calls of functions, always blocks, conditionals and statements, by their places in the table.
 
-ghost use Rattle.std.specs.Prelude.{IfOk, IfSome};
+ghost use Rattle.std.specs.Prelude.{IfOk};
 ghost use Rattle.vast_list.specs.CallArguments.{statement_pieces};
 ghost use Rattle.vast_list.specs.CallNames.{statement_name};
-ghost use Rattle.vast_list.specs.Internal.CallRows.{StandsAt, statement_names};
+ghost use Rattle.vast_list.specs.CallNumbers.{statement_names};
+ghost use Rattle.vast_list.specs.Internal.CallRows.{StandsAt};
 ghost use Rattle.vast_list.specs.Internal.Written.{AreLeft};
 
 use crate::arguments::Arguments;
 use crate::problem::{Misfit, Problem};
-use crate::table::place_in;
-use crate::table::statements::CALLS;
 use vast_script::StatementStep;
-
-/// The place of the call of the name in its group.
-pub(super) fn place_of(name: &str) -> Option<usize>
-    ensures { IfSome result (λ place. StandsAt statement_names place name.now) }
-{
-    place_in(&CALLS, name)
-}
 
 /// The call of this place in its group, over the arguments.
 ///

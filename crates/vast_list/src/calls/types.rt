@@ -1,23 +1,15 @@
 //! Calls that make a type, by their places in the table.
 
-ghost use Rattle.std.specs.Prelude.{IfOk, IfSome};
+ghost use Rattle.std.specs.Prelude.{IfOk};
 ghost use Rattle.vast_list.specs.CallArguments.{type_pieces};
 ghost use Rattle.vast_list.specs.CallNames.{type_name};
-ghost use Rattle.vast_list.specs.Internal.CallRows.{StandsAt, type_names};
+ghost use Rattle.vast_list.specs.CallNumbers.{type_names};
+ghost use Rattle.vast_list.specs.Internal.CallRows.{StandsAt};
 ghost use Rattle.vast_list.specs.Internal.Written.{AreLeft};
 
 use crate::arguments::Arguments;
 use crate::problem::{Misfit, Problem};
-use crate::table::place_in;
-use crate::table::types::CALLS;
 use vast_script::TypeStep;
-
-/// The place of the call of the name in its group.
-pub(super) fn place_of(name: &str) -> Option<usize>
-    ensures { IfSome result (λ place. StandsAt type_names place name.now) }
-{
-    place_in(&CALLS, name)
-}
 
 /// The call of this place in its group, over the arguments.
 ///

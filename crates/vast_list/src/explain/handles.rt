@@ -4,7 +4,8 @@ use crate::arguments::{Arguments, Known, Rest, SKIPPED};
 use crate::explain::kinds::{is_of, kind_of};
 use crate::from_arguments::handle;
 use crate::line::split_line;
-use crate::table::{Handle, Parameter, row_of};
+use crate::table::numbered::row_of;
+use crate::table::{Handle, Parameter};
 use std::alloc::AllocError;
 use vast_script::Answer;
 

@@ -3,8 +3,9 @@
 ghost use Rattle.std.specs.Prelude.{◌≡◌, All, IfErr, IfOk, None, Ok, map};
 ghost use Rattle.vast_core.specs.Bench.{OwnsPort};
 ghost use Rattle.vast_script.specs.Outcome.{cause_of};
+ghost use Rattle.vast_list.specs.CallNumbers.{question_names};
 ghost use Rattle.vast_list.specs.Questions.{PortsAre, Tells, module_fact, module_words, port_fact, port_told};
-ghost use Rattle.vast_list.specs.Internal.CallRows.{StandsAt, question_names};
+ghost use Rattle.vast_list.specs.Internal.CallRows.{StandsAt};
 ghost use Rattle.vast_list.specs.Internal.Written.{AreLeft};
 
 use crate::arguments::Arguments;

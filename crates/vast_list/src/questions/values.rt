@@ -1,8 +1,9 @@
 //! Questions of expressions, types and words.
 
 ghost use Rattle.std.specs.Prelude.{IfOk};
+ghost use Rattle.vast_list.specs.CallNumbers.{question_names};
 ghost use Rattle.vast_list.specs.Questions.{Tells, value_fact, value_words};
-ghost use Rattle.vast_list.specs.Internal.CallRows.{StandsAt, question_names};
+ghost use Rattle.vast_list.specs.Internal.CallRows.{StandsAt};
 ghost use Rattle.vast_list.specs.Internal.Written.{AreLeft};
 
 use crate::arguments::Arguments;
