@@ -1,16 +1,14 @@
 -- The names of calls by their places and by their numbers.
-use Rattle.std.proofs.Common.{◌≡◌, ℕ, zero, suc, ◌+◌, ◌-◌, ◌<◌, ◌≤◌, arith, List, [], ◌∷◌, ◌++◌, Option, Some, None, length, refl, ap, sym, subst, ◌∙◌}
+use Rattle.std.proofs.Common.{◌≡◌, ℕ, zero, suc, ◌+◌, ◌-◌, ◌<◌, ◌≤◌, arith, List, [], ◌∷◌, ◌++◌, Option, Some, length, refl, ap, sym, subst, ◌∙◌}
 use Rattle.std.proofs.lemmas.Option.{slice_get-map}
 use Rattle.std.specs.Borrow.{Bor}
 use Rattle.std.specs.Prelude.{IfSome, map, option_map, slice_get, unwrap_or}
 use Rattle.vast_list.specs.declared.table.CallRow.{CallRow}
 use Rattle.vast_list.specs.declared.table.numbered.Place.{Place}
 use Rattle.vast_script.specs.declared.step.Step.{Step}
-use Rattle.vast_script.specs.declared.step.Step.TheVariants.{Operators, Expressions, Types, Modules, Loops, Statements, Artifacts}
 use Rattle.vast_list.specs.CallNames.{step_name}
-use Rattle.vast_list.specs.CallNumbers.{IsNumberOf, call_names, artifact_names, expression_names, loop_names, module_names, operator_names, statement_names, type_names}
-use Rattle.vast_list.specs.Lines.{LineKind, Stepped, word_kind}
-use Rattle.vast_list.specs.Packed.{IsPackedNumber}
+use Rattle.vast_list.specs.CallNumbers.{call_names}
+use Rattle.vast_list.specs.Lines.{LineKind, word_kind}
 use Rattle.vast_list.specs.PackedCalls.{IsCallFront}
 use Rattle.vast_list.specs.Internal.CallRows.{StandsAt, name_at}
 use Rattle.vast_list.specs.Internal.Packed.{IsNumberFront}

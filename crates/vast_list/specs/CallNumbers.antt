@@ -1,7 +1,5 @@
--- The numbers of calls in packed lists.
+-- The names of calls by their groups, signs included, in the order of `src/table`, and the numbers of calls in packed lists.
 use Rattle.std.specs.Prelude.{◌≡◌, ℕ, List, [], ◌∷◌, ◌++◌, Some, slice_get, codes}
-
--- The names of the calls of each group, signs included, in the order of `src/table`.
 
 abbrev pub operator_names : List (List ℕ)
 operator_names =
