@@ -209,5 +209,6 @@ static int warnings(void)
 
 int main(void)
 {
-    return handles() || faults() || refused_text() || texts(vast_file_open) || texts(vast_file_open_with_lint) || answers() || ports() || values() || warnings();
+    return handles() || faults() || refused_text() || texts(vast_file_open) || texts(vast_file_open_with_lint) || answers() ||
+           ports() || values() || warnings();
 }
