@@ -99,3 +99,71 @@ fn push_text(lines: &mut String, text: &str) {
     }
     lines.push('"');
 }
+
+#[cfg(test)]
+mod tests {
+    use super::lines_of;
+    use crate::calls::Call;
+    use crate::kinds::DataKind;
+    use crate::packed::Calls;
+
+    #[test]
+    fn each_form_is_as_lines_have_it() {
+        let mut calls = Calls::default();
+        calls.begin(Call::MakeScalarType).end();
+        calls.begin(Call::MakeAdd).step(127).step(128).end();
+        calls.begin(Call::MakeIndex).step(16_383).number(-1).end();
+        calls.begin(Call::MakeSlice).step(16_384);
+        calls.number(i64::MIN).number(i64::MAX).end();
+        calls.begin(Call::HoistModuleDeclarations).step(0);
+        calls.count(usize::MAX).end();
+        calls.begin(Call::MakeDef).text("\"a\\b\"\r\n\té");
+        calls.count(DataKind::Genvar.place()).step(1).end();
+        calls.begin(Call::MakePackedArrayType).step(1);
+        calls.numbers(&[2, -3]).end();
+        calls.begin(Call::MakeConcat).steps(&[]).end();
+        calls.begin(Call::MakeInstantiation).text("m").text("i");
+        calls.texts(&["p"]).steps(&[4]).texts(&["a", "b"]);
+        calls.optional_steps(&[Some(5), None]).end();
+        calls.begin(Call::BitwiseOrReduce).steps(&[6, 7]).end();
+        let lines = [
+            "MakeScalarType",
+            "MakeAdd 127 128",
+            "MakeIndex 16383 -1",
+            "MakeSlice 16384 -9223372036854775808 9223372036854775807",
+            "HoistModuleDeclarations 0 18446744073709551615",
+            "MakeDef \"\\\"a\\\\b\\\"\\r\\n\té\" Genvar 1",
+            "MakePackedArrayType 1 [ 2 -3 ]",
+            "MakeConcat [ ]",
+            "MakeInstantiation \"m\" \"i\" [ \"p\" ] [ 4 ] [ \"a\" \"b\" ] [ + 5 - ]",
+            "!BitwiseOrReduce [ 6 7 ]",
+        ];
+        assert_eq!(lines_of(calls.as_bytes()), lines.join("\n") + "\n");
+    }
+
+    #[test]
+    fn groups_options_and_long_calls_are_too() {
+        let mut calls = Calls::default();
+        let text = "x".repeat(20_000);
+        calls.begin(Call::AddCommentText).text(&text).end();
+        let one = calls.as_bytes().len();
+        calls.begin(Call::AddRegisters).step(1);
+        calls.option(Some(2), |calls, signal| calls.step(signal).truth(false));
+        calls.list([3], |calls, reg| {
+            calls
+                .step(reg)
+                .step(4)
+                .option(Some(5), Calls::step)
+                .option(None, Calls::step)
+        });
+        calls.step(6).end();
+        let comment = format!("AddCommentText \"{text}\"\n");
+        let registers = "!AddRegisters 1 + [ 2 false ] [ [ 3 4 + 5 - ] ] 6\n";
+        assert_eq!(lines_of(calls.as_bytes()), comment.clone() + registers);
+        assert_eq!(calls.first(1).len(), one);
+        calls.forget_front(one);
+        assert_eq!(lines_of(calls.as_bytes()), registers);
+        calls.forget_last();
+        assert!(calls.is_empty());
+    }
+}
