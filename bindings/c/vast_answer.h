@@ -1,9 +1,9 @@
-/* What the library returns for the line of a question, as values of C. Of these functions programs
+/* What the library returns for a question, as values of C. Of these functions programs
  * use `vast_next_port`. */
 #ifndef VAST_ANSWER_H
 #define VAST_ANSWER_H
 
-#include "vast_line.h"
+#include "vast_call.h"
 
 /* The ports of a module, which `vast_next_port` takes one by one. They are the file's, as a text
  * is. */
@@ -26,7 +26,7 @@ static inline int32_t vast_file_copy(vast_file *file, int32_t which, vast_string
             vast_text(&file->session, which, (uint8_t *)room->bytes, length);
     }
     if (!has_room) {
-        vast_line_fault(file, VAST_MEMORY, NULL);
+        vast_call_fault(file, VAST_MEMORY, NULL);
         return file->status;
     }
     room->bytes[length] = '\0';
@@ -36,13 +36,13 @@ static inline int32_t vast_file_copy(vast_file *file, int32_t which, vast_string
     return VAST_OK;
 }
 
-/* Asks the question of the line. Of the lines that are kept it is an empty one, since it prints
+/* Asks the question that is written. Of lines that are kept it is an empty one, since it prints
  * nothing. */
 static inline int32_t vast_ask_text(vast_file *file, vast_string *answer)
 {
     size_t start = file->start;
     *answer = vast_str("");
-    vast_line_send(file);
+    vast_call_send(file);
     if (file->status == VAST_OK && file->keeps_lines) {
         file->lines.bytes[start] = '\n';
         file->start = start + 1;

@@ -1,9 +1,8 @@
 /* A file in the making, and what the functions of vast_calls.h do beneath their names: they write
- * the line of their call as docs/use/LISTS.md says, hand it to the library, and read what it
- * returned. Programs include vast_calls.h, and use of this header `vast_file`, the functions that
+ * their call as docs/use/LISTS.md says, hand it to the library, and read what it returned. Programs include vast_calls.h, and use of this header `vast_file`, the functions that
  * begin with `vast_file_`, `vast_emit` and `vast_next_port`.
  *
- * Ownership. A `vast_file` owns its memory: the library's session, the buffer of the line and that
+ * Ownership. A `vast_file` owns its memory: the library's session, the buffer of the call and that
  * of the last text. Make it VAST_CLOSED_FILE once, before its first use; `vast_file_open` opens it,
  * `vast_file_close` gives all back, and either may be done again. Copy none that is open, and
  * change none of its fields but `fault`. What a function is given, as texts and arrays, stays the
@@ -56,7 +55,7 @@ static inline int32_t vast_file_open(vast_file *file, int32_t dialect)
     return file->status;
 }
 
-/* The same; the lines of its calls are kept for `vast_file_warnings`. */
+/* The same; its calls are written as lines, which are kept for `vast_file_warnings`. */
 static inline int32_t vast_file_open_with_lint(vast_file *file, int32_t dialect)
 {
     int32_t status = vast_file_open(file, dialect);
@@ -69,7 +68,7 @@ static inline int32_t vast_file_open_with_lint(vast_file *file, int32_t dialect)
 static inline int32_t vast_emit(vast_file *file, vast_string *answer)
 {
     *answer = vast_str("");
-    vast_line_begin(file, "?Emit");
+    vast_call_start(file, "?Emit");
     if (file->status == VAST_OK)
         file->status = vast_print(&file->session);
     return file->status == VAST_OK ? vast_file_copy(file, VAST_FILE, answer) : file->status;
@@ -121,7 +120,7 @@ static inline void vast_file_copy_warnings(vast_file *file, size_t wanted, size_
     vast_buffer *room = &file->text;
     const uint8_t *lines = (const uint8_t *)file->lines.bytes;
     if (!vast_buffer_reserve(room, wanted)) {
-        vast_line_fault(file, VAST_MEMORY, NULL);
+        vast_call_fault(file, VAST_MEMORY, NULL);
         return;
     }
     uint8_t *out = (uint8_t *)room->bytes;
@@ -137,9 +136,9 @@ static inline int32_t vast_file_warnings(vast_file *file, vast_string *warnings)
 {
     size_t all = 0;
     *warnings = vast_str("");
-    vast_line_begin(file, "vast_file_warnings");
+    vast_call_start(file, "vast_file_warnings");
     if (!file->keeps_lines)
-        vast_line_fault(file, VAST_CONDITION, "the file is opened without a lint");
+        vast_call_fault(file, VAST_CONDITION, "the file is opened without a lint");
     if (file->status == VAST_OK)
         vast_file_copy_warnings(file, 256, &all);
     if (file->status == VAST_OK && all >= file->text.capacity)

@@ -99,13 +99,13 @@ def passed(parameter):
 
 
 def written(type, value, counted=None, is_pointer=False):
-    """The statement that writes an argument into the line."""
+    """The statement that writes an argument of the call."""
     if type.form == "handle":
-        return f"vast_line_handle(file, {value}{'->' if is_pointer else '.'}id);"
+        return f"vast_call_handle(file, {value}{'->' if is_pointer else '.'}id);"
     if type.form == "word":
-        return f"vast_line_variant(file, {c_type(type)}_word({value}));"
+        return f"vast_call_variant(file, {c_type(type)}_word({value}), (uint64_t){value});"
     count = f", {counted}" if type.form == "list" else ""
-    return f"vast_line_{item(type)}(file, {'*' if is_pointer else ''}{value}{count});"
+    return f"vast_call_{item(type)}(file, {'*' if is_pointer else ''}{value}{count});"
 
 
 class CBinding:
@@ -219,16 +219,16 @@ class CBinding:
         """Such a function."""
         given = ["vast_file *file", declared(c_type(type), "given")]
         if type.form == "optional":
-            rows = ['vast_line_word(file, given == NULL ? "-" : "+");', "if (given != NULL)"]
+            rows = ["vast_call_option(file, given != NULL);", "if (given != NULL)"]
             rows.append(f"    {written(type.of, 'given', is_pointer=True)}")
         elif type.form == "list":
             given.append("size_t count")
-            rows = ["for (size_t at = 0; at < count; at++)", f"    {written(type.of, 'given[at]')}"]
+            rows = ["vast_call_items(file, count);", "for (size_t at = 0; at < count; at++)"]
+            rows += [f"    {written(type.of, 'given[at]')}", 'vast_call_bracket(file, "]");']
         else:
             rows = [written(field.type, f"given.{name_of(field)}") for field in type.fields]
-        if type.form != "optional":
-            rows = ['vast_line_word(file, "[");', *rows, 'vast_line_word(file, "]");']
-        return function(f"static inline void vast_line_{item(type)}", given, rows)
+            rows = ['vast_call_bracket(file, "[");', *rows, 'vast_call_bracket(file, "]");']
+        return function(f"static inline void vast_call_{item(type)}", given, rows)
 
     def says(self, call):
         """What the comment of a call says."""
@@ -252,16 +252,16 @@ class CBinding:
         answer, given = call.answer, parameters_of(call)
         if answer.form != "nothing":
             given.append(f"{answer_type(answer)} *{'answer' if call.is_question else 'made'}")
-        rows = [f'vast_line_begin(file, "{call.call}");']
+        rows = [f'vast_call_begin(file, "{call.call}", {self.table.calls.index(call)});']
         for parameter in call.parameters:
             name = name_of(parameter)
             rows.append(written(parameter.type, name, f"{name}_count"))
         if call.is_question:
             rows.append(f"return vast_ask_{answer_item(answer)}(file, answer);")
         elif answer.form == "nothing":
-            rows.append("return vast_line_make(file, NULL);")
+            rows.append("return vast_call_make(file, NULL);")
         else:
-            rows.append("return vast_line_make(file, made == NULL ? NULL : &made->id);")
+            rows.append("return vast_call_make(file, made == NULL ? NULL : &made->id);")
         return f"{comment(self.says(call))}\n" + function(f"static inline int32_t vast_{call.method}", given, rows)
 
     # vast_values.h

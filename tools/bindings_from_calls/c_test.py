@@ -1,7 +1,8 @@
-"""Programs that make each call of the C binding once, and compare the line that it writes with the one that lists have."""
+"""Programs that make each call of the C binding, packed and as a line, and compare what it writes with what lists have."""
 import json
 
 from c_text import WIDTH, declaration
+from packed import packed
 
 # So many calls are made by one function.
 PART = 10
@@ -29,7 +30,7 @@ KIND_OF = {"array": "type", "memory": "signal"}
 # What questions are answered with.
 ANSWERS = ("bool truth", "uint64_t natural", "int64_t integer", "vast_string text", "vast_ports ports")
 
-HEAD = """/* Makes each call of {header} once: nothing is at fault, and its line is the one that lists have.
+HEAD = """/* Makes each call of {header} packed, and as a line: nothing is at fault, and it is what lists have.
  *
  * Written by tools/bindings_from_calls from the table of calls; not to be edited.
  */
@@ -47,11 +48,17 @@ typedef struct {{
     vast_register_definition definitions[2];
 }} answers;
 
-static bool is_line(const answers *have, const char *line)
+/* Whether the call was written as this line, of a file that keeps lines, or else as these bytes. */
+static bool is_written(const answers *have, const char *line, const char *packed, size_t length)
 {{
     const vast_buffer *lines = &have->file.lines;
-    size_t length = strlen(line);
-    return lines->length == length + 1 && memcmp(lines->bytes, line, length) == 0 && lines->bytes[length] == '\\n';
+    if (!have->file.keeps_lines)
+        return lines->length == length && memcmp(lines->bytes, packed, length) == 0;
+    size_t first = line[0] == '?', whole = strlen(line); /* the first byte of a question is let go */
+    if (lines->length <= whole)
+        return false;
+    const char *last = lines->bytes + lines->length - whole - 1;
+    return memcmp(last + first, line + first, whole - first) == 0 && last[whole] == '\\n';
 }}
 
 /* What calls are given that take more than one thing. */
@@ -81,13 +88,16 @@ MAIN = """int main(void)
 {{
     static answers have; /* of all zeros, so the file is closed */
 {parts}
+    static int32_t (*const opened[])(vast_file *, int32_t) = {{vast_file_open, vast_file_open_with_lint}};
     vast_string text;
-    CHECK(vast_file_open(&have.file, VAST_SYSTEMVERILOG) == VAST_OK);
-    for (size_t part = 0; part < sizeof parts / sizeof parts[0]; part++)
-        if (parts[part](&have))
-            return 1;
-    CHECK(have.file.count == {count} && vast_emit(&have.file, &text) == VAST_OK);
-    vast_file_close(&have.file);
+    for (size_t form = 0; form < 2; form++) {{
+        CHECK(opened[form](&have.file, VAST_SYSTEMVERILOG) == VAST_OK);
+        for (size_t part = 0; part < sizeof parts / sizeof parts[0]; part++)
+            if (parts[part](&have))
+                return 1;
+        CHECK(have.file.count == {count} && vast_emit(&have.file, &text) == VAST_OK);
+        vast_file_close(&have.file);
+    }}
     return 0;
 }}
 """
@@ -100,6 +110,7 @@ class Program:
 
     def __init__(self, table, kinds):
         self.takes = {kind.kind: kind.takes for kind in kinds}
+        self.places = {call.call: place for place, call in enumerate(table.calls)}
         calls = [call for call in table.calls if call.method != "emit"]
         self.left = [call for call in calls if call.method in FIRST] + [call for call in calls if call.method not in FIRST]
         self.numbers = {}  # of each field of the answers
@@ -147,15 +158,18 @@ class Program:
             seen += parameter.type.form == "handle" and parameter.type.of == "expression"
             given.append(argument)
             words.append(word)
-        self.rows.append(self.row(call, given, self.keep(call), c_string(" ".join(words))))
+        self.rows.append(self.row(call, given, self.keep(call)) + "\n" + self.look(call, " ".join(words)))
 
-    def row(self, call, given, field, line):
-        """The statements that make a call, whose answer goes to a field, and look at its line."""
+    def row(self, call, given, field):
+        """The statement that makes a call, whose answer goes to a field."""
         if call.answer.form != "nothing":
             given = given + [f"&{field}" if field else "NULL"]
-        made = declaration(f"    CHECK(vast_{call.method}(", ", ".join(given), ") == VAST_OK")
-        row = f"{made} && is_line(have, {line}));"
-        return row if len(row.split("\n")[-1]) <= WIDTH else row.replace(" && is_line", "\n          && is_line")
+        return declaration(f"    CHECK(vast_{call.method}(", ", ".join(given), ") == VAST_OK);")
+
+    def look(self, call, line):
+        """The statement that looks at what was written."""
+        written = packed(call, self.places[call.call], line)
+        return declaration("    CHECK(is_written(have, ", f"{c_string(line)}, {c_bytes(written)}, {len(written)}", "));")
 
     def keep(self, call):
         """Counts the call; the field that keeps what it gives, if one does."""
@@ -220,11 +234,11 @@ class ValueProgram(Program):
 
     header = "vast_values.h"
 
-    def row(self, call, given, field, line):
+    def row(self, call, given, field):
         """See `Program`."""
         kept = f"{field} = " if field else ""
         made = declaration(f"    {kept}v_{call.method}(", ", ".join(given), ");")
-        return f"{made}\n    CHECK(have->file.fault == VAST_OK && is_line(have, {line}));"
+        return f"{made}\n    CHECK(have->file.fault == VAST_OK);"
 
     def handle(self, field, kind):
         """See `Program`."""
@@ -259,6 +273,13 @@ def upper(word):
 def c_string(text):
     """A literal of C."""
     return json.dumps(text)
+
+
+def c_bytes(content):
+    """The bytes as a literal of C."""
+    plain = frozenset(b" !#$%&'()*+,-./:;<=>@[]^_`{|}~")
+    shown = (chr(byte) if chr(byte).isalnum() and byte < 128 or byte in plain else f"\\{byte:03o}" for byte in content)
+    return '"' + "".join(shown) + '"'
 
 
 def c_integer(number):

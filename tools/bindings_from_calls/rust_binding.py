@@ -6,6 +6,7 @@ import shutil
 
 from python_words import REFUSALS
 from rust_arms import CALLS, test_text
+from rust_calls import table_files, variant
 from rust_text import rustfmt
 from waiting import COMPARED, tests
 
@@ -138,7 +139,7 @@ def methods():
 
 
 def argument(name, kind, form):
-    """What is looked up before the line, and what writes it."""
+    """What is looked up before the call is written, and what writes it."""
     if kind == "&IndexableExpr":
         return f"let {name}_step = self.own_indexable({name});", f".step({name}_step)"
     if form == "handle":
@@ -147,12 +148,14 @@ def argument(name, kind, form):
         return None, f".text({name})"
     if kind == "bool":
         return None, f".truth({name})"
-    if kind in ("i64", "i32", "usize"):
+    if kind in ("i64", "i32"):
         return None, f".number({name})"
+    if kind == "usize":
+        return None, f".count({name})"
     if kind in ("DataKind", "&LiteralFormat"):
-        return None, f".word({name}.word())"
+        return None, f".count({name}.place())"
     if kind == "Option<&str>":
-        return None, f".option({name}, Lines::text)"
+        return None, f".option({name}, Calls::text)"
     if kind == "&[i64]":
         return None, f".numbers({name})"
     if kind == "&[&str]":
@@ -161,7 +164,7 @@ def argument(name, kind, form):
         return f"let {name}_steps = self.own_all({name});", f".steps(&{name}_steps)"
     if kind == "&[Option<&Expr>]":
         return f"let {name}_steps = self.own_any({name});", f".optional_steps(&{name}_steps)"
-    raise SystemExit(f"no argument of a line is known for {name}: {kind}")
+    raise SystemExit(f"no argument of a call is known for {name}: {kind}")
 
 
 def wrapped(words, margin):
@@ -203,7 +206,7 @@ def signature(name, method, receiver, result):
 def asked_once(call, method):
     """The body of a call that answers the same handle each time."""
     label = method.parameters[0][0]
-    step = f'self.answered("{call}", {label}.0)'
+    step = f"self.answered({variant(call)}, {label}.0)"
     if method.answer == "IndexableExpr":
         return (f"        let step = {step}.step;\n        let expression = {label}.0;\n"
                 "        IndexableExpr { expression, step }")
@@ -224,22 +227,22 @@ def made_by(entry, method, write):
     told = certainty(entry)
     is_certain = told if told in ("true", "false") else "is_certain"
     if entry.is_refused:
-        return f'self.allowed({is_certain}, "{entry.call}", {write})?'
+        return f"self.allowed({is_certain}, {variant(entry)}, {write})?"
     if name in LOOKS:
-        return f'self.made_or({is_certain}, "{entry.call}", {write}, {LOOKS[name]})'
+        return f"self.made_or({is_certain}, {variant(entry)}, {write}, {LOOKS[name]})"
     if told == "true":
-        return f'self.later("{entry.call}", {write})'
+        return f"self.later({variant(entry)}, {write})"
     condition = "module ports must have unique names" if name in PORTS else CONDITIONS[name]
-    return f'self.made({is_certain}, "{entry.call}", "{condition}", {write})'
+    return f'self.made({is_certain}, {variant(entry)}, "{condition}", {write})'
 
 
 def body(entry, method):
     """The method's body."""
-    call, name = entry.call, entry.method
+    name = entry.method
     forms = [parameter.type.form for parameter in entry.parameters]
     if name in ("make_indexable_expression", "generate_genvar", "function_body", "function_result",
                 "statement_block", "conditional_then_block"):
-        return asked_once(call, method)
+        return asked_once(entry, method)
     lines = []
     for left, right, words in PAIRS.get(name, []):
         lines += ["assert_eq!(", f"    {left}.len(),", f"    {right}.len(),", f'    "{words}"', ");"]
@@ -275,7 +278,7 @@ def body(entry, method):
 
 def written_by(written):
     """The closure that writes the arguments."""
-    return "|lines| lines" + "".join(written)
+    return "|calls| calls" + "".join(written)
 
 
 def result_of(name, method):
@@ -301,6 +304,7 @@ def text(table, group):
 
 # Where what the methods name stands.
 PLACES = {
+    "calls": ["Call"],
     "conditions": ["are_dimensions", "cast_condition", "packed_condition", "unpacked_condition"],
     "error": ["VastError"],
     "file": ["VastFile"],
@@ -310,8 +314,8 @@ PLACES = {
                 "VastFunction", "VastModule", "VastStatement", "VastStatementBlock"],
     "kinds": ["DataKind", "LiteralFormat", "ModulePortDirection", "VastFileType"],
     "known": ["Width"],
-    "line": ["Lines"],
     "literal": ["is_pattern", "is_small_literal"],
+    "packed": ["Calls"],
 }
 
 
@@ -339,4 +343,5 @@ class RustBinding:
             return {}
         files = {f"{METHODS}/{group}.rs": text(self.table, group) for group in GROUPS}
         files[CALLS] = test_text(self.table, methods())
+        files.update(table_files(self.table))
         return files

@@ -1,4 +1,4 @@
-/* What vast_calls.h and vast_values.h do beside the lines of their calls: handles, faults, texts, answers and warnings.
+/* What vast_calls.h and vast_values.h do beside writing their calls: handles, faults, texts, answers and warnings.
  * Says the first check that fails, with its line, and ends with status 1. */
 #include "check.h"
 #include "vast_values.h"
@@ -85,15 +85,16 @@ static int refused_text(void)
     return 0;
 }
 
-/* Texts with all that is escaped, one that is longer than the first buffers, and labels that are there or not. */
-static int texts(void)
+/* Texts with all that lines escape, one that is longer than the first buffers, and labels that are there or not; packed and
+ * in lines. */
+static int texts(int32_t (*opened)(vast_file *, int32_t))
 {
     static char many[3001];
     vast_file file = VAST_CLOSED_FILE;
     vast_expression string;
     vast_string text, with_nul = {"a\0b", 3};
     memset(many, 'x', sizeof many - 1);
-    CHECK(vast_file_open(&file, VAST_SYSTEMVERILOG) == VAST_OK);
+    CHECK(opened(&file, VAST_SYSTEMVERILOG) == VAST_OK);
     CHECK(vast_make_string_literal(&file, vast_str("a\"b\\\n\r\t/\xc3\xa9"), &string) == VAST_OK);
     CHECK(vast_emit_expression(&file, string, &text) == VAST_OK && is_text(text, "\"a\\\"b\\\\\\n\\r\\t/\xc3\xa9\""));
     CHECK(text.bytes[text.length] == '\0');
@@ -208,5 +209,6 @@ static int warnings(void)
 
 int main(void)
 {
-    return handles() || faults() || refused_text() || texts() || answers() || ports() || values() || warnings();
+    return handles() || faults() || refused_text() || texts(vast_file_open) || texts(vast_file_open_with_lint) || answers() ||
+           ports() || values() || warnings();
 }

@@ -1,5 +1,6 @@
 //! Conditions that depend on what a call is given, and what it panics with where they are not met.
 
+use crate::calls::Call;
 use crate::known::Width;
 use crate::state::State;
 
@@ -10,7 +11,7 @@ pub(crate) fn packed_condition(
     element: usize,
     dimensions: &[i64],
 ) -> &'static str {
-    if !state.holds("?TypeCanBePacked", element) {
+    if !state.holds(Call::TypeCanBePacked, element) {
         return match state.known.widths.get(&element) {
             Some(Width::Element(_)) => "packed arrays cannot contain unpacked array elements",
             _ => "packed arrays cannot contain integer or int elements",
@@ -41,7 +42,7 @@ pub(crate) fn unpacked_condition(dimensions: &[i64]) -> &'static str {
 /// Why nothing can be cast to this type.
 #[cold]
 pub(crate) fn cast_condition(state: &mut State, data_type: usize) -> &'static str {
-    if state.holds("?TypeCanBePacked", data_type) {
+    if state.holds(Call::TypeCanBePacked, data_type) {
         "packed array types cannot be used in type casts; use a named typedef instead"
     } else {
         "unpacked array types cannot be used in type casts"

@@ -1,10 +1,11 @@
 //! One file in the making.
 
+use crate::calls::Call;
 use crate::error::VastError;
 use crate::handles::{Expr, Id, IndexableExpr};
 use crate::kinds::{ModulePortDirection, VastFileType};
 use crate::known::{Known, Port, Width};
-use crate::line::Lines;
+use crate::packed::Calls;
 use crate::session::Fault;
 use crate::state::{give_up, State};
 use crate::warning::VastWarning;
@@ -54,13 +55,13 @@ impl VastFile {
         }
     }
 
-    /// An empty file of the dialect, which tells [`warnings`](VastFile::warnings); the lines of its calls are kept for that.
+    /// An empty file of the dialect, which tells [`warnings`](VastFile::warnings); its calls are kept for that.
     ///
     /// # Panics
     /// Where memory is refused.
     pub fn with_lint(file_type: VastFileType) -> VastFile {
         let mut file = VastFile::new(file_type);
-        file.state().keep_lines();
+        file.state().keep_calls();
         file
     }
 
@@ -131,13 +132,13 @@ impl VastFile {
     }
 
     /// What a call returns for the handle, where it returns the same each time. Nothing refuses it, so it waits.
-    pub(crate) fn answered(&self, call: &'static str, of: Id) -> Id {
+    pub(crate) fn answered(&self, call: Call, of: Id) -> Id {
         let of = self.own(of);
         let mut state = self.locked();
         if let Some(answer) = state.known.answer(call, of) {
             return self.id(answer);
         }
-        let made = state.step(true, call, |lines| lines.step(of));
+        let made = state.step(true, call, |calls| calls.step(of));
         let answer = made.unwrap_or_else(|fault| give_up(fault, ""));
         state.known.keep_answer(call, of, answer);
         self.id(answer)
@@ -145,7 +146,7 @@ impl VastFile {
 
     /// Makes the call, which nothing refuses, with the arguments that `write` writes; it waits.
     #[inline]
-    pub(crate) fn later(&mut self, call: &str, write: impl FnOnce(&mut Lines) -> &mut Lines) -> Id {
+    pub(crate) fn later(&mut self, call: Call, write: impl FnOnce(&mut Calls) -> &mut Calls) -> Id {
         self.made(true, call, "", write)
     }
 
@@ -157,9 +158,9 @@ impl VastFile {
     pub(crate) fn made(
         &mut self,
         is_certain: bool,
-        call: &str,
+        call: Call,
         condition: &str,
-        write: impl FnOnce(&mut Lines) -> &mut Lines,
+        write: impl FnOnce(&mut Calls) -> &mut Calls,
     ) -> Id {
         self.made_or(is_certain, call, write, |_| condition)
     }
@@ -169,8 +170,8 @@ impl VastFile {
     pub(crate) fn made_or<'c>(
         &mut self,
         is_certain: bool,
-        call: &str,
-        write: impl FnOnce(&mut Lines) -> &mut Lines,
+        call: Call,
+        write: impl FnOnce(&mut Calls) -> &mut Calls,
         condition: impl FnOnce(&mut State) -> &'c str,
     ) -> Id {
         let state = self.state();
@@ -191,8 +192,8 @@ impl VastFile {
     pub(crate) fn allowed(
         &mut self,
         is_certain: bool,
-        call: &str,
-        write: impl FnOnce(&mut Lines) -> &mut Lines,
+        call: Call,
+        write: impl FnOnce(&mut Calls) -> &mut Calls,
     ) -> Result<Id, VastError> {
         match self.state().step(is_certain, call, write) {
             Ok(step) => Ok(self.id(step)),
@@ -265,8 +266,8 @@ pub(crate) fn refusal(fault: Fault, condition: &str) -> VastError {
 /// Where memory is refused.
 pub fn is_system_verilog_keyword(identifier: &str) -> bool {
     let mut file = VastFile::new(VastFileType::SystemVerilog);
-    let question = "?IsSystemVerilogKeyword";
-    match file.state().ask(question, |lines| lines.text(identifier)) {
+    let question = Call::IsSystemVerilogKeyword;
+    match file.state().ask(question, |calls| calls.text(identifier)) {
         Ok(answer) => answer == "true",
         Err(fault) => give_up(fault, ""),
     }

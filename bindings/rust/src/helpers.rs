@@ -1,9 +1,10 @@
 //! Groups of registers, and reductions of many expressions to one.
 
+use crate::calls::Call;
 use crate::error::VastError;
 use crate::file::VastFile;
 use crate::handles::{Expr, GenerateLoop, IndexableExpr, VastModule};
-use crate::line::Lines;
+use crate::packed::Calls;
 
 /// The reset of a group of registers.
 #[derive(Clone, Copy, Debug)]
@@ -70,20 +71,18 @@ pub fn add_registers(
             register.enable.map(|enable| file.own(enable.0)),
         ));
     }
-    file.allowed(false, "!AddRegisters", |lines| {
-        lines
+    file.allowed(false, Call::AddRegisters, |calls| {
+        calls
             .step(clk)
-            .option(reset, |lines, (signal, active_low)| {
-                lines.word("[").step(signal).truth(active_low).word("]")
+            .option(reset, |calls, (signal, active_low)| {
+                calls.step(signal).truth(active_low)
             })
-            .list(steps, |lines, (reg, next, reset_value, enable)| {
-                lines
-                    .word("[")
+            .list(steps, |calls, (reg, next, reset_value, enable)| {
+                calls
                     .step(reg)
                     .step(next)
-                    .option(reset_value, Lines::step)
-                    .option(enable, Lines::step)
-                    .word("]")
+                    .option(reset_value, Calls::step)
+                    .option(enable, Calls::step)
             })
             .step(scope)
     })?;
@@ -102,7 +101,7 @@ pub fn logical_or_reduce(
     invert: bool,
     file: &mut VastFile,
 ) -> Result<Expr, VastError> {
-    logical("!LogicalOrReduce", inputs, invert, file)
+    logical(Call::LogicalOrReduce, inputs, invert, file)
 }
 
 /// The logical AND of all inputs, true where there are none, or its opposite.
@@ -117,7 +116,7 @@ pub fn logical_and_reduce(
     invert: bool,
     file: &mut VastFile,
 ) -> Result<Expr, VastError> {
-    logical("!LogicalAndReduce", inputs, invert, file)
+    logical(Call::LogicalAndReduce, inputs, invert, file)
 }
 
 /// The bitwise OR of all inputs, `'0` where there are none.
@@ -132,7 +131,7 @@ pub fn bitwise_or_reduce(inputs: &[Expr], file: &mut VastFile) -> Result<Expr, V
     if let [only] = inputs {
         return Ok(*only);
     }
-    let made = file.allowed(false, "!BitwiseOrReduce", |lines| lines.steps(&steps))?;
+    let made = file.allowed(false, Call::BitwiseOrReduce, |calls| calls.steps(&steps))?;
     Ok(Expr(made))
 }
 
@@ -149,14 +148,14 @@ pub fn bitwise_or_reduce_array_elements(
     file: &mut VastFile,
 ) -> Result<Expr, VastError> {
     let step = file.own_indexable(expr);
-    let made = file.allowed(false, "!BitwiseOrReduceArrayElements", |lines| {
-        lines.step(step).numbers(dimensions)
+    let made = file.allowed(false, Call::BitwiseOrReduceArrayElements, |calls| {
+        calls.step(step).numbers(dimensions)
     })?;
     Ok(Expr(made))
 }
 
 fn logical(
-    call: &str,
+    call: Call,
     inputs: &[Expr],
     invert: bool,
     file: &mut VastFile,
@@ -165,7 +164,7 @@ fn logical(
     if let ([only], false) = (inputs, invert) {
         return Ok(*only);
     }
-    let made = file.allowed(false, call, |lines| lines.steps(&steps).truth(invert))?;
+    let made = file.allowed(false, call, |calls| calls.steps(&steps).truth(invert))?;
     Ok(Expr(made))
 }
 

@@ -1,5 +1,6 @@
 //! What a file holds.
 
+use crate::calls::Call;
 use crate::error::VastError;
 use crate::file::{refusal, VastFile};
 use crate::handles::{Expr, LogicRef, ModulePort, VastDataType, VastModule};
@@ -13,24 +14,24 @@ impl VastFile {
     /// # Panics
     /// With the library's words where the expression has no text.
     pub fn emit_expression(&self, expression: &Expr) -> String {
-        self.asked("?EmitExpression", self.own(expression.0))
+        self.asked(Call::EmitExpression, self.own(expression.0))
     }
 
     /// Whether each printed name is an identifier, no edge stands in an expression, and no text is inline; an include's path
     /// and left sides are then such that the text reads back as the file.
     pub fn is_plain(&self) -> bool {
-        let answer = self.locked().ask("?FileIsPlain", |lines| lines);
+        let answer = self.locked().ask(Call::FileIsPlain, |calls| calls);
         answer.unwrap_or_else(|fault| give_up(fault, "")) == "true"
     }
 
     /// The module's name.
     pub fn module_name(&self, module: VastModule) -> String {
-        self.asked("?ModuleName", self.own(module.0))
+        self.asked(Call::ModuleName, self.own(module.0))
     }
 
     /// How many members the module has, which is the place of the next.
     pub fn module_member_count(&self, module: VastModule) -> usize {
-        number_of(&self.asked("?ModuleMemberCount", self.own(module.0)))
+        number_of(&self.asked(Call::ModuleMemberCount, self.own(module.0)))
     }
 
     /// The module's ports, in the order of their calls.
@@ -81,7 +82,7 @@ impl VastFile {
 
     /// The name.
     pub fn logic_ref_name(&self, logic_ref: LogicRef) -> String {
-        self.asked("?LogicRefName", self.own(logic_ref.0))
+        self.asked(Call::LogicRefName, self.own(logic_ref.0))
     }
 
     /// The width of a vector, or of an array's element, as an expression.
@@ -99,8 +100,8 @@ impl VastFile {
                         Err(_) => LiteralFormat::UnsignedDecimal,
                     };
                     let text = format!("bits[64]:{bits}");
-                    let made = state.step(true, "MakeLiteral", |lines| {
-                        lines.text(&text).word(format.word())
+                    let made = state.step(true, Call::MakeLiteral, |calls| {
+                        calls.text(&text).count(format.place())
                     });
                     let step = made.unwrap_or_else(|fault| give_up(fault, ""));
                     state.known.keep_width(data_type, Width::Expression(step));
@@ -111,7 +112,7 @@ impl VastFile {
 
     /// Whether the type is signed.
     pub fn type_is_signed(&self, data_type: VastDataType) -> bool {
-        self.asked("?TypeIsSigned", self.own(data_type.0)) == "true"
+        self.asked(Call::TypeIsSigned, self.own(data_type.0)) == "true"
     }
 
     /// The width of a scalar or a vector, or of an array's element, in bits.
@@ -119,7 +120,7 @@ impl VastFile {
     /// # Errors
     /// Where it is no number, or the type has none.
     pub fn type_width_as_int64(&self, data_type: VastDataType) -> Result<i64, VastError> {
-        self.width("?TypeWidthAsInt64", self.own(data_type.0))
+        self.width(Call::TypeWidthAsInt64, self.own(data_type.0))
     }
 
     /// The bits of a value of the type, in all.
@@ -127,7 +128,7 @@ impl VastFile {
     /// # Errors
     /// Where their number is not known, or above `i64::MAX`.
     pub fn type_flat_bit_count_as_int64(&self, data_type: VastDataType) -> Result<i64, VastError> {
-        self.width("?TypeFlatBitCountAsInt64", self.own(data_type.0))
+        self.width(Call::TypeFlatBitCountAsInt64, self.own(data_type.0))
     }
 
     fn ports_that(
@@ -145,13 +146,13 @@ impl VastFile {
             .collect()
     }
 
-    fn asked(&self, question: &str, step: usize) -> String {
-        let answer = self.locked().ask(question, |lines| lines.step(step));
+    fn asked(&self, question: Call, step: usize) -> String {
+        let answer = self.locked().ask(question, |calls| calls.step(step));
         answer.unwrap_or_else(|fault| give_up(fault, ""))
     }
 
-    fn width(&self, question: &str, step: usize) -> Result<i64, VastError> {
-        match self.locked().ask(question, |lines| lines.step(step)) {
+    fn width(&self, question: Call, step: usize) -> Result<i64, VastError> {
+        match self.locked().ask(question, |calls| calls.step(step)) {
             Ok(answer) => Ok(number_of(&answer)),
             Err(fault) => Err(refusal(fault, "")),
         }

@@ -28,22 +28,6 @@ pub enum DataKind {
     Genvar,
 }
 
-impl DataKind {
-    /// The kind's word in a list of calls.
-    pub(crate) fn word(self) -> &'static str {
-        match self {
-            DataKind::Reg => "Reg",
-            DataKind::Wire => "Wire",
-            DataKind::Logic => "Logic",
-            DataKind::Integer => "Integer",
-            DataKind::Int => "Int",
-            DataKind::User => "User",
-            DataKind::UntypedEnum => "UntypedEnum",
-            DataKind::Genvar => "Genvar",
-        }
-    }
-}
-
 /// The three forms of a procedural block.
 #[derive(Clone, Copy, Debug, PartialEq, Eq, Hash)]
 pub enum AlwaysKind {
@@ -69,19 +53,4 @@ pub enum LiteralFormat {
     UnsizedDecimal,
     /// Without width, in hexadecimal digits, at most `u32::MAX`: `'hff`.
     UnsizedHex,
-}
-
-impl LiteralFormat {
-    /// The format's word in a list of calls.
-    pub(crate) fn word(self) -> &'static str {
-        match self {
-            LiteralFormat::Binary => "Binary",
-            LiteralFormat::Hex => "Hex",
-            LiteralFormat::SignedDecimal => "SignedDecimal",
-            LiteralFormat::UnsignedDecimal => "UnsignedDecimal",
-            LiteralFormat::UnsizedBinary => "UnsizedBinary",
-            LiteralFormat::UnsizedDecimal => "UnsizedDecimal",
-            LiteralFormat::UnsizedHex => "UnsizedHex",
-        }
-    }
 }

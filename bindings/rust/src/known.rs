@@ -1,6 +1,7 @@
-//! What this crate keeps of a file beside the library: handles of ports and widths as expressions, which no line answers;
+//! What this crate keeps of a file beside the library: handles of ports and widths as expressions, which no call answers;
 //! what calls return that return the same each time; and what tells that a call won't be refused, so that it may wait.
 
+use crate::calls::Call;
 use crate::kinds::ModulePortDirection;
 use crate::mixer::Mixing;
 use std::collections::{HashMap, HashSet};
@@ -29,7 +30,7 @@ pub(crate) enum Width {
 #[derive(PartialEq, Eq)]
 struct Asked {
     of: usize,
-    call: &'static str,
+    call: Call,
 }
 
 impl Hash for Asked {
@@ -63,11 +64,11 @@ impl Known {
         matches!(self.widths.get(&data_type), Some(Width::Element(_)))
     }
 
-    pub(crate) fn answer(&self, call: &'static str, of: usize) -> Option<usize> {
+    pub(crate) fn answer(&self, call: Call, of: usize) -> Option<usize> {
         self.answers.get(&Asked { of, call }).copied()
     }
 
-    pub(crate) fn keep_answer(&mut self, call: &'static str, of: usize, answer: usize) {
+    pub(crate) fn keep_answer(&mut self, call: Call, of: usize, answer: usize) {
         self.answers.insert(Asked { of, call }, answer);
     }
 

@@ -2,9 +2,8 @@
 //! that is proved.
 //!
 //! A [`VastFile`] is one file in the making. Its calls answer small copyable handles, which are good for that file
-//! alone; [`VastFile::emit`] prints the file. Each call is handed to the library as one line of a list of calls, at once or,
-//! where nothing can refuse it, with later ones; what the library does with its lines is proved, what this crate does is
-//! tested.
+//! alone; [`VastFile::emit`] prints the file. Each call is handed to the library as one of a packed list, at once or, where
+//! nothing can refuse it, with later ones; what the library does with these calls is proved, what this crate does is tested.
 //!
 //! ```
 //! use xlsynth_vast::{VastFile, VastFileType};
@@ -23,6 +22,7 @@
 //! );
 //! ```
 
+mod calls;
 mod conditions;
 mod error;
 mod file;
@@ -31,12 +31,14 @@ pub mod helpers;
 mod inspect;
 mod kinds;
 mod known;
-mod line;
 mod literal;
 mod methods;
 mod mixer;
+mod packed;
+mod rows;
 mod session;
 mod state;
+mod unpacked;
 mod warning;
 
 pub use error::VastError;

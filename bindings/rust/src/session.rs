@@ -1,4 +1,4 @@
-//! A session of the library, which is given lines of a list of calls and answers texts.
+//! A session of the library, which is given packed calls and answers texts.
 //!
 //! The functions of the library are those of `bindings/c/vast.h`, which says what each does, who owns the memory, and
 //! that a session may go from thread to thread while no two calls on it overlap.
@@ -9,9 +9,9 @@ use std::ptr;
 
 extern "C" {
     fn vast_open(session: *mut *mut c_void, dialect: i32) -> i32;
-    fn vast_lines(
+    fn vast_packed(
         session: *mut *mut c_void,
-        lines: *const u8,
+        calls: *const u8,
         length: usize,
         taken: *mut usize,
     ) -> i32;
@@ -43,7 +43,7 @@ const FILE: i32 = 4;
 // Texts of so many bytes, as most answers are, are copied by one call.
 const SHORT: usize = 256;
 
-/// Why a line or a printing gave nothing.
+/// Why a call or a printing gave nothing.
 #[derive(Debug)]
 pub(crate) enum Fault {
     /// The library refuses it, in these words.
@@ -52,13 +52,13 @@ pub(crate) enum Fault {
     Condition(String),
     /// Memory was refused.
     Memory,
-    /// What this crate must never meet: a line that is not in the form.
+    /// What this crate must never meet: a call that is not in the form.
     Form(String),
 }
 
-/// The first line at fault.
+/// The first call at fault.
 pub(crate) struct Stop {
-    /// How many lines before it were made.
+    /// How many calls before it were made.
     pub(crate) taken: usize,
     pub(crate) fault: Fault,
 }
@@ -85,16 +85,16 @@ impl Session {
         Ok(session)
     }
 
-    /// Makes the calls of the lines up to the first at fault.
-    pub(crate) fn lines(&mut self, lines: &[u8]) -> Result<(), Stop> {
+    /// Makes the packed calls up to the first at fault.
+    pub(crate) fn make(&mut self, calls: &[u8]) -> Result<(), Stop> {
         let mut taken = 0;
-        // SAFETY: the lines are `length` bytes that live until the call returns, and `taken` can be written.
+        // SAFETY: the calls are `length` bytes that live until the call returns, and `taken` can be written.
         let status =
-            unsafe { vast_lines(&mut self.state, lines.as_ptr(), lines.len(), &mut taken) };
+            unsafe { vast_packed(&mut self.state, calls.as_ptr(), calls.len(), &mut taken) };
         self.checked(status).map_err(|fault| Stop { taken, fault })
     }
 
-    /// What the last line answered.
+    /// What the last call answered.
     pub(crate) fn answer(&mut self) -> String {
         self.text(ANSWER)
     }

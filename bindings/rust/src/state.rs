@@ -1,21 +1,23 @@
-//! The library's session of a file, the lines that wait to be sent to it, and what is kept beside it.
+//! The library's session of a file, the calls that wait to be sent to it, and what is kept beside it.
 //!
 //! A call that nothing can refuse waits: its conditions are met by what its arguments' types say and by what is known here,
 //! and the number of its answer is known, since answers are counted. What may be refused, asks or prints is sent at once,
 //! after those that wait, so that each refusal comes from the call that is refused.
 
+use crate::calls::Call;
 use crate::kinds::VastFileType;
 use crate::known::Known;
-use crate::line::Lines;
+use crate::packed::Calls;
 use crate::session::{warned, Fault, Session, Stop};
+use crate::unpacked::lines_of;
 
 pub(crate) struct State {
     session: Session,
     /// How many steps are made or wait, which is the number of the next.
     steps: usize,
-    /// The lines that are not sent yet.
-    lines: Lines,
-    /// The lines that were made, of a file with a lint.
+    /// The calls that are not sent yet.
+    calls: Calls,
+    /// The calls that were made, of a file with a lint.
     made: Option<Vec<u8>>,
     pub(crate) known: Known,
 }
@@ -26,33 +28,33 @@ impl State {
         Ok(State {
             session: Session::open(dialect)?,
             steps: 0,
-            lines: Lines::default(),
+            calls: Calls::default(),
             made: None,
             known: Known::default(),
         })
     }
 
-    /// Keeps the lines that are made from now on, for the lint.
-    pub(crate) fn keep_lines(&mut self) {
+    /// Keeps the calls that are made from now on, for the lint.
+    pub(crate) fn keep_calls(&mut self) {
         self.made = Some(Vec::new());
     }
 
-    /// The number of the step that the line makes which `write` writes after the call's name. It waits where nothing can
-    /// refuse it, which `is_certain` tells; else it is made at once.
+    /// The number of the step that the call makes whose arguments `write` writes. It waits where nothing can refuse it, which
+    /// `is_certain` tells; else it is made at once.
     ///
     /// # Panics
-    /// Where memory is refused to a line that waited.
+    /// Where memory is refused to a call that waited.
     #[inline]
     pub(crate) fn step(
         &mut self,
         is_certain: bool,
-        call: &str,
-        write: impl FnOnce(&mut Lines) -> &mut Lines,
+        call: Call,
+        write: impl FnOnce(&mut Calls) -> &mut Calls,
     ) -> Result<usize, Fault> {
-        if self.lines.are_many() {
+        if self.calls.are_many() {
             self.flush();
         }
-        write(self.lines.begin(call)).end();
+        write(self.calls.begin(call)).end();
         if !is_certain {
             self.send_last()?;
         }
@@ -61,16 +63,16 @@ impl State {
         Ok(step)
     }
 
-    /// Makes the calls that wait and that of the last line, whose fault it returns.
+    /// Makes the calls that wait and the last, whose fault it returns.
     ///
     /// # Panics
-    /// Where one that waited is at fault; the last line is then let go.
+    /// Where one that waited is at fault; the last is then let go.
     fn send_last(&mut self) -> Result<(), Fault> {
         let Err(fault) = self.send() else {
             return Ok(());
         };
-        let is_its_own = self.lines.is_last_first();
-        self.lines.forget_last();
+        let is_its_own = self.calls.is_last_first();
+        self.calls.forget_last();
         if is_its_own {
             return Err(fault);
         }
@@ -82,7 +84,7 @@ impl State {
     /// # Panics
     /// Where memory is refused to one; it and those after it wait on.
     pub(crate) fn flush(&mut self) {
-        if self.lines.is_empty() {
+        if self.calls.is_empty() {
             return;
         }
         if let Err(fault) = self.send() {
@@ -90,33 +92,33 @@ impl State {
         }
     }
 
-    /// Sends the lines; those that are made wait no more.
+    /// Sends the calls; those that are made wait no more.
     fn send(&mut self) -> Result<(), Fault> {
-        let (made, sent) = match self.session.lines(self.lines.as_bytes()) {
-            Ok(()) => (self.lines.as_bytes(), Ok(())),
-            Err(Stop { taken, fault }) => (self.lines.first(taken), Err(fault)),
+        let (made, sent) = match self.session.make(self.calls.as_bytes()) {
+            Ok(()) => (self.calls.as_bytes(), Ok(())),
+            Err(Stop { taken, fault }) => (self.calls.first(taken), Err(fault)),
         };
         if let Some(kept) = &mut self.made {
             kept.extend_from_slice(made);
         }
         let length = made.len();
-        self.lines.forget_front(length);
+        self.calls.forget_front(length);
         sent
     }
 
     /// What the question answers, over the calls so far.
     ///
     /// # Panics
-    /// Where memory is refused to a line that waited.
+    /// Where memory is refused to a call that waited.
     pub(crate) fn ask(
         &mut self,
-        question: &str,
-        write: impl FnOnce(&mut Lines) -> &mut Lines,
+        question: Call,
+        write: impl FnOnce(&mut Calls) -> &mut Calls,
     ) -> Result<String, Fault> {
         self.flush();
-        write(self.lines.begin(question)).end();
-        let asked = self.session.lines(self.lines.as_bytes());
-        self.lines.clear();
+        write(self.calls.begin(question)).end();
+        let asked = self.session.make(self.calls.as_bytes());
+        self.calls.clear();
         match asked {
             Ok(()) => Ok(self.session.answer()),
             Err(stop) => Err(stop.fault),
@@ -124,15 +126,15 @@ impl State {
     }
 
     /// Whether the question of the handle is answered with `true`.
-    pub(crate) fn holds(&mut self, question: &str, step: usize) -> bool {
-        let answer = self.ask(question, |lines| lines.step(step));
+    pub(crate) fn holds(&mut self, question: Call, step: usize) -> bool {
+        let answer = self.ask(question, |calls| calls.step(step));
         matches!(answer.as_deref(), Ok("true"))
     }
 
     /// The file's text.
     ///
     /// # Panics
-    /// Where memory is refused to a line that waited.
+    /// Where memory is refused to a call that waited.
     pub(crate) fn print(&mut self) -> Result<String, Fault> {
         self.flush();
         self.session.print()
@@ -141,11 +143,11 @@ impl State {
     /// What the calls so far print that tools refuse, a line for each form; `None` of a file without a lint.
     ///
     /// # Panics
-    /// Where memory is refused to a line that waited.
+    /// Where memory is refused to a call that waited.
     pub(crate) fn warned(&mut self, dialect: VastFileType) -> Option<Result<String, Fault>> {
         self.flush();
         let made = self.made.as_ref()?;
-        Some(warned(dialect, made).ok_or(Fault::Memory))
+        Some(warned(dialect, lines_of(made).as_bytes()).ok_or(Fault::Memory))
     }
 }
 
@@ -157,6 +159,6 @@ pub(crate) fn give_up(fault: Fault, condition: &str) -> ! {
         Fault::Condition(words) => panic!("{condition}: {words}"),
         Fault::Refused(words) => panic!("{words}"),
         Fault::Memory => panic!("out of memory"),
-        Fault::Form(words) => panic!("a line of this crate's is not in the form: {words}"),
+        Fault::Form(words) => panic!("a call of this crate's is not in the form: {words}"),
     }
 }

@@ -2,6 +2,7 @@
 //!
 //! Written by tools/bindings_from_calls from the table of calls; not to be edited.
 
+use crate::calls::Call;
 use crate::file::VastFile;
 use crate::handles::{
     BlankLine, Comment, ContinuousAssignment, Def, Expr, InlineVerilogStatement, Instantiation,
@@ -13,24 +14,26 @@ impl VastFile {
     /// A declaration's kind, type and name, which parameters can be made with.
     pub fn make_def(&mut self, name: &str, kind: DataKind, data_type: &VastDataType) -> Def {
         let data_type_step = self.own(data_type.0);
-        Def(self.later("MakeDef", |lines| {
-            lines.text(name).word(kind.word()).step(data_type_step)
+        Def(self.later(Call::MakeDef, |calls| {
+            calls.text(name).count(kind.place()).step(data_type_step)
         }))
     }
 
     /// A blank line.
     pub fn make_blank_line(&mut self) -> BlankLine {
-        BlankLine(self.later("MakeBlankLine", |lines| lines))
+        BlankLine(self.later(Call::MakeBlankLine, |calls| calls))
     }
 
     /// A comment; each line of the text becomes a line `// ..` (IEEE 1800-2017, 5.4).
     pub fn make_comment(&mut self, text: &str) -> Comment {
-        Comment(self.later("MakeComment", |lines| lines.text(text)))
+        Comment(self.later(Call::MakeComment, |calls| calls.text(text)))
     }
 
     /// A text that is written as it is, with the depth of the place before each of its lines.
     pub fn make_inline_verilog_statement(&mut self, text: &str) -> InlineVerilogStatement {
-        InlineVerilogStatement(self.later("MakeInlineVerilogStatement", |lines| lines.text(text)))
+        InlineVerilogStatement(
+            self.later(Call::MakeInlineVerilogStatement, |calls| calls.text(text)),
+        )
     }
 
     /// The use of a macro as a member, with a semicolon or without (IEEE 1800-2017, 22.5.1).
@@ -40,8 +43,8 @@ impl VastFile {
         semicolon: bool,
     ) -> MacroStatement {
         let macro_ref_step = self.own(macro_ref.0);
-        MacroStatement(self.later("MakeMacroStatement", |lines| {
-            lines.step(macro_ref_step).truth(semicolon)
+        MacroStatement(self.later(Call::MakeMacroStatement, |calls| {
+            calls.step(macro_ref_step).truth(semicolon)
         }))
     }
 
@@ -49,8 +52,8 @@ impl VastFile {
     pub fn make_continuous_assignment(&mut self, lhs: &Expr, rhs: &Expr) -> ContinuousAssignment {
         let lhs_step = self.own(lhs.0);
         let rhs_step = self.own(rhs.0);
-        ContinuousAssignment(self.later("MakeContinuousAssignment", |lines| {
-            lines.step(lhs_step).step(rhs_step)
+        ContinuousAssignment(self.later(Call::MakeContinuousAssignment, |calls| {
+            calls.step(lhs_step).step(rhs_step)
         }))
     }
 
@@ -58,8 +61,8 @@ impl VastFile {
     pub fn make_nonblocking_assignment(&mut self, lhs: &Expr, rhs: &Expr) -> VastStatement {
         let lhs_step = self.own(lhs.0);
         let rhs_step = self.own(rhs.0);
-        VastStatement(self.later("MakeNonblockingAssignment", |lines| {
-            lines.step(lhs_step).step(rhs_step)
+        VastStatement(self.later(Call::MakeNonblockingAssignment, |calls| {
+            calls.step(lhs_step).step(rhs_step)
         }))
     }
 
@@ -67,8 +70,8 @@ impl VastFile {
     pub fn make_blocking_assignment(&mut self, lhs: &Expr, rhs: &Expr) -> VastStatement {
         let lhs_step = self.own(lhs.0);
         let rhs_step = self.own(rhs.0);
-        VastStatement(self.later("MakeBlockingAssignment", |lines| {
-            lines.step(lhs_step).step(rhs_step)
+        VastStatement(self.later(Call::MakeBlockingAssignment, |calls| {
+            calls.step(lhs_step).step(rhs_step)
         }))
     }
 
@@ -99,8 +102,8 @@ impl VastFile {
         );
         let parameter_expressions_steps = self.own_all(parameter_expressions);
         let connection_expressions_steps = self.own_any(connection_expressions);
-        Instantiation(self.later("MakeInstantiation", |lines| {
-            lines
+        Instantiation(self.later(Call::MakeInstantiation, |calls| {
+            calls
                 .text(module_name)
                 .text(instance_name)
                 .texts(parameter_names)
@@ -114,8 +117,8 @@ impl VastFile {
     pub fn add_member_instantiation(&mut self, owner: VastModule, instantiation: Instantiation) {
         let owner_step = self.own(owner.0);
         let instantiation_step = self.own(instantiation.0);
-        self.later("AddMemberInstantiation", |lines| {
-            lines.step(owner_step).step(instantiation_step)
+        self.later(Call::AddMemberInstantiation, |calls| {
+            calls.step(owner_step).step(instantiation_step)
         });
     }
 
@@ -127,8 +130,8 @@ impl VastFile {
     ) {
         let owner_step = self.own(owner.0);
         let assignment_step = self.own(assignment.0);
-        self.later("AddMemberContinuousAssignment", |lines| {
-            lines.step(owner_step).step(assignment_step)
+        self.later(Call::AddMemberContinuousAssignment, |calls| {
+            calls.step(owner_step).step(assignment_step)
         });
     }
 
@@ -136,8 +139,8 @@ impl VastFile {
     pub fn add_member_blank_line(&mut self, owner: VastModule, blank: BlankLine) {
         let owner_step = self.own(owner.0);
         let blank_step = self.own(blank.0);
-        self.later("AddMemberBlankLine", |lines| {
-            lines.step(owner_step).step(blank_step)
+        self.later(Call::AddMemberBlankLine, |calls| {
+            calls.step(owner_step).step(blank_step)
         });
     }
 
@@ -145,8 +148,8 @@ impl VastFile {
     pub fn add_member_comment(&mut self, owner: VastModule, comment: Comment) {
         let owner_step = self.own(owner.0);
         let comment_step = self.own(comment.0);
-        self.later("AddMemberComment", |lines| {
-            lines.step(owner_step).step(comment_step)
+        self.later(Call::AddMemberComment, |calls| {
+            calls.step(owner_step).step(comment_step)
         });
     }
 
@@ -158,8 +161,8 @@ impl VastFile {
     ) {
         let owner_step = self.own(owner.0);
         let statement_step = self.own(statement.0);
-        self.later("AddMemberInlineStatement", |lines| {
-            lines.step(owner_step).step(statement_step)
+        self.later(Call::AddMemberInlineStatement, |calls| {
+            calls.step(owner_step).step(statement_step)
         });
     }
 
@@ -167,8 +170,8 @@ impl VastFile {
     pub fn add_member_macro_statement(&mut self, owner: VastModule, statement: MacroStatement) {
         let owner_step = self.own(owner.0);
         let statement_step = self.own(statement.0);
-        self.later("AddMemberMacroStatement", |lines| {
-            lines.step(owner_step).step(statement_step)
+        self.later(Call::AddMemberMacroStatement, |calls| {
+            calls.step(owner_step).step(statement_step)
         });
     }
 }

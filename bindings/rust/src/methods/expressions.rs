@@ -2,6 +2,7 @@
 //!
 //! Written by tools/bindings_from_calls from the table of calls; not to be edited.
 
+use crate::calls::Call;
 use crate::conditions::cast_condition;
 use crate::error::VastError;
 use crate::file::VastFile;
@@ -17,9 +18,11 @@ impl VastFile {
     /// Where the library refuses the call, in its words.
     pub fn make_literal(&mut self, text: &str, format: &LiteralFormat) -> Result<Expr, VastError> {
         let is_certain = is_small_literal(text);
-        Ok(Expr(self.allowed(is_certain, "MakeLiteral", |lines| {
-            lines.text(text).word(format.word())
-        })?))
+        Ok(Expr(self.allowed(
+            is_certain,
+            Call::MakeLiteral,
+            |calls| calls.text(text).count(format.place()),
+        )?))
     }
 
     /// The binary pattern of these digits `0`, `1` and `?`, the most significant first, as wide as they are
@@ -31,45 +34,47 @@ impl VastFile {
         let is_certain = is_pattern(bits_msb);
         Ok(Expr(self.allowed(
             is_certain,
-            "MakeBinaryPattern",
-            |lines| lines.text(bits_msb),
+            Call::MakeBinaryPattern,
+            |calls| calls.text(bits_msb),
         )?))
     }
 
     /// The number in decimal, without a width; a negative one has its minus.
     pub fn make_unsized_decimal_literal(&mut self, value: i32) -> Expr {
-        Expr(self.later("MakeUnsizedDecimalLiteral", |lines| lines.number(value)))
+        Expr(self.later(Call::MakeUnsizedDecimalLiteral, |calls| calls.number(value)))
     }
 
     /// The string of this content: it stands between quotes, with escapes where they are needed.
     pub fn make_string_literal(&mut self, value: &str) -> Expr {
-        Expr(self.later("MakeStringLiteral", |lines| lines.text(value)))
+        Expr(self.later(Call::MakeStringLiteral, |calls| calls.text(value)))
     }
 
     /// All ones, `'1`.
     pub fn make_unsized_one_literal(&mut self) -> Expr {
-        Expr(self.later("MakeUnsizedOneLiteral", |lines| lines))
+        Expr(self.later(Call::MakeUnsizedOneLiteral, |calls| calls))
     }
 
     /// All zeros, `'0`.
     pub fn make_unsized_zero_literal(&mut self) -> Expr {
-        Expr(self.later("MakeUnsizedZeroLiteral", |lines| lines))
+        Expr(self.later(Call::MakeUnsizedZeroLiteral, |calls| calls))
     }
 
     /// All bits unknown, `'X`.
     pub fn make_unsized_x_literal(&mut self) -> Expr {
-        Expr(self.later("MakeUnsizedXLiteral", |lines| lines))
+        Expr(self.later(Call::MakeUnsizedXLiteral, |calls| calls))
     }
 
     /// The bare name, which prints as it is and has no type: what inline text, an include or another file
     /// declares can be named by it. It enters no name, so a later declaration may have it.
     pub fn make_name(&mut self, name: &str) -> Expr {
-        Expr(self.later("MakeName", |lines| lines.text(name)))
+        Expr(self.later(Call::MakeName, |calls| calls.text(name)))
     }
 
     /// The same node, as an expression that may be selected from.
     pub fn make_indexable_expression(&self, expression: &Expr) -> IndexableExpr {
-        let step = self.answered("MakeIndexableExpression", expression.0).step;
+        let step = self
+            .answered(Call::MakeIndexableExpression, expression.0)
+            .step;
         let expression = expression.0;
         IndexableExpr { expression, step }
     }
@@ -83,9 +88,9 @@ impl VastFile {
         let is_certain = hi >= 0 && lo >= 0;
         Slice(self.made(
             is_certain,
-            "MakeSlice",
+            Call::MakeSlice,
             "bit and part-select indices must be nonnegative",
-            |lines| lines.step(subject_step).number(hi).number(lo),
+            |calls| calls.step(subject_step).number(hi).number(lo),
         ))
     }
 
@@ -98,9 +103,9 @@ impl VastFile {
         let is_certain = index >= 0;
         Index(self.made(
             is_certain,
-            "MakeIndex",
+            Call::MakeIndex,
             "bit and part-select indices must be nonnegative",
-            |lines| lines.step(subject_step).number(index),
+            |calls| calls.step(subject_step).number(index),
         ))
     }
 
@@ -109,8 +114,8 @@ impl VastFile {
         let subject_step = self.own_indexable(subject);
         let hi_step = self.own(hi.0);
         let lo_step = self.own(lo.0);
-        Slice(self.later("MakeSliceExpr", |lines| {
-            lines.step(subject_step).step(hi_step).step(lo_step)
+        Slice(self.later(Call::MakeSliceExpr, |calls| {
+            calls.step(subject_step).step(hi_step).step(lo_step)
         }))
     }
 
@@ -118,8 +123,8 @@ impl VastFile {
     pub fn make_index_expr(&mut self, subject: &IndexableExpr, index: &Expr) -> Index {
         let subject_step = self.own_indexable(subject);
         let index_step = self.own(index.0);
-        Index(self.later("MakeIndexExpr", |lines| {
-            lines.step(subject_step).step(index_step)
+        Index(self.later(Call::MakeIndexExpr, |calls| {
+            calls.step(subject_step).step(index_step)
         }))
     }
 
@@ -138,9 +143,9 @@ impl VastFile {
         let is_certain = width >= 1;
         Expr(self.made(
             is_certain,
-            "MakeIndexedPartSelect",
+            Call::MakeIndexedPartSelect,
             "indexed part-select width must be positive",
-            |lines| lines.step(subject_step).step(start_step).number(width),
+            |calls| calls.step(subject_step).step(start_step).number(width),
         ))
     }
 
@@ -153,40 +158,40 @@ impl VastFile {
         let is_certain = !name.is_empty();
         Expr(self.made(
             is_certain,
-            "MakeFunctionCall",
+            Call::MakeFunctionCall,
             "function call name must not be empty",
-            |lines| lines.text(name).steps(&arguments_steps),
+            |calls| calls.text(name).steps(&arguments_steps),
         ))
     }
 
     /// The concatenation `{a, b}`; there may be no parts.
     pub fn make_concat(&mut self, expressions: &[&Expr]) -> Expr {
         let expressions_steps = self.own_all(expressions);
-        Expr(self.later("MakeConcat", |lines| lines.steps(&expressions_steps)))
+        Expr(self.later(Call::MakeConcat, |calls| calls.steps(&expressions_steps)))
     }
 
     /// The replicated concatenation `{n{a, b}}`.
     pub fn make_replicated_concat(&mut self, replication: &Expr, elements: &[&Expr]) -> Expr {
         let replication_step = self.own(replication.0);
         let elements_steps = self.own_all(elements);
-        Expr(self.later("MakeReplicatedConcat", |lines| {
-            lines.step(replication_step).steps(&elements_steps)
+        Expr(self.later(Call::MakeReplicatedConcat, |calls| {
+            calls.step(replication_step).steps(&elements_steps)
         }))
     }
 
     /// The replicated concatenation by a number, for which a literal is made too.
     pub fn make_replicated_concat_i64(&mut self, replication: i64, elements: &[&Expr]) -> Expr {
         let elements_steps = self.own_all(elements);
-        Expr(self.later("MakeReplicatedConcatI64", |lines| {
-            lines.number(replication).steps(&elements_steps)
+        Expr(self.later(Call::MakeReplicatedConcatI64, |calls| {
+            calls.number(replication).steps(&elements_steps)
         }))
     }
 
     /// The array assignment pattern `'{a, b}`.
     pub fn make_array_assignment_pattern(&mut self, elements: &[&Expr]) -> Expr {
         let elements_steps = self.own_all(elements);
-        Expr(self.later("MakeArrayAssignmentPattern", |lines| {
-            lines.steps(&elements_steps)
+        Expr(self.later(Call::MakeArrayAssignmentPattern, |calls| {
+            calls.steps(&elements_steps)
         }))
     }
 
@@ -195,8 +200,8 @@ impl VastFile {
         let condition_step = self.own(condition.0);
         let consequent_step = self.own(consequent.0);
         let alternate_step = self.own(alternate.0);
-        Expr(self.later("MakeTernary", |lines| {
-            lines
+        Expr(self.later(Call::MakeTernary, |calls| {
+            calls
                 .step(condition_step)
                 .step(consequent_step)
                 .step(alternate_step)
@@ -207,8 +212,8 @@ impl VastFile {
     pub fn make_width_cast(&mut self, width: &Expr, value: &Expr) -> Expr {
         let width_step = self.own(width.0);
         let value_step = self.own(value.0);
-        Expr(self.later("MakeWidthCast", |lines| {
-            lines.step(width_step).step(value_step)
+        Expr(self.later(Call::MakeWidthCast, |calls| {
+            calls.step(width_step).step(value_step)
         }))
     }
 
@@ -222,8 +227,8 @@ impl VastFile {
         let is_certain = !self.known().is_array(data_type_step);
         Expr(self.made_or(
             is_certain,
-            "MakeTypeCast",
-            |lines| lines.step(data_type_step).step(value_step),
+            Call::MakeTypeCast,
+            |calls| calls.step(data_type_step).step(value_step),
             |state| cast_condition(state, data_type_step),
         ))
     }
@@ -231,25 +236,25 @@ impl VastFile {
     /// The event of a rising edge, `posedge a`.
     pub fn make_pos_edge(&mut self, expression: &Expr) -> Expr {
         let expression_step = self.own(expression.0);
-        Expr(self.later("MakePosEdge", |lines| lines.step(expression_step)))
+        Expr(self.later(Call::MakePosEdge, |calls| calls.step(expression_step)))
     }
 
     /// The event of a falling edge, `negedge a`.
     pub fn make_neg_edge(&mut self, expression: &Expr) -> Expr {
         let expression_step = self.own(expression.0);
-        Expr(self.later("MakeNegEdge", |lines| lines.step(expression_step)))
+        Expr(self.later(Call::MakeNegEdge, |calls| calls.step(expression_step)))
     }
 
     /// The use of a macro without arguments, `` `M ``.
     pub fn make_macro_ref(&mut self, name: &str) -> MacroRef {
-        MacroRef(self.later("MakeMacroRef", |lines| lines.text(name)))
+        MacroRef(self.later(Call::MakeMacroRef, |calls| calls.text(name)))
     }
 
     /// The use of a macro with arguments, `` `M(a, b) ``; there may be none.
     pub fn make_macro_ref_with_args(&mut self, name: &str, arguments: &[&Expr]) -> MacroRef {
         let arguments_steps = self.own_all(arguments);
-        MacroRef(self.later("MakeMacroRefWithArgs", |lines| {
-            lines.text(name).steps(&arguments_steps)
+        MacroRef(self.later(Call::MakeMacroRefWithArgs, |calls| {
+            calls.text(name).steps(&arguments_steps)
         }))
     }
 }

@@ -2,13 +2,14 @@
 //!
 //! Written by tools/bindings_from_calls from the table of calls; not to be edited.
 
+use crate::calls::Call;
 use crate::error::VastError;
 use crate::file::VastFile;
 use crate::handles::{
     Comment, Conditional, Def, Expr, GenerateLoop, InlineVerilogStatement, Instantiation,
     LocalparamRef, LogicRef, MacroStatement, VastAlwaysBase, VastModule, VastStatement,
 };
-use crate::line::Lines;
+use crate::packed::Calls;
 
 impl VastFile {
     /// A generate loop without members, as the module's last member: its variable runs from `start` on while
@@ -25,13 +26,13 @@ impl VastFile {
         let owner_step = self.own(owner.0);
         let start_step = self.own(start.0);
         let end_step = self.own(end.0);
-        GenerateLoop(self.later("AddGenerateLoop", |lines| {
-            lines
+        GenerateLoop(self.later(Call::AddGenerateLoop, |calls| {
+            calls
                 .step(owner_step)
                 .text(name)
                 .step(start_step)
                 .step(end_step)
-                .option(label, Lines::text)
+                .option(label, Calls::text)
         }))
     }
 
@@ -48,19 +49,19 @@ impl VastFile {
         let parent_step = self.own(parent.0);
         let start_step = self.own(start.0);
         let end_step = self.own(end.0);
-        GenerateLoop(self.later("GenerateAddGenerateLoop", |lines| {
-            lines
+        GenerateLoop(self.later(Call::GenerateAddGenerateLoop, |calls| {
+            calls
                 .step(parent_step)
                 .text(name)
                 .step(start_step)
                 .step(end_step)
-                .option(label, Lines::text)
+                .option(label, Calls::text)
         }))
     }
 
     /// The loop's variable as an expression.
     pub fn generate_genvar(&self, generate: GenerateLoop) -> LogicRef {
-        LogicRef(self.answered("GenerateGenvar", generate.0))
+        LogicRef(self.answered(Call::GenerateGenvar, generate.0))
     }
 
     /// An `always_comb` with an empty block, as the loop's last member.
@@ -73,7 +74,9 @@ impl VastFile {
     ) -> Result<VastAlwaysBase, VastError> {
         let generate_step = self.own(generate.0);
         Ok(VastAlwaysBase(
-            self.later("GenerateAddAlwaysComb", |lines| lines.step(generate_step)),
+            self.later(Call::GenerateAddAlwaysComb, |calls| {
+                calls.step(generate_step)
+            }),
         ))
     }
 
@@ -90,8 +93,8 @@ impl VastFile {
         let sensitivity_list_steps = self.own_all(sensitivity_list);
         Ok(VastAlwaysBase(self.allowed(
             false,
-            "GenerateAddAlwaysFf",
-            |lines| lines.step(generate_step).steps(&sensitivity_list_steps),
+            Call::GenerateAddAlwaysFf,
+            |calls| calls.step(generate_step).steps(&sensitivity_list_steps),
         )?))
     }
 
@@ -108,8 +111,8 @@ impl VastFile {
         let sensitivity_list_steps = self.own_all(sensitivity_list);
         Ok(VastAlwaysBase(self.allowed(
             false,
-            "GenerateAddAlwaysAt",
-            |lines| lines.step(generate_step).steps(&sensitivity_list_steps),
+            Call::GenerateAddAlwaysAt,
+            |calls| calls.step(generate_step).steps(&sensitivity_list_steps),
         )?))
     }
 
@@ -122,8 +125,8 @@ impl VastFile {
     ) -> LocalparamRef {
         let generate_step = self.own(generate.0);
         let rhs_step = self.own(rhs.0);
-        LocalparamRef(self.later("GenerateAddLocalparam", |lines| {
-            lines.step(generate_step).text(name).step(rhs_step)
+        LocalparamRef(self.later(Call::GenerateAddLocalparam, |calls| {
+            calls.step(generate_step).text(name).step(rhs_step)
         }))
     }
 
@@ -138,8 +141,8 @@ impl VastFile {
         let generate_step = self.own(generate.0);
         let definition_step = self.own(definition.0);
         let rhs_step = self.own(rhs.0);
-        LocalparamRef(self.later("GenerateAddTypedLocalparam", |lines| {
-            lines
+        LocalparamRef(self.later(Call::GenerateAddTypedLocalparam, |calls| {
+            calls
                 .step(generate_step)
                 .step(definition_step)
                 .step(rhs_step)
@@ -156,8 +159,8 @@ impl VastFile {
         let generate_step = self.own(generate.0);
         let lhs_step = self.own(lhs.0);
         let rhs_step = self.own(rhs.0);
-        VastStatement(self.later("GenerateAddContinuousAssignment", |lines| {
-            lines.step(generate_step).step(lhs_step).step(rhs_step)
+        VastStatement(self.later(Call::GenerateAddContinuousAssignment, |calls| {
+            calls.step(generate_step).step(lhs_step).step(rhs_step)
         }))
     }
 
@@ -169,23 +172,25 @@ impl VastFile {
     ) -> Conditional {
         let generate_step = self.own(generate.0);
         let condition_step = self.own(condition.0);
-        Conditional(self.later("GenerateAddConditional", |lines| {
-            lines.step(generate_step).step(condition_step)
+        Conditional(self.later(Call::GenerateAddConditional, |calls| {
+            calls.step(generate_step).step(condition_step)
         }))
     }
 
     /// A blank line, as the loop's last member.
     pub fn generate_add_blank_line(&mut self, generate: GenerateLoop) {
         let generate_step = self.own(generate.0);
-        self.later("GenerateAddBlankLine", |lines| lines.step(generate_step));
+        self.later(Call::GenerateAddBlankLine, |calls| {
+            calls.step(generate_step)
+        });
     }
 
     /// The comment, as the loop's last member.
     pub fn generate_add_comment(&mut self, generate: GenerateLoop, comment: &Comment) {
         let generate_step = self.own(generate.0);
         let comment_step = self.own(comment.0);
-        self.later("GenerateAddComment", |lines| {
-            lines.step(generate_step).step(comment_step)
+        self.later(Call::GenerateAddComment, |calls| {
+            calls.step(generate_step).step(comment_step)
         });
     }
 
@@ -197,8 +202,8 @@ impl VastFile {
     ) {
         let generate_step = self.own(generate.0);
         let instantiation_step = self.own(instantiation.0);
-        self.later("GenerateAddInstantiation", |lines| {
-            lines.step(generate_step).step(instantiation_step)
+        self.later(Call::GenerateAddInstantiation, |calls| {
+            calls.step(generate_step).step(instantiation_step)
         });
     }
 
@@ -210,8 +215,8 @@ impl VastFile {
     ) {
         let generate_step = self.own(generate.0);
         let statement_step = self.own(statement.0);
-        self.later("GenerateAddInlineStatement", |lines| {
-            lines.step(generate_step).step(statement_step)
+        self.later(Call::GenerateAddInlineStatement, |calls| {
+            calls.step(generate_step).step(statement_step)
         });
     }
 
@@ -223,8 +228,8 @@ impl VastFile {
     ) {
         let generate_step = self.own(generate.0);
         let statement_step = self.own(statement.0);
-        self.later("GenerateAddMacroStatement", |lines| {
-            lines.step(generate_step).step(statement_step)
+        self.later(Call::GenerateAddMacroStatement, |calls| {
+            calls.step(generate_step).step(statement_step)
         });
     }
 }

@@ -2,6 +2,7 @@
 //!
 //! Written by tools/bindings_from_calls from the table of calls; not to be edited.
 
+use crate::calls::Call;
 use crate::error::VastError;
 use crate::file::VastFile;
 use crate::handles::{
@@ -12,23 +13,23 @@ use crate::kinds::ModulePortDirection;
 impl VastFile {
     /// The inclusion of the file at this path, as the last item of the file.
     pub fn add_include(&mut self, include: &str) {
-        self.later("AddInclude", |lines| lines.text(include));
+        self.later(Call::AddInclude, |calls| calls.text(include));
     }
 
     /// A blank line, as the last item of the file.
     pub fn add_blank_line(&mut self, blank_line: BlankLine) {
         let blank_line_step = self.own(blank_line.0);
-        self.later("AddBlankLine", |lines| lines.step(blank_line_step));
+        self.later(Call::AddBlankLine, |calls| calls.step(blank_line_step));
     }
 
     /// A comment, as the last item of the file; each line of the text becomes a line of its own.
     pub fn add_comment_text(&mut self, text: &str) {
-        self.later("AddCommentText", |lines| lines.text(text));
+        self.later(Call::AddCommentText, |calls| calls.text(text));
     }
 
     /// An empty module, as the last item of the file.
     pub fn add_module(&mut self, name: &str) -> VastModule {
-        VastModule(self.later("AddModule", |lines| lines.text(name)))
+        VastModule(self.later(Call::AddModule, |calls| calls.text(name)))
     }
 
     /// An input, as the module's last port; returns its name as an expression.
@@ -45,9 +46,9 @@ impl VastFile {
         let data_type_step = self.own(data_type.0);
         let made = self.made(
             false,
-            "AddInput",
+            Call::AddInput,
             "module ports must have unique names",
-            |lines| lines.step(owner_step).text(name).step(data_type_step),
+            |calls| calls.step(owner_step).text(name).step(data_type_step),
         );
         self.keep_port(owner_step, ModulePortDirection::Input, data_type_step, made);
         LogicRef(made)
@@ -67,9 +68,9 @@ impl VastFile {
         let data_type_step = self.own(data_type.0);
         let made = self.made(
             false,
-            "AddOutput",
+            Call::AddOutput,
             "module ports must have unique names",
-            |lines| lines.step(owner_step).text(name).step(data_type_step),
+            |calls| calls.step(owner_step).text(name).step(data_type_step),
         );
         self.keep_port(
             owner_step,
@@ -94,9 +95,9 @@ impl VastFile {
         let data_type_step = self.own(data_type.0);
         let made = self.made(
             false,
-            "AddInout",
+            Call::AddInout,
             "module ports must have unique names",
-            |lines| lines.step(owner_step).text(name).step(data_type_step),
+            |calls| calls.step(owner_step).text(name).step(data_type_step),
         );
         self.keep_port(owner_step, ModulePortDirection::InOut, data_type_step, made);
         LogicRef(made)
@@ -117,9 +118,9 @@ impl VastFile {
         let data_type_step = self.own(data_type.0);
         let made = self.made(
             false,
-            "AddLogicInput",
+            Call::AddLogicInput,
             "module ports must have unique names",
-            |lines| lines.step(owner_step).text(name).step(data_type_step),
+            |calls| calls.step(owner_step).text(name).step(data_type_step),
         );
         self.keep_port(owner_step, ModulePortDirection::Input, data_type_step, made);
         LogicRef(made)
@@ -140,9 +141,9 @@ impl VastFile {
         let data_type_step = self.own(data_type.0);
         let made = self.made(
             false,
-            "AddLogicOutput",
+            Call::AddLogicOutput,
             "module ports must have unique names",
-            |lines| lines.step(owner_step).text(name).step(data_type_step),
+            |calls| calls.step(owner_step).text(name).step(data_type_step),
         );
         self.keep_port(
             owner_step,
@@ -168,9 +169,9 @@ impl VastFile {
         let data_type_step = self.own(data_type.0);
         LogicRef(self.made(
             false,
-            "AddWire",
+            Call::AddWire,
             "module wires must have unique names",
-            |lines| lines.step(owner_step).text(name).step(data_type_step),
+            |calls| calls.step(owner_step).text(name).step(data_type_step),
         ))
     }
 
@@ -186,8 +187,8 @@ impl VastFile {
     ) -> Result<LogicRef, VastError> {
         let owner_step = self.own(owner.0);
         let data_type_step = self.own(data_type.0);
-        Ok(LogicRef(self.allowed(false, "AddReg", |lines| {
-            lines.step(owner_step).text(name).step(data_type_step)
+        Ok(LogicRef(self.allowed(false, Call::AddReg, |calls| {
+            calls.step(owner_step).text(name).step(data_type_step)
         })?))
     }
 
@@ -203,8 +204,8 @@ impl VastFile {
     ) -> Result<LogicRef, VastError> {
         let owner_step = self.own(owner.0);
         let data_type_step = self.own(data_type.0);
-        Ok(LogicRef(self.allowed(false, "AddLogic", |lines| {
-            lines.step(owner_step).text(name).step(data_type_step)
+        Ok(LogicRef(self.allowed(false, Call::AddLogic, |calls| {
+            calls.step(owner_step).text(name).step(data_type_step)
         })?))
     }
 
@@ -212,8 +213,8 @@ impl VastFile {
     pub fn add_parameter_port(&mut self, owner: VastModule, name: &str, value: &Expr) -> LogicRef {
         let owner_step = self.own(owner.0);
         let value_step = self.own(value.0);
-        LogicRef(self.later("AddParameterPort", |lines| {
-            lines.step(owner_step).text(name).step(value_step)
+        LogicRef(self.later(Call::AddParameterPort, |calls| {
+            calls.step(owner_step).text(name).step(value_step)
         }))
     }
 
@@ -228,8 +229,8 @@ impl VastFile {
         let owner_step = self.own(owner.0);
         let data_type_step = self.own(data_type.0);
         let value_step = self.own(value.0);
-        LogicRef(self.later("AddTypedParameterPort", |lines| {
-            lines
+        LogicRef(self.later(Call::AddTypedParameterPort, |calls| {
+            calls
                 .step(owner_step)
                 .text(name)
                 .step(data_type_step)
@@ -241,8 +242,8 @@ impl VastFile {
     pub fn add_parameter(&mut self, owner: VastModule, name: &str, rhs: &Expr) -> ParameterRef {
         let owner_step = self.own(owner.0);
         let rhs_step = self.own(rhs.0);
-        ParameterRef(self.later("AddParameter", |lines| {
-            lines.step(owner_step).text(name).step(rhs_step)
+        ParameterRef(self.later(Call::AddParameter, |calls| {
+            calls.step(owner_step).text(name).step(rhs_step)
         }))
     }
 
@@ -256,8 +257,8 @@ impl VastFile {
         let owner_step = self.own(owner.0);
         let definition_step = self.own(definition.0);
         let rhs_step = self.own(rhs.0);
-        ParameterRef(self.later("AddParameterWithDef", |lines| {
-            lines.step(owner_step).step(definition_step).step(rhs_step)
+        ParameterRef(self.later(Call::AddParameterWithDef, |calls| {
+            calls.step(owner_step).step(definition_step).step(rhs_step)
         }))
     }
 
@@ -265,8 +266,8 @@ impl VastFile {
     pub fn add_localparam(&mut self, owner: VastModule, name: &str, rhs: &Expr) -> LocalparamRef {
         let owner_step = self.own(owner.0);
         let rhs_step = self.own(rhs.0);
-        LocalparamRef(self.later("AddLocalparam", |lines| {
-            lines.step(owner_step).text(name).step(rhs_step)
+        LocalparamRef(self.later(Call::AddLocalparam, |calls| {
+            calls.step(owner_step).text(name).step(rhs_step)
         }))
     }
 
@@ -279,8 +280,8 @@ impl VastFile {
     ) -> LocalparamRef {
         let owner_step = self.own(owner.0);
         let rhs_step = self.own(rhs.0);
-        LocalparamRef(self.later("AddIntLocalparam", |lines| {
-            lines.step(owner_step).text(name).step(rhs_step)
+        LocalparamRef(self.later(Call::AddIntLocalparam, |calls| {
+            calls.step(owner_step).text(name).step(rhs_step)
         }))
     }
 
@@ -295,8 +296,8 @@ impl VastFile {
         let owner_step = self.own(owner.0);
         let definition_step = self.own(definition.0);
         let rhs_step = self.own(rhs.0);
-        LocalparamRef(self.later("AddTypedLocalparam", |lines| {
-            lines.step(owner_step).step(definition_step).step(rhs_step)
+        LocalparamRef(self.later(Call::AddTypedLocalparam, |calls| {
+            calls.step(owner_step).step(definition_step).step(rhs_step)
         }))
     }
 
@@ -310,9 +311,9 @@ impl VastFile {
         let owner_step = self.own(owner.0);
         self.made(
             false,
-            "HoistModuleDeclarations",
+            Call::HoistModuleDeclarations,
             "the start lies behind the module's members",
-            |lines| lines.step(owner_step).number(start),
+            |calls| calls.step(owner_step).count(start),
         );
     }
 }

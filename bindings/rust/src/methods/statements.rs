@@ -2,6 +2,7 @@
 //!
 //! Written by tools/bindings_from_calls from the table of calls; not to be edited.
 
+use crate::calls::Call;
 use crate::error::VastError;
 use crate::file::VastFile;
 use crate::handles::{
@@ -25,8 +26,8 @@ impl VastFile {
         let result_type_step = self.own(result_type.0);
         Ok(VastFunction(self.allowed(
             false,
-            "AddFunction",
-            |lines| lines.step(owner_step).text(name).step(result_type_step),
+            Call::AddFunction,
+            |calls| calls.step(owner_step).text(name).step(result_type_step),
         )?))
     }
 
@@ -45,8 +46,8 @@ impl VastFile {
         let data_type_step = self.own(data_type.0);
         Ok(LogicRef(self.allowed(
             false,
-            "FunctionAddInput",
-            |lines| lines.step(function_step).text(name).step(data_type_step),
+            Call::FunctionAddInput,
+            |calls| calls.step(function_step).text(name).step(data_type_step),
         )?))
     }
 
@@ -65,8 +66,8 @@ impl VastFile {
         let data_type_step = self.own(data_type.0);
         Ok(LogicRef(self.allowed(
             false,
-            "FunctionAddLogicInput",
-            |lines| lines.step(function_step).text(name).step(data_type_step),
+            Call::FunctionAddLogicInput,
+            |calls| calls.step(function_step).text(name).step(data_type_step),
         )?))
     }
 
@@ -84,8 +85,8 @@ impl VastFile {
         let data_type_step = self.own(data_type.0);
         Ok(LogicRef(self.allowed(
             false,
-            "FunctionAddReg",
-            |lines| lines.step(function_step).text(name).step(data_type_step),
+            Call::FunctionAddReg,
+            |calls| calls.step(function_step).text(name).step(data_type_step),
         )?))
     }
 
@@ -103,19 +104,19 @@ impl VastFile {
         let data_type_step = self.own(data_type.0);
         Ok(LogicRef(self.allowed(
             false,
-            "FunctionAddLogic",
-            |lines| lines.step(function_step).text(name).step(data_type_step),
+            Call::FunctionAddLogic,
+            |calls| calls.step(function_step).text(name).step(data_type_step),
         )?))
     }
 
     /// The function's body.
     pub fn function_body(&self, function: VastFunction) -> VastStatementBlock {
-        VastStatementBlock(self.answered("FunctionBody", function.0))
+        VastStatementBlock(self.answered(Call::FunctionBody, function.0))
     }
 
     /// The name to which the body assigns the function's result, as an expression.
     pub fn function_result(&self, function: VastFunction) -> LogicRef {
-        LogicRef(self.answered("FunctionResult", function.0))
+        LogicRef(self.answered(Call::FunctionResult, function.0))
     }
 
     /// An `always_ff` with these events and an empty block, as the module's last member.
@@ -131,8 +132,8 @@ impl VastFile {
         let sensitivity_list_steps = self.own_all(sensitivity_list);
         Ok(VastAlwaysBase(self.allowed(
             false,
-            "AddAlwaysFf",
-            |lines| lines.step(owner_step).steps(&sensitivity_list_steps),
+            Call::AddAlwaysFf,
+            |calls| calls.step(owner_step).steps(&sensitivity_list_steps),
         )?))
     }
 
@@ -150,8 +151,8 @@ impl VastFile {
         let sensitivity_list_steps = self.own_all(sensitivity_list);
         Ok(VastAlwaysBase(self.allowed(
             false,
-            "AddAlwaysAt",
-            |lines| lines.step(owner_step).steps(&sensitivity_list_steps),
+            Call::AddAlwaysAt,
+            |calls| calls.step(owner_step).steps(&sensitivity_list_steps),
         )?))
     }
 
@@ -161,14 +162,14 @@ impl VastFile {
     /// Where the library refuses the call, in its words.
     pub fn add_always_comb(&mut self, owner: VastModule) -> Result<VastAlwaysBase, VastError> {
         let owner_step = self.own(owner.0);
-        Ok(VastAlwaysBase(
-            self.later("AddAlwaysComb", |lines| lines.step(owner_step)),
-        ))
+        Ok(VastAlwaysBase(self.later(Call::AddAlwaysComb, |calls| {
+            calls.step(owner_step)
+        })))
     }
 
     /// The block of the always block.
     pub fn statement_block(&self, always: VastAlwaysBase) -> VastStatementBlock {
-        VastStatementBlock(self.answered("StatementBlock", always.0))
+        VastStatementBlock(self.answered(Call::StatementBlock, always.0))
     }
 
     /// The assignment `lhs = rhs`, as the block's last statement.
@@ -181,8 +182,8 @@ impl VastFile {
         let block_step = self.own(block.0);
         let lhs_step = self.own(lhs.0);
         let rhs_step = self.own(rhs.0);
-        VastStatement(self.later("BlockAddBlockingAssignment", |lines| {
-            lines.step(block_step).step(lhs_step).step(rhs_step)
+        VastStatement(self.later(Call::BlockAddBlockingAssignment, |calls| {
+            calls.step(block_step).step(lhs_step).step(rhs_step)
         }))
     }
 
@@ -196,8 +197,8 @@ impl VastFile {
         let block_step = self.own(block.0);
         let lhs_step = self.own(lhs.0);
         let rhs_step = self.own(rhs.0);
-        VastStatement(self.later("BlockAddNonblockingAssignment", |lines| {
-            lines.step(block_step).step(lhs_step).step(rhs_step)
+        VastStatement(self.later(Call::BlockAddNonblockingAssignment, |calls| {
+            calls.step(block_step).step(lhs_step).step(rhs_step)
         }))
     }
 
@@ -211,8 +212,8 @@ impl VastFile {
         let block_step = self.own(block.0);
         let lhs_step = self.own(lhs.0);
         let rhs_step = self.own(rhs.0);
-        VastStatement(self.later("BlockAddContinuousAssignment", |lines| {
-            lines.step(block_step).step(lhs_step).step(rhs_step)
+        VastStatement(self.later(Call::BlockAddContinuousAssignment, |calls| {
+            calls.step(block_step).step(lhs_step).step(rhs_step)
         }))
     }
 
@@ -223,8 +224,8 @@ impl VastFile {
         text: &str,
     ) -> VastStatement {
         let block_step = self.own(block.0);
-        self.later("BlockAddCommentText", |lines| {
-            lines.step(block_step).text(text)
+        self.later(Call::BlockAddCommentText, |calls| {
+            calls.step(block_step).text(text)
         });
         VastStatement(block.0)
     }
@@ -236,8 +237,8 @@ impl VastFile {
         text: &str,
     ) -> VastStatement {
         let block_step = self.own(block.0);
-        self.later("BlockAddInlineText", |lines| {
-            lines.step(block_step).text(text)
+        self.later(Call::BlockAddInlineText, |calls| {
+            calls.step(block_step).text(text)
         });
         VastStatement(block.0)
     }
@@ -245,7 +246,7 @@ impl VastFile {
     /// A blank line, as the block's last statement.
     pub fn block_add_blank_line(&mut self, block: VastStatementBlock) -> VastStatement {
         let block_step = self.own(block.0);
-        self.later("BlockAddBlankLine", |lines| lines.step(block_step));
+        self.later(Call::BlockAddBlankLine, |calls| calls.step(block_step));
         VastStatement(block.0)
     }
 
@@ -253,8 +254,8 @@ impl VastFile {
     pub fn add_conditional(&mut self, owner: VastModule, condition: &Expr) -> Conditional {
         let owner_step = self.own(owner.0);
         let condition_step = self.own(condition.0);
-        Conditional(self.later("AddConditional", |lines| {
-            lines.step(owner_step).step(condition_step)
+        Conditional(self.later(Call::AddConditional, |calls| {
+            calls.step(owner_step).step(condition_step)
         }))
     }
 
@@ -262,14 +263,14 @@ impl VastFile {
     pub fn block_add_cond(&mut self, block: VastStatementBlock, condition: &Expr) -> Conditional {
         let block_step = self.own(block.0);
         let condition_step = self.own(condition.0);
-        Conditional(self.later("BlockAddCond", |lines| {
-            lines.step(block_step).step(condition_step)
+        Conditional(self.later(Call::BlockAddCond, |calls| {
+            calls.step(block_step).step(condition_step)
         }))
     }
 
     /// The block of the conditional's first arm.
     pub fn conditional_then_block(&self, conditional: Conditional) -> VastStatementBlock {
-        VastStatementBlock(self.answered("ConditionalThenBlock", conditional.0))
+        VastStatementBlock(self.answered(Call::ConditionalThenBlock, conditional.0))
     }
 
     /// An arm `else if` with an empty block, as the conditional's last; returns the block. The conditional
@@ -287,9 +288,9 @@ impl VastFile {
         let is_certain = !self.known().has_else(conditional_step);
         VastStatementBlock(self.made(
             is_certain,
-            "ConditionalAddElseIf",
+            Call::ConditionalAddElseIf,
             "cannot add an else-if arm after an unconditional else",
-            |lines| lines.step(conditional_step).step(condition_step),
+            |calls| calls.step(conditional_step).step(condition_step),
         ))
     }
 
@@ -303,9 +304,9 @@ impl VastFile {
         let is_certain = !self.known().has_else(conditional_step);
         let made = self.made(
             is_certain,
-            "ConditionalAddElse",
+            Call::ConditionalAddElse,
             "cannot add another arm after an unconditional else",
-            |lines| lines.step(conditional_step),
+            |calls| calls.step(conditional_step),
         );
         self.known().keep_else(conditional_step);
         VastStatementBlock(made)
@@ -315,8 +316,8 @@ impl VastFile {
     pub fn block_add_case(&mut self, block: VastStatementBlock, selector: &Expr) -> CaseStatement {
         let block_step = self.own(block.0);
         let selector_step = self.own(selector.0);
-        CaseStatement(self.later("BlockAddCase", |lines| {
-            lines.step(block_step).step(selector_step)
+        CaseStatement(self.later(Call::BlockAddCase, |calls| {
+            calls.step(block_step).step(selector_step)
         }))
     }
 
@@ -324,8 +325,8 @@ impl VastFile {
     pub fn block_add_casez(&mut self, block: VastStatementBlock, selector: &Expr) -> CaseStatement {
         let block_step = self.own(block.0);
         let selector_step = self.own(selector.0);
-        CaseStatement(self.later("BlockAddCasez", |lines| {
-            lines.step(block_step).step(selector_step)
+        CaseStatement(self.later(Call::BlockAddCasez, |calls| {
+            calls.step(block_step).step(selector_step)
         }))
     }
 
@@ -333,8 +334,8 @@ impl VastFile {
     pub fn block_add_casex(&mut self, block: VastStatementBlock, selector: &Expr) -> CaseStatement {
         let block_step = self.own(block.0);
         let selector_step = self.own(selector.0);
-        CaseStatement(self.later("BlockAddCasex", |lines| {
-            lines.step(block_step).step(selector_step)
+        CaseStatement(self.later(Call::BlockAddCasex, |calls| {
+            calls.step(block_step).step(selector_step)
         }))
     }
 
@@ -342,8 +343,8 @@ impl VastFile {
     pub fn case_add_item(&mut self, case: CaseStatement, pattern: &Expr) -> VastStatementBlock {
         let case_step = self.own(case.0);
         let pattern_step = self.own(pattern.0);
-        VastStatementBlock(self.later("CaseAddItem", |lines| {
-            lines.step(case_step).step(pattern_step)
+        VastStatementBlock(self.later(Call::CaseAddItem, |calls| {
+            calls.step(case_step).step(pattern_step)
         }))
     }
 
@@ -351,7 +352,7 @@ impl VastFile {
     /// more than one.
     pub fn case_add_default(&mut self, case: CaseStatement) -> VastStatementBlock {
         let case_step = self.own(case.0);
-        VastStatementBlock(self.later("CaseAddDefault", |lines| lines.step(case_step)))
+        VastStatementBlock(self.later(Call::CaseAddDefault, |calls| calls.step(case_step)))
     }
 
     /// Makes the case statement `unique`, or not. It takes no memory.
@@ -361,8 +362,8 @@ impl VastFile {
     pub fn case_set_unique(&mut self, case: CaseStatement, unique: bool) -> Result<(), VastError> {
         let case_step = self.own(case.0);
         let is_certain = !unique || self.file_type == VastFileType::SystemVerilog;
-        self.allowed(is_certain, "CaseSetUnique", |lines| {
-            lines.step(case_step).truth(unique)
+        self.allowed(is_certain, Call::CaseSetUnique, |calls| {
+            calls.step(case_step).truth(unique)
         })?;
         Ok(())
     }

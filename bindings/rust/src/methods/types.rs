@@ -2,6 +2,7 @@
 //!
 //! Written by tools/bindings_from_calls from the table of calls; not to be edited.
 
+use crate::calls::Call;
 use crate::conditions::{are_dimensions, packed_condition, unpacked_condition};
 use crate::file::VastFile;
 use crate::handles::{Expr, VastDataType};
@@ -10,28 +11,28 @@ use crate::known::Width;
 impl VastFile {
     /// The type of one bit.
     pub fn make_scalar_type(&mut self) -> VastDataType {
-        VastDataType(self.later("MakeScalarType", |lines| lines))
+        VastDataType(self.later(Call::MakeScalarType, |calls| calls))
     }
 
     /// Verilog's `integer`.
     pub fn make_integer_type(&mut self, signed: bool) -> VastDataType {
-        VastDataType(self.later("MakeIntegerType", |lines| lines.truth(signed)))
+        VastDataType(self.later(Call::MakeIntegerType, |calls| calls.truth(signed)))
     }
 
     /// SystemVerilog's `int`.
     pub fn make_int_type(&mut self, signed: bool) -> VastDataType {
-        VastDataType(self.later("MakeIntType", |lines| lines.truth(signed)))
+        VastDataType(self.later(Call::MakeIntType, |calls| calls.truth(signed)))
     }
 
     /// A type of this name that is declared elsewhere.
     pub fn make_extern_type(&mut self, name: &str) -> VastDataType {
-        VastDataType(self.later("MakeExternType", |lines| lines.text(name)))
+        VastDataType(self.later(Call::MakeExternType, |calls| calls.text(name)))
     }
 
     /// A type of this name that is declared in a package, `package::name`.
     pub fn make_extern_package_type(&mut self, package_name: &str, name: &str) -> VastDataType {
-        VastDataType(self.later("MakeExternPackageType", |lines| {
-            lines.text(package_name).text(name)
+        VastDataType(self.later(Call::MakeExternPackageType, |calls| {
+            calls.text(package_name).text(name)
         }))
     }
 
@@ -43,9 +44,9 @@ impl VastFile {
         let is_certain = bit_count >= 1;
         let made = self.made(
             is_certain,
-            "MakeBitVectorType",
+            Call::MakeBitVectorType,
             "bit-vector width must be greater than zero",
-            |lines| lines.number(bit_count).truth(signed),
+            |calls| calls.number(bit_count).truth(signed),
         );
         self.keep_width(made, Width::Bits(bit_count));
         VastDataType(made)
@@ -59,9 +60,9 @@ impl VastFile {
         let width_step = self.own(width.0);
         let made = self.made(
             false,
-            "MakeBitVectorTypeExpr",
+            Call::MakeBitVectorTypeExpr,
             "bit-vector width must be greater than zero",
-            |lines| lines.step(width_step).truth(signed),
+            |calls| calls.step(width_step).truth(signed),
         );
         self.keep_width(made, Width::Expression(width_step));
         VastDataType(made)
@@ -80,8 +81,8 @@ impl VastFile {
         let element_step = self.own(element.0);
         let made = self.made_or(
             false,
-            "MakePackedArrayType",
-            |lines| lines.step(element_step).numbers(dimensions),
+            Call::MakePackedArrayType,
+            |calls| calls.step(element_step).numbers(dimensions),
             |state| packed_condition(state, element_step, dimensions),
         );
         self.keep_width(made, Width::Element(element_step));
@@ -101,8 +102,8 @@ impl VastFile {
         let is_certain = are_dimensions(dimensions);
         let made = self.made_or(
             is_certain,
-            "MakeUnpackedArrayType",
-            |lines| lines.step(element_step).numbers(dimensions),
+            Call::MakeUnpackedArrayType,
+            |calls| calls.step(element_step).numbers(dimensions),
             |_| unpacked_condition(dimensions),
         );
         self.keep_width(made, Width::Element(element_step));
