@@ -204,20 +204,22 @@ impl Kept {
     {
         let place = self.lines.saturating_add(1);
         match self.session.packed(place, bytes) {
-            Ok((LineResult::Answer { value, .. }, behind)) => {
-                let Ok(answer) = format!(in *self.answer.allocator(); "{value}") else {
-                    self.told = None;
-                    return Err(Cause::Memory);
-                };
-                self.answer = answer;
-                self.lines = place;
-                Ok(behind)
-            }
-            Ok((_, behind)) => {
-                self.answer.clear();
-                self.lines = place;
-                Ok(behind)
-            }
+            Ok((given, behind)) => match given {
+                LineResult::Answer { value, .. } => {
+                    let Ok(answer) = format!(in *self.answer.allocator(); "{value}") else {
+                        self.told = None;
+                        return Err(Cause::Memory);
+                    };
+                    self.answer = answer;
+                    self.lines = place;
+                    Ok(behind)
+                }
+                _ => {
+                    self.answer.clear();
+                    self.lines = place;
+                    Ok(behind)
+                }
+            },
             Err(fault) => Err(self.tell(fault)),
         }
     }
