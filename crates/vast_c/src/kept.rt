@@ -7,9 +7,9 @@ ghost use Rattle.vast_list.specs.declared.fault.Fault.TheVariants.{Line};
 ghost use Rattle.vast_list.specs.declared.session.Session.{Session as AnySession};
 ghost use Rattle.vast_list.specs.Lines.{lines_of};
 ghost use Rattle.vast_c.specs.Seen.{GaveLine, IsFresh, IsPrinted, Run, TellsFault, cause_of, more_lines};
-ghost use Rattle.vast_list.specs.PackedLists.{RunsPacked};
+ghost use Rattle.vast_list.specs.PackedLists.{GaveFront, RunsPacked};
 ghost use Rattle.vast_c.specs.SeenPacked.{RunPacked, TellsPacked};
-ghost use Rattle.vast_c.specs.Internal.Seen.{GaveFront, IsToldOf, LeftBy, LeftIfAny};
+ghost use Rattle.vast_c.specs.Internal.Seen.{IsToldOf, LeftBy, LeftIfAny};
 
 use crate::lines::first_line;
 use std::alloc::Global;
@@ -117,7 +117,7 @@ impl Kept {
         let mut rest = calls;
         let mut taken = 0;
         while !rest.is_empty() {
-            match self.make_call(rest) {
+            match self.make_front(rest) {
                 Ok(behind) => rest = behind,
                 Err(cause) => {
                     return MadeLines {
@@ -186,7 +186,39 @@ impl Kept {
         }
     }
 
-    /// Makes the packed call at the front, and returns what stands after it.
+    /// Makes the packed call at the front, and returns what stands after it. Most are steps, which are made in less time.
+    #[tactic(auto, using(crate::proofs::PackedSteps::fronts))]
+    fn make_front<'b>(&mut self, bytes: &'b [u8]) -> Result<&'b [u8], Cause>
+        ensures given { IfOk result (λ behind. GaveFront self.old.session self.new.session
+            bytes.now behind.now) }
+        ensures shorter { IfOk result (λ behind. length behind.now < length bytes.now) }
+        ensures left { IfErr result (λ cause. LeftBy self.old.session self.new.session cause) }
+        ensures lines { MatchResult result
+            (λ _. self.new.lines ≡ more_lines self.old.lines 1)
+            (λ _. self.new.lines ≡ self.old.lines) }
+        ensures none { OnOk result (self.new.told ≡ self.old.told) }
+        ensures told { IfErr result (λ cause. IsToldOf cause self.new.told) }
+        ensures fault { OnErr result (TellsPacked self.old.session self.new.session
+            (more_lines self.old.lines 1) bytes.now self.new.told) }
+        ensures file { self.new.file ≡ self.old.file }
+    {
+        let place = self.lines.saturating_add(1);
+        match self.session.made_step(place, bytes) {
+            Ok(Some(behind)) => {
+                self.answer.clear();
+                self.lines = place;
+                Ok(behind)
+            }
+            Ok(None) => self.make_call(bytes),
+            Err(_) => {
+                self.told = None;
+                Err(Cause::Memory)
+            }
+        }
+    }
+
+    /// The same of any call, with what it answers or why it is not made.
+    #[inline(never)]
     #[tactic(auto, using(crate::proofs::PackedSteps::calls))]
     fn make_call<'b>(&mut self, bytes: &'b [u8]) -> Result<&'b [u8], Cause>
         ensures given { IfOk result (λ behind. GaveFront self.old.session self.new.session

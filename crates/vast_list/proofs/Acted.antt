@@ -56,7 +56,7 @@ acts_more P Q name (Ask question) f h = (h.0, h.1, f _ h.2)
 acts_more P Q name (CallAction call) f h = (h.0, h.1, f _ h.2)
 
 -- What is left over these.
-left_over :
+pub left_over :
     (a : Arguments) (known : Known) (rest : Rest) (ps : List Piece) → a.known ≡ known → a.rest ≡ rest → AreLeft a ps →
     AreIn (is_packed rest) (meaning known.names.now) known.skipped.now ps (rest_left rest)
 left_over a known rest ps k r h =

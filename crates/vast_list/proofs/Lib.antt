@@ -9,6 +9,7 @@ pub mod Entered
 pub mod Replied
 pub mod Sessions
 pub mod PackedSessions
+pub mod MadeSteps
 pub mod Built
 pub mod JsonLines
 pub mod TextLines

@@ -97,7 +97,7 @@ unused_call old new answers call fault h = unused_kept old new fault (kept_call 
 pub left_call : (old new : Session) (call : Call) (fault : StepFault) (told : Fault) → Calls old.file new.file old.answers.items (Err fault) call → new.answers.items ≡ old.answers.items → IsToldAs fault told → IsFileLeft old new told
 left_call old new call fault told h a t = left_kept old new fault told (kept_call old.file new.file old.answers.items fault call h) a t
 
-next-same : (old new : Session) → new.answers.items ≡ old.answers.items → new.skipped.items ≡ old.skipped.items → next_number new ≡ next_number old
+pub next-same : (old new : Session) → new.answers.items ≡ old.answers.items → new.skipped.items ≡ old.skipped.items → next_number new ≡ next_number old
 next-same old new a s = λ i. min (length (a i) + length (s i)) (2 ^ 64 - 1)
 
 pub call_fault :

@@ -19,6 +19,10 @@ IsCallSplit bytes call behind = (front : List ℕ) × IsPackedNumber front (leng
 abbrev pub GivesFront : (old new : Session) → (bytes : List ℕ) → LineResult → (behind : List ℕ) → Type 0
 GivesFront old new bytes given behind = (call : List ℕ) × IsCallSplit bytes call behind × GivesPacked old new call given
 
+-- The call at the front gave something, and this stands after it.
+abbrev pub GaveFront : (old new : Session) → (bytes behind : List ℕ) → Type 0
+GaveFront old new bytes behind = (given : LineResult) × GivesFront old new bytes given behind
+
 -- What is told of the call at the front; or of no bytes, where none stands there.
 abbrev pub IsToldOfFront : (old new : Session) → (number : ℕ) → (bytes : List ℕ) → Fault → Type 0
 IsToldOfFront old new number bytes fault =

@@ -186,16 +186,22 @@ impl<'a> Arguments<'a> {
     pub(crate) fn number(&mut self) -> Result<usize, Misfit>
         ensures { IfOk result (λ number. GoesNumber self.old self.new number) }
     {
-        let Rest::Packed(bytes) = self.rest else {
-            return Err(self.misfit(Problem::Missing));
-        };
-        match number_front(bytes) {
-            Some((number, behind)) => {
-                self.rest = Rest::Packed(behind);
-                Ok(number)
+        if let Rest::Packed(bytes) = &mut self.rest {
+            if let Some((number, behind)) = number_front(bytes) {
+                *bytes = behind;
+                return Ok(number);
             }
-            None if bytes.is_empty() => Err(self.misfit(Problem::Missing)),
-            None => Err(self.misfit(Problem::NoPacked)),
+        }
+        Err(self.no_number())
+    }
+
+    /// Why no number stands next in a packed call.
+    #[cold]
+    #[inline(never)]
+    fn no_number(&self) -> Misfit {
+        match self.rest {
+            Rest::Packed(bytes) if !bytes.is_empty() => self.misfit(Problem::NoPacked),
+            _ => self.misfit(Problem::Missing),
         }
     }
 

@@ -73,10 +73,14 @@ impl Choice {
 }
 
 /// The number at the front, of 64 bits at most, and what stands after it.
+#[tactic(auto, using(crate::proofs::PackedWords::digits))]
 pub(crate) fn number_front(bytes: &[u8]) -> Option<(usize, &[u8])>
     ensures { IfSome result (λ read. IsNumberFront bytes.now read.0 read.1.now) }
 {
-    digits_front(bytes, MOST_DIGITS - 1)
+    match bytes.split_first() {
+        Some((first, behind)) if *first < 128 => Some((*first as usize, behind)),
+        _ => digits_front(bytes, MOST_DIGITS - 1),
+    }
 }
 
 /// The same of as many digits at most after the first.

@@ -4,7 +4,7 @@ ghost use Rattle.std.specs.Prelude.{◌≡◌, IfOk, IfSome, MatchResult, Some};
 ghost use Rattle.vast_list.specs.PackedCalls.{IsCallFront, NamesPacked};
 ghost use Rattle.vast_list.specs.PackedLists.{IsCallSplit};
 ghost use Rattle.vast_list.specs.Internal.CallRows.{name_at};
-ghost use Rattle.vast_list.specs.Internal.PackedCalls.{IsUnpacked};
+ghost use Rattle.vast_list.specs.Internal.PackedCalls.{IsPlaceFront, IsUnpacked};
 
 use crate::arguments::{Arguments, Known, Rest};
 use crate::line::{Action, Misread, action_of};
@@ -46,9 +46,23 @@ pub(crate) fn unpacked(known: Known<'_>, bytes: &[u8]) -> Result<PackedCall, Mis
 pub(crate) fn split_call(bytes: &[u8]) -> Option<(&[u8], &[u8])>
     ensures { IfSome result (λ split. IsCallSplit bytes.now split.0.now split.1.now) }
 {
-    let (length, behind) = number_front(bytes)?;
-    let (call, behind) = behind.split_at_checked(length)?;
-    Some((call, behind))
+    let Some((length, behind)) = number_front(bytes) else {
+        return None;
+    };
+    behind.split_at_checked(length)
+}
+
+/// The call whose number stands at the front, and what stands after that.
+pub(crate) fn place_front(bytes: &[u8]) -> Option<(Place, &[u8])>
+    ensures { IfSome result (λ read. IsPlaceFront bytes.now read.0 read.1.now) }
+{
+    let Some((number, behind)) = number_front(bytes) else {
+        return None;
+    };
+    match Place::numbered(number) {
+        Some(place) => Some((place, behind)),
+        None => None,
+    }
 }
 
 /// The call whose number stands at the front, its name, and what stands after that.

@@ -1,17 +1,11 @@
 -- Beside `specs/Seen.antt`: what private contracts and proofs say, and no public one.
-use Rattle.std.specs.Prelude.{◌≡◌, ℕ, List, Option, None, Some}
+use Rattle.std.specs.Prelude.{◌≡◌, Option, None, Some}
 use Rattle.vast_list.specs.Session.{IsSame}
-use Rattle.vast_list.specs.PackedLists.{GivesFront}
-use Rattle.vast_list.specs.declared.session.LineResult.{LineResult}
 use Rattle.vast_list.specs.declared.session.Session.{Session}
 use Rattle.vast_c.specs.declared.kept.Cause.{Cause}
 use Rattle.vast_c.specs.declared.kept.Cause.TheVariants.{Refused, Condition, Form, Memory}
 use Rattle.vast_c.specs.declared.kept.ToldFault.{ToldFault}
 use Rattle.vast_c.specs.Seen.{IsSameTree, cause_of}
-
--- The packed call at the front gave something, and this stands after it.
-abbrev pub GaveFront : (before after : Session) → (bytes behind : List ℕ) → Type 0
-GaveFront before after bytes behind = (given : LineResult) × GivesFront before after bytes given behind
 
 -- A line that gives nothing leaves the session as it was; where memory was refused, its tree and its answers.
 abbrev pub LeftBy : (before after : Session) → Cause → Type 0

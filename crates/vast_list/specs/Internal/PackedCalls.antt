@@ -1,8 +1,15 @@
 -- Beside `specs/PackedCalls.antt`: what private contracts and proofs say, and no public one.
-use Rattle.std.specs.Prelude.{ℕ, List, [], None, Result, Ok, Err}
+use Rattle.std.specs.Prelude.{◌≡◌, ℕ, List, [], None, Some, Result, Ok, Err, slice_get}
 use Rattle.vast_list.specs.declared.fault.Fault.{Fault}
 use Rattle.vast_list.specs.declared.unpacked.PackedCall.{PackedCall}
 use Rattle.vast_list.specs.Packed.{ArePacked}
+use Rattle.vast_list.specs.CallArguments.{step_pieces}
+use Rattle.vast_list.specs.CallNames.{step_name}
+use Rattle.vast_list.specs.CallNumbers.{call_names}
+use Rattle.vast_list.specs.Internal.CallRows.{name_at}
+use Rattle.vast_list.specs.Internal.Packed.{IsNumberFront}
+use Rattle.vast_list.specs.declared.table.numbered.Place.{Place}
+use Rattle.vast_script.specs.declared.step.Step.{Step as ScriptStep}
 use Rattle.vast_list.specs.PackedCalls.{GivesPacked, IsCallFront, NamesPacked}
 use Rattle.vast_list.specs.PackedLists.{RunsPacked}
 use Rattle.vast_list.specs.Session.{IsLeft}
@@ -18,6 +25,18 @@ use Rattle.vast_list.specs.Internal.Session.{Acts, IsToldOf}
 abbrev pub IsUnpacked : (skipped bytes : List ℕ) → PackedCall → Type 0
 IsUnpacked skipped bytes packed =
     (arguments : List ℕ) × IsCallFront bytes packed.call.now arguments × Acts (λ pieces. ArePacked skipped pieces arguments) packed.call.now packed.action
+
+-- The number of the call of this place stands at the front, and this after it.
+abbrev pub IsPlaceFront : (bytes : List ℕ) → Place → (behind : List ℕ) → Type 0
+IsPlaceFront bytes place behind = (n : ℕ) × IsNumberFront bytes n behind × (name_at place ≡ slice_get call_names n)
+
+-- The arguments are those of this step, which the place is.
+abbrev pub IsStepAt : (skipped : List ℕ) → Place → (arguments : List ℕ) → ScriptStep → Type 0
+IsStepAt skipped place arguments step = (name_at place ≡ Some (step_name step)) × ArePacked skipped (step_pieces step) arguments
+
+-- The bytes are a step, which was made.
+abbrev pub GavePacked : (old new : Session) → (bytes : List ℕ) → Type 0
+GavePacked old new bytes = (given : LineResult) × GivesPacked old new bytes given
 
 -- What a packed call does to a session.
 abbrev pub TakesPacked : (old new : Session) → (bytes : List ℕ) → Result LineResult Fault → Type 0

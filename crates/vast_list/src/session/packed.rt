@@ -1,17 +1,25 @@
 //! Packed calls over the answers so far.
 
-ghost use Rattle.std.specs.Prelude.{◌≡◌, IfErr, MatchResult, OnOk};
+ghost use Rattle.std.specs.Prelude.{◌≡◌, IfErr, IfOk, IfSome, MatchResult, None, Ok, OnErr, OnOk, false, true};
 ghost use Rattle.xlsynth_vast.specs.Registers.{HasUnused};
 ghost use Rattle.vast_list.specs.PackedCalls.{IsToldOfPacked};
-ghost use Rattle.vast_list.specs.PackedLists.{GivesFront, IsToldOfFront};
-ghost use Rattle.vast_list.specs.Session.{IsLeft};
-ghost use Rattle.vast_list.specs.Internal.PackedCalls.{IsToldMispacked, IsUnpacked, RunsAll, TakesPacked, given_by};
+ghost use Rattle.vast_list.specs.PackedLists.{GaveFront, GivesFront, IsToldOfFront};
+ghost use Rattle.vast_list.specs.Session.{IsFileLeft, IsLeft, IsMade, IsSame, IsSameFile, IsSameKnown};
+ghost use Rattle.vast_list.specs.declared.fault.Fault.TheVariants.{Memory};
+ghost use Rattle.vast_list.specs.declared.line.Call.TheVariants.{Step as StepCall};
+ghost use Rattle.vast_list.specs.Internal.PackedCalls.{GavePacked, IsStepAt, IsToldMispacked, IsUnpacked, RunsAll, TakesPacked, given_by};
 
+use crate::arguments::{Arguments, Rest};
+use crate::calls::make_step;
 use crate::fault::{Fault, mispacked};
 use crate::line::{Action, Call};
 use crate::problem::{Misfit, Problem};
+use crate::selects::keep_select;
 use crate::session::{LineResult, Session};
-use crate::unpacked::{PackedCall, split_call, unpacked};
+use crate::table::numbered::Place;
+use crate::unpacked::{PackedCall, place_front, split_call, unpacked};
+use std::alloc::AllocError;
+use vast_script::{Step, StepFault, replay_step};
 
 impl Session {
     /// Takes the packed call at the front, and returns what it gave with what stands after it. Its number in the input is
@@ -40,6 +48,78 @@ impl Session {
         match self.packed_call(number, call) {
             Ok(given) => Ok((given, behind)),
             Err(fault) => Err(fault),
+        }
+    }
+
+    /// Makes the packed call at the front where it is a step that is not refused, and returns what stands after it; `None`
+    /// of any other, of which nothing changed. What this hands back is small, where a fault is large.
+    ///
+    /// # Errors
+    /// Out of memory; the file's tree, the answers and the names are then as before.
+    #[tactic(auto, using(crate::proofs::MadeSteps::fronts))]
+    pub fn made_step<'b>(
+        &mut self,
+        number: usize,
+        bytes: &'b [u8],
+    ) -> Result<Option<&'b [u8]>, AllocError>
+        ensures made { IfOk result (λ made. IfSome made
+            (λ behind. GaveFront self.old self.new bytes.now behind.now)) }
+        ensures same { result ≡ Ok None → IsSame self.old self.new }
+        ensures left { OnErr result (IsLeft self.old self.new Memory) }
+    {
+        let Some((call, behind)) = split_call(bytes) else {
+            return Ok(None);
+        };
+        match self.made_call(number, call) {
+            Ok(true) => Ok(Some(behind)),
+            Ok(false) => Ok(None),
+            Err(error) => Err(error),
+        }
+    }
+
+    /// The same of a call's bytes; whether it was made.
+    #[tactic(auto, using(crate::proofs::MadeSteps::calls))]
+    fn made_call(&mut self, number: usize, bytes: &[u8]) -> Result<bool, AllocError>
+        ensures made { result ≡ Ok true → GavePacked self.old self.new bytes.now }
+        ensures same { result ≡ Ok false → IsSame self.old self.new }
+        ensures left { OnErr result (IsLeft self.old self.new Memory) }
+    {
+        let Some((place, arguments)) = place_front(bytes) else {
+            return Ok(false);
+        };
+        let Ok(step) = self.step_at(place, arguments) else {
+            return Ok(false);
+        };
+        self.made_by(number, &step)
+    }
+
+    /// The step of this place over the arguments.
+    #[tactic(auto, using(crate::proofs::MadeSteps::steps))]
+    fn step_at(&self, place: Place, arguments: &[u8]) -> Result<Step, Misfit>
+        ensures { IfOk result (IsStepAt self.now.skipped.items place arguments.now) }
+    {
+        let mut arguments = Arguments::new(self.known(), Rest::Packed(arguments));
+        make_step(place, &mut arguments)
+    }
+
+    /// Makes the step and keeps its answer; whether it is not refused.
+    #[tactic(auto, using(crate::proofs::MadeSteps::made))]
+    fn made_by(&mut self, number: usize, step: &Step) -> Result<bool, AllocError>
+        ensures made { result ≡ Ok true → IsMade self.old self.new (StepCall step.now) }
+        ensures known { IsSameKnown self.old self.new }
+        ensures same { result ≡ Ok false → IsSameFile self.old self.new }
+        ensures left { OnErr result (IsFileLeft self.old self.new Memory) }
+    {
+        self.answers.reserve(1)?;
+        self.selects.reserve(1)?;
+        match replay_step(&mut self.file, &self.answers, step) {
+            Ok(answer) => {
+                keep_select(&mut self.selects, answer, number);
+                self.answers.push(answer)?;
+                Ok(true)
+            }
+            Err(StepFault::Memory) => Err(AllocError),
+            Err(_) => Ok(false),
         }
     }
 

@@ -8,7 +8,7 @@ pub loop-rest-preserved : goal.loop-rest-preserved
 loop-rest-preserved c =
     let run = c.loop-rest.invariant in let one = c.in-Ok.ensures in
     record {
-      made = packed_more c.loop-rest.taken c.args.self.now.session c.loop-rest.self.session c.make_call.new.self.session c.args.calls.now c.loop-rest.rest.now c.in-Ok.behind.now run.made one.given;
+      made = packed_more c.loop-rest.taken c.args.self.now.session c.loop-rest.self.session c.make_front.new.self.session c.args.calls.now c.loop-rest.rest.now c.in-Ok.behind.now run.made one.given;
       counted = omega (arith, run.counted, one.lines);
       none = one.none ∙ run.none;
       file = one.file ∙ run.file;
@@ -29,7 +29,7 @@ returns-clause-made c =
 
 pub returns-in-Err-clause-made : goal.returns-in-Err-clause-made
 returns-in-Err-clause-made c =
-    let run = c.loop-rest.invariant in let stopped = c.in-Err.ensures in let after = c.make_call.new.self in
+    let run = c.loop-rest.invariant in let stopped = c.in-Err.ensures in let after = c.make_front.new.self in
     let told = subst (λ n. TellsPacked c.loop-rest.self.session after.session (more_lines n 1) c.loop-rest.rest.now after.told) (sym stopped.lines) stopped.fault in
     record {
       between = c.loop-rest.self.session;
