@@ -14,7 +14,7 @@ returns-clause-taken g c =
     let between = g.R.Read.remaining c.read_front.new.input in
     let front = c.in_ok-front.front.items in
     let made = c.in_ok-finish.field-0 in
-    let lines : c.without_mark-lines.result.now ≡ unmarked front = c.without_mark-lines.ensures ∙ ap unmarked c.deref.ensures.value in
+    let lines : c.without_mark-lines.result.now ≡ unmarked front = c.without_mark-lines.ensures ∙ ap unmarked c.deref-2.ensures.value in
     let reads = subst (ReadsOn c.empty-list.result c.take_bytes.new.self) lines c.in_ok-take_bytes.ensures in
     elim c.if-len-ge-FRONT_BYTES.branch [
       | then-len-ge-FRONT_BYTES+in_ok-take_rest w ↦
