@@ -22,7 +22,7 @@ use Rattle.vast_list.specs.declared.session.LineResult.{LineResult}
 use Rattle.vast_list.specs.declared.session.LineResult.TheVariants.{Nothing, Step, Helper, Answer as Answered}
 use Rattle.vast_list.specs.declared.session.Session.{Session}
 use Rattle.vast_list.specs.declared.table.numbered.Place.{Place}
-use Rattle.vast_list.specs.CallArguments.{Piece, step_pieces}
+use Rattle.vast_list.specs.CallArguments.{step_pieces}
 use Rattle.vast_list.specs.CallNames.{step_name}
 use Rattle.vast_list.specs.Packed.{ArePacked}
 use Rattle.vast_list.specs.PackedCalls.{AnswersPacked, FailsBy, GivesPacked, IsMispacked, IsPackedAction, IsPackedFault, IsToldOfPacked, MakesPacked, action_number, action_words}
@@ -122,10 +122,6 @@ gives_before a b c bytes (Answered name value) e h = (h.0, answers_before a b c 
 
 pub gave_before : (a b c : Session) (bytes behind : List ℕ) → IsSame a b → GaveFront b c bytes behind → GaveFront a c bytes behind
 gave_before a b c bytes behind e h = (h.0, (h.1.0, h.1.1, gives_before a b c h.1.0 h.0 e h.1.2))
-
-pub left_before : (a b c : Session) (fault : Fault) → IsSame a b → IsLeft b c fault → IsLeft a c fault
-left_before a b c (Line f) e h = (file_before a b c e.0 h.0, known_before a b c e.1 h.1)
-left_before a b c Memory e h = ((h.0.0 ∙ ap tree e.0.0, h.0.1 ∙ e.0.1), known_before a b c e.1 h.1)
 
 number_before : (a b : Session) (action : Action) → IsSame a b → action_number b action ≡ action_number a action
 number_before a b (Ask question) e = refl

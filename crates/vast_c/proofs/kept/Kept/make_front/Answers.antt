@@ -1,4 +1,4 @@
-use Rattle.std.proofs.Common.{◌≡◌, Ok, ap}
+use Rattle.std.proofs.Common.{Ok, ap}
 use Rattle.vast_c.proofs.PackedSteps.{gave_if_ok}
 use Rattle.vast_c.proofs.kept.Kept.make_front.Goals as goal
 

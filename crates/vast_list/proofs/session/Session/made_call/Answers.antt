@@ -1,8 +1,6 @@
-use Rattle.std.proofs.Common.{◌≡◌}
 use Rattle.vast_list.proofs.MadeSteps.{made_packed_step}
 use Rattle.vast_list.proofs.session.Session.made_call.Goals as goal
 
--- src/session/packed.rt:81:5
 pub returns-clause-made : goal.returns-clause-made
 returns-clause-made c =
     λ e. made_packed_step c.args.self.now c.made_by.new.self c.args.bytes.now c.in-Some.arguments.now c.in-Some.place c.in-Ok.step c.in-Some.ensures c.in-Ok.ensures (c.made_by.ensures.made e)
