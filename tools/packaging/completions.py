@@ -22,6 +22,7 @@ WORDS = {
         Word("--lint", "tell what is no SystemVerilog or what a tool refuses"),
         Word("--strict", "lint, and status 1 where anything was told"),
         Word("--plain", "print whether the file of each list is plain"),
+        Word("--pack", "write each list in packed form"),
         Word("--session", "answer each line of standard input at once"),
         Word("--calls", "print the table of all calls"),
         Word("--again", "try once more what was refused memory"),
