@@ -764,6 +764,33 @@ static inline int32_t vast_make_unpacked_array_type(vast_file *file, vast_type e
     return vast_line_make(file, made == NULL ? NULL : &made->id);
 }
 
+/* The packed array of elements of a type, each dimension as many as an expression says.
+ * `dimensions`: numbers of elements, the outermost dimension first.
+ * VAST_CONDITION unless: `vast_type_can_be_packed`, at least one dimension, each with
+ * `vast_width_is_usable`. */
+static inline int32_t vast_make_packed_array_type_expr(vast_file *file, vast_type element,
+                                                       const vast_expression *dimensions,
+                                                       size_t dimensions_count, vast_type *made)
+{
+    vast_line_begin(file, "MakePackedArrayTypeExpr");
+    vast_line_handle(file, element.id);
+    vast_line_expressions(file, dimensions, dimensions_count);
+    return vast_line_make(file, made == NULL ? NULL : &made->id);
+}
+
+/* The unpacked array of elements of a type, each dimension as many as an expression says.
+ * `dimensions`: numbers of elements, the outermost dimension first.
+ * VAST_CONDITION unless: at least one dimension, each with `vast_width_is_usable`. */
+static inline int32_t vast_make_unpacked_array_type_expr(vast_file *file, vast_type element,
+                                                         const vast_expression *dimensions,
+                                                         size_t dimensions_count, vast_type *made)
+{
+    vast_line_begin(file, "MakeUnpackedArrayTypeExpr");
+    vast_line_handle(file, element.id);
+    vast_line_expressions(file, dimensions, dimensions_count);
+    return vast_line_make(file, made == NULL ? NULL : &made->id);
+}
+
 /* Modules */
 
 /* The inclusion of the file at this path, as the last item of the file. */

@@ -260,252 +260,258 @@ static int part_7(answers *have)
           && is_line(have, "MakePackedArrayType 1 [ 2 ]"));
     CHECK(vast_make_unpacked_array_type(&have->file, have->type, have->integers, 1, NULL) == VAST_OK
           && is_line(have, "MakeUnpackedArrayType 1 [ 2 ]"));
+    CHECK(vast_make_packed_array_type_expr(&have->file, have->type, have->expressions, 2,
+                                           NULL) == VAST_OK
+          && is_line(have, "MakePackedArrayTypeExpr 1 [ 3 3 ]"));
+    CHECK(vast_make_unpacked_array_type_expr(&have->file, have->type, have->expressions, 2,
+                                             NULL) == VAST_OK
+          && is_line(have, "MakeUnpackedArrayTypeExpr 1 [ 3 3 ]"));
     CHECK(vast_add_include(&have->file, vast_str("defs.svh")) == VAST_OK
           && is_line(have, "AddInclude \"defs.svh\""));
-    CHECK(vast_add_comment_text(&have->file, vast_str("text_69")) == VAST_OK
-          && is_line(have, "AddCommentText \"text_69\""));
-    CHECK(vast_add_output(&have->file, have->module, vast_str("name_70"), have->type,
-                          NULL) == VAST_OK && is_line(have, "AddOutput 2 \"name_70\" 1"));
-    CHECK(vast_add_inout(&have->file, have->module, vast_str("name_71"), have->type,
-                         NULL) == VAST_OK && is_line(have, "AddInout 2 \"name_71\" 1"));
-    CHECK(vast_add_logic_input(&have->file, have->module, vast_str("name_72"), have->type,
-                               NULL) == VAST_OK && is_line(have, "AddLogicInput 2 \"name_72\" 1"));
-    CHECK(vast_add_logic_output(&have->file, have->module, vast_str("name_73"), have->type,
-                                NULL) == VAST_OK
-          && is_line(have, "AddLogicOutput 2 \"name_73\" 1"));
+    CHECK(vast_add_comment_text(&have->file, vast_str("text_71")) == VAST_OK
+          && is_line(have, "AddCommentText \"text_71\""));
+    CHECK(vast_add_output(&have->file, have->module, vast_str("name_72"), have->type,
+                          NULL) == VAST_OK && is_line(have, "AddOutput 2 \"name_72\" 1"));
+    CHECK(vast_add_inout(&have->file, have->module, vast_str("name_73"), have->type,
+                         NULL) == VAST_OK && is_line(have, "AddInout 2 \"name_73\" 1"));
     return 0;
 }
 
 static int part_8(answers *have)
 {
-    CHECK(vast_add_wire(&have->file, have->module, vast_str("name_74"), have->type, NULL) == VAST_OK
-          && is_line(have, "AddWire 2 \"name_74\" 1"));
-    CHECK(vast_add_reg(&have->file, have->module, vast_str("name_75"), have->array,
-                       &have->memory) == VAST_OK && is_line(have, "AddReg 2 \"name_75\" 66"));
-    CHECK(vast_add_logic(&have->file, have->module, vast_str("name_76"), have->type,
-                         NULL) == VAST_OK && is_line(have, "AddLogic 2 \"name_76\" 1"));
-    CHECK(vast_add_parameter_port(&have->file, have->module, vast_str("name_77"),
+    CHECK(vast_add_logic_input(&have->file, have->module, vast_str("name_74"), have->type,
+                               NULL) == VAST_OK && is_line(have, "AddLogicInput 2 \"name_74\" 1"));
+    CHECK(vast_add_logic_output(&have->file, have->module, vast_str("name_75"), have->type,
+                                NULL) == VAST_OK
+          && is_line(have, "AddLogicOutput 2 \"name_75\" 1"));
+    CHECK(vast_add_wire(&have->file, have->module, vast_str("name_76"), have->type, NULL) == VAST_OK
+          && is_line(have, "AddWire 2 \"name_76\" 1"));
+    CHECK(vast_add_reg(&have->file, have->module, vast_str("name_77"), have->array,
+                       &have->memory) == VAST_OK && is_line(have, "AddReg 2 \"name_77\" 66"));
+    CHECK(vast_add_logic(&have->file, have->module, vast_str("name_78"), have->type,
+                         NULL) == VAST_OK && is_line(have, "AddLogic 2 \"name_78\" 1"));
+    CHECK(vast_add_parameter_port(&have->file, have->module, vast_str("name_79"),
                                   vast_expression_of(have->signal), NULL) == VAST_OK
-          && is_line(have, "AddParameterPort 2 \"name_77\" 3"));
-    CHECK(vast_add_typed_parameter_port(&have->file, have->module, vast_str("name_78"), have->type,
+          && is_line(have, "AddParameterPort 2 \"name_79\" 3"));
+    CHECK(vast_add_typed_parameter_port(&have->file, have->module, vast_str("name_80"), have->type,
                                         vast_expression_of(have->signal), NULL) == VAST_OK
-          && is_line(have, "AddTypedParameterPort 2 \"name_78\" 1 3"));
-    CHECK(vast_add_parameter(&have->file, have->module, vast_str("name_79"),
+          && is_line(have, "AddTypedParameterPort 2 \"name_80\" 1 3"));
+    CHECK(vast_add_parameter(&have->file, have->module, vast_str("name_81"),
                              vast_expression_of(have->signal), &have->parameter) == VAST_OK
-          && is_line(have, "AddParameter 2 \"name_79\" 3"));
-    CHECK(vast_add_localparam(&have->file, have->module, vast_str("name_80"),
+          && is_line(have, "AddParameter 2 \"name_81\" 3"));
+    CHECK(vast_add_localparam(&have->file, have->module, vast_str("name_82"),
                               vast_expression_of(have->signal), &have->localparam) == VAST_OK
-          && is_line(have, "AddLocalparam 2 \"name_80\" 3"));
-    CHECK(vast_add_int_localparam(&have->file, have->module, vast_str("name_81"),
+          && is_line(have, "AddLocalparam 2 \"name_82\" 3"));
+    CHECK(vast_add_int_localparam(&have->file, have->module, vast_str("name_83"),
                                   vast_expression_of(have->signal), NULL) == VAST_OK
-          && is_line(have, "AddIntLocalparam 2 \"name_81\" 3"));
-    CHECK(vast_hoist_module_declarations(&have->file, have->module, 0) == VAST_OK
-          && is_line(have, "HoistModuleDeclarations 2 0"));
-    CHECK(vast_add_generate_loop(&have->file, have->module, vast_str("name_83"),
-                                 vast_expression_of(have->signal), have->expression,
-                                 vast_str("label"), &have->loop) == VAST_OK
-          && is_line(have, "AddGenerateLoop 2 \"name_83\" 3 0 + \"label\""));
+          && is_line(have, "AddIntLocalparam 2 \"name_83\" 3"));
     return 0;
 }
 
 static int part_9(answers *have)
 {
-    CHECK(vast_generate_add_generate_loop(&have->file, have->loop, vast_str("name_84"),
+    CHECK(vast_hoist_module_declarations(&have->file, have->module, 0) == VAST_OK
+          && is_line(have, "HoistModuleDeclarations 2 0"));
+    CHECK(vast_add_generate_loop(&have->file, have->module, vast_str("name_85"),
+                                 vast_expression_of(have->signal), have->expression,
+                                 vast_str("label"), &have->loop) == VAST_OK
+          && is_line(have, "AddGenerateLoop 2 \"name_85\" 3 0 + \"label\""));
+    CHECK(vast_generate_add_generate_loop(&have->file, have->loop, vast_str("name_86"),
                                           vast_expression_of(have->signal), have->expression,
                                           vast_str("label"), NULL) == VAST_OK
-          && is_line(have, "GenerateAddGenerateLoop 83 \"name_84\" 3 0 + \"label\""));
+          && is_line(have, "GenerateAddGenerateLoop 85 \"name_86\" 3 0 + \"label\""));
     CHECK(vast_generate_genvar(&have->file, have->loop, NULL) == VAST_OK
-          && is_line(have, "GenerateGenvar 83"));
+          && is_line(have, "GenerateGenvar 85"));
     CHECK(vast_generate_add_always_comb(&have->file, have->loop, &have->always) == VAST_OK
-          && is_line(have, "GenerateAddAlwaysComb 83"));
+          && is_line(have, "GenerateAddAlwaysComb 85"));
     CHECK(vast_generate_add_always_ff(&have->file, have->loop, have->expressions, 2,
                                       NULL) == VAST_OK
-          && is_line(have, "GenerateAddAlwaysFf 83 [ 3 3 ]"));
+          && is_line(have, "GenerateAddAlwaysFf 85 [ 3 3 ]"));
     CHECK(vast_generate_add_always_at(&have->file, have->loop, have->expressions, 2,
                                       NULL) == VAST_OK
-          && is_line(have, "GenerateAddAlwaysAt 83 [ 3 3 ]"));
-    CHECK(vast_generate_add_localparam(&have->file, have->loop, vast_str("name_89"),
+          && is_line(have, "GenerateAddAlwaysAt 85 [ 3 3 ]"));
+    CHECK(vast_generate_add_localparam(&have->file, have->loop, vast_str("name_91"),
                                        vast_expression_of(have->signal), NULL) == VAST_OK
-          && is_line(have, "GenerateAddLocalparam 83 \"name_89\" 3"));
+          && is_line(have, "GenerateAddLocalparam 85 \"name_91\" 3"));
     CHECK(vast_generate_add_continuous_assignment(&have->file, have->loop,
                                                   vast_expression_of(have->signal),
                                                   have->expression, &have->statement) == VAST_OK
-          && is_line(have, "GenerateAddContinuousAssignment 83 3 0"));
+          && is_line(have, "GenerateAddContinuousAssignment 85 3 0"));
     CHECK(vast_generate_add_conditional(&have->file, have->loop, vast_expression_of(have->signal),
                                         &have->conditional) == VAST_OK
-          && is_line(have, "GenerateAddConditional 83 3"));
-    CHECK(vast_generate_add_blank_line(&have->file, have->loop) == VAST_OK
-          && is_line(have, "GenerateAddBlankLine 83"));
-    CHECK(vast_add_function(&have->file, have->module, vast_str("name_93"), have->type,
-                            &have->function) == VAST_OK
-          && is_line(have, "AddFunction 2 \"name_93\" 1"));
+          && is_line(have, "GenerateAddConditional 85 3"));
     return 0;
 }
 
 static int part_10(answers *have)
 {
-    CHECK(vast_function_add_input(&have->file, have->function, vast_str("name_94"), have->type,
+    CHECK(vast_generate_add_blank_line(&have->file, have->loop) == VAST_OK
+          && is_line(have, "GenerateAddBlankLine 85"));
+    CHECK(vast_add_function(&have->file, have->module, vast_str("name_95"), have->type,
+                            &have->function) == VAST_OK
+          && is_line(have, "AddFunction 2 \"name_95\" 1"));
+    CHECK(vast_function_add_input(&have->file, have->function, vast_str("name_96"), have->type,
                                   NULL) == VAST_OK
-          && is_line(have, "FunctionAddInput 93 \"name_94\" 1"));
-    CHECK(vast_function_add_logic_input(&have->file, have->function, vast_str("name_95"),
+          && is_line(have, "FunctionAddInput 95 \"name_96\" 1"));
+    CHECK(vast_function_add_logic_input(&have->file, have->function, vast_str("name_97"),
                                         have->type, NULL) == VAST_OK
-          && is_line(have, "FunctionAddLogicInput 93 \"name_95\" 1"));
-    CHECK(vast_function_add_reg(&have->file, have->function, vast_str("name_96"), have->type,
+          && is_line(have, "FunctionAddLogicInput 95 \"name_97\" 1"));
+    CHECK(vast_function_add_reg(&have->file, have->function, vast_str("name_98"), have->type,
                                 NULL) == VAST_OK
-          && is_line(have, "FunctionAddReg 93 \"name_96\" 1"));
-    CHECK(vast_function_add_logic(&have->file, have->function, vast_str("name_97"), have->type,
+          && is_line(have, "FunctionAddReg 95 \"name_98\" 1"));
+    CHECK(vast_function_add_logic(&have->file, have->function, vast_str("name_99"), have->type,
                                   NULL) == VAST_OK
-          && is_line(have, "FunctionAddLogic 93 \"name_97\" 1"));
+          && is_line(have, "FunctionAddLogic 95 \"name_99\" 1"));
     CHECK(vast_function_body(&have->file, have->function, &have->block) == VAST_OK
-          && is_line(have, "FunctionBody 93"));
+          && is_line(have, "FunctionBody 95"));
     CHECK(vast_function_result(&have->file, have->function, NULL) == VAST_OK
-          && is_line(have, "FunctionResult 93"));
+          && is_line(have, "FunctionResult 95"));
     CHECK(vast_add_always_ff(&have->file, have->module, have->expressions, 2, NULL) == VAST_OK
           && is_line(have, "AddAlwaysFf 2 [ 3 3 ]"));
     CHECK(vast_add_always_at(&have->file, have->module, have->expressions, 2, NULL) == VAST_OK
           && is_line(have, "AddAlwaysAt 2 [ 3 3 ]"));
-    CHECK(vast_add_always_comb(&have->file, have->module, NULL) == VAST_OK
-          && is_line(have, "AddAlwaysComb 2"));
-    CHECK(vast_statement_block(&have->file, have->always, NULL) == VAST_OK
-          && is_line(have, "StatementBlock 86"));
     return 0;
 }
 
 static int part_11(answers *have)
 {
+    CHECK(vast_add_always_comb(&have->file, have->module, NULL) == VAST_OK
+          && is_line(have, "AddAlwaysComb 2"));
+    CHECK(vast_statement_block(&have->file, have->always, NULL) == VAST_OK
+          && is_line(have, "StatementBlock 88"));
     CHECK(vast_block_add_blocking_assignment(&have->file, have->block,
                                              vast_expression_of(have->signal), have->expression,
                                              NULL) == VAST_OK
-          && is_line(have, "BlockAddBlockingAssignment 98 3 0"));
+          && is_line(have, "BlockAddBlockingAssignment 100 3 0"));
     CHECK(vast_block_add_nonblocking_assignment(&have->file, have->block,
                                                 vast_expression_of(have->signal), have->expression,
                                                 NULL) == VAST_OK
-          && is_line(have, "BlockAddNonblockingAssignment 98 3 0"));
+          && is_line(have, "BlockAddNonblockingAssignment 100 3 0"));
     CHECK(vast_block_add_continuous_assignment(&have->file, have->block,
                                                vast_expression_of(have->signal), have->expression,
                                                NULL) == VAST_OK
-          && is_line(have, "BlockAddContinuousAssignment 98 3 0"));
-    CHECK(vast_block_add_comment_text(&have->file, have->block, vast_str("text_107")) == VAST_OK
-          && is_line(have, "BlockAddCommentText 98 \"text_107\""));
-    CHECK(vast_block_add_inline_text(&have->file, have->block, vast_str("text_108")) == VAST_OK
-          && is_line(have, "BlockAddInlineText 98 \"text_108\""));
+          && is_line(have, "BlockAddContinuousAssignment 100 3 0"));
+    CHECK(vast_block_add_comment_text(&have->file, have->block, vast_str("text_109")) == VAST_OK
+          && is_line(have, "BlockAddCommentText 100 \"text_109\""));
+    CHECK(vast_block_add_inline_text(&have->file, have->block, vast_str("text_110")) == VAST_OK
+          && is_line(have, "BlockAddInlineText 100 \"text_110\""));
     CHECK(vast_block_add_blank_line(&have->file, have->block) == VAST_OK
-          && is_line(have, "BlockAddBlankLine 98"));
+          && is_line(have, "BlockAddBlankLine 100"));
     CHECK(vast_add_conditional(&have->file, have->module, vast_expression_of(have->signal),
                                NULL) == VAST_OK && is_line(have, "AddConditional 2 3"));
     CHECK(vast_block_add_cond(&have->file, have->block, vast_expression_of(have->signal),
-                              NULL) == VAST_OK && is_line(have, "BlockAddCond 98 3"));
-    CHECK(vast_conditional_then_block(&have->file, have->conditional, NULL) == VAST_OK
-          && is_line(have, "ConditionalThenBlock 91"));
-    CHECK(vast_conditional_add_else_if(&have->file, have->conditional,
-                                       vast_expression_of(have->signal), NULL) == VAST_OK
-          && is_line(have, "ConditionalAddElseIf 91 3"));
+                              NULL) == VAST_OK && is_line(have, "BlockAddCond 100 3"));
     return 0;
 }
 
 static int part_12(answers *have)
 {
+    CHECK(vast_conditional_then_block(&have->file, have->conditional, NULL) == VAST_OK
+          && is_line(have, "ConditionalThenBlock 93"));
+    CHECK(vast_conditional_add_else_if(&have->file, have->conditional,
+                                       vast_expression_of(have->signal), NULL) == VAST_OK
+          && is_line(have, "ConditionalAddElseIf 93 3"));
     CHECK(vast_conditional_add_else(&have->file, have->conditional, NULL) == VAST_OK
-          && is_line(have, "ConditionalAddElse 91"));
+          && is_line(have, "ConditionalAddElse 93"));
     CHECK(vast_block_add_case(&have->file, have->block, vast_expression_of(have->signal),
-                              &have->cases) == VAST_OK && is_line(have, "BlockAddCase 98 3"));
+                              &have->cases) == VAST_OK && is_line(have, "BlockAddCase 100 3"));
     CHECK(vast_block_add_casez(&have->file, have->block, vast_expression_of(have->signal),
-                               NULL) == VAST_OK && is_line(have, "BlockAddCasez 98 3"));
+                               NULL) == VAST_OK && is_line(have, "BlockAddCasez 100 3"));
     CHECK(vast_block_add_casex(&have->file, have->block, vast_expression_of(have->signal),
-                               NULL) == VAST_OK && is_line(have, "BlockAddCasex 98 3"));
+                               NULL) == VAST_OK && is_line(have, "BlockAddCasex 100 3"));
     CHECK(vast_case_add_item(&have->file, have->cases, vast_expression_of(have->signal),
-                             NULL) == VAST_OK && is_line(have, "CaseAddItem 115 3"));
+                             NULL) == VAST_OK && is_line(have, "CaseAddItem 117 3"));
     CHECK(vast_case_add_default(&have->file, have->cases, NULL) == VAST_OK
-          && is_line(have, "CaseAddDefault 115"));
+          && is_line(have, "CaseAddDefault 117"));
     CHECK(vast_case_set_unique(&have->file, have->cases, true) == VAST_OK
-          && is_line(have, "CaseSetUnique 115 true"));
-    CHECK(vast_make_def(&have->file, vast_str("name_121"), VAST_DATA_KIND_GENVAR, have->type,
+          && is_line(have, "CaseSetUnique 117 true"));
+    CHECK(vast_make_def(&have->file, vast_str("name_123"), VAST_DATA_KIND_GENVAR, have->type,
                         &have->definition) == VAST_OK
-          && is_line(have, "MakeDef \"name_121\" Genvar 1"));
-    CHECK(vast_add_parameter_with_def(&have->file, have->module, have->definition,
-                                      vast_expression_of(have->signal), NULL) == VAST_OK
-          && is_line(have, "AddParameterWithDef 2 121 3"));
-    CHECK(vast_add_typed_localparam(&have->file, have->module, have->definition,
-                                    vast_expression_of(have->signal), NULL) == VAST_OK
-          && is_line(have, "AddTypedLocalparam 2 121 3"));
+          && is_line(have, "MakeDef \"name_123\" Genvar 1"));
     return 0;
 }
 
 static int part_13(answers *have)
 {
+    CHECK(vast_add_parameter_with_def(&have->file, have->module, have->definition,
+                                      vast_expression_of(have->signal), NULL) == VAST_OK
+          && is_line(have, "AddParameterWithDef 2 123 3"));
+    CHECK(vast_add_typed_localparam(&have->file, have->module, have->definition,
+                                    vast_expression_of(have->signal), NULL) == VAST_OK
+          && is_line(have, "AddTypedLocalparam 2 123 3"));
     CHECK(vast_generate_add_typed_localparam(&have->file, have->loop, have->definition,
                                              vast_expression_of(have->signal), NULL) == VAST_OK
-          && is_line(have, "GenerateAddTypedLocalparam 83 121 3"));
+          && is_line(have, "GenerateAddTypedLocalparam 85 123 3"));
     CHECK(vast_make_blank_line(&have->file, &have->blank_line) == VAST_OK
           && is_line(have, "MakeBlankLine"));
     CHECK(vast_add_blank_line(&have->file, have->blank_line) == VAST_OK
-          && is_line(have, "AddBlankLine 125"));
-    CHECK(vast_make_comment(&have->file, vast_str("text_127"), &have->comment) == VAST_OK
-          && is_line(have, "MakeComment \"text_127\""));
+          && is_line(have, "AddBlankLine 127"));
+    CHECK(vast_make_comment(&have->file, vast_str("text_129"), &have->comment) == VAST_OK
+          && is_line(have, "MakeComment \"text_129\""));
     CHECK(vast_generate_add_comment(&have->file, have->loop, have->comment) == VAST_OK
-          && is_line(have, "GenerateAddComment 83 127"));
-    CHECK(vast_make_inline_verilog_statement(&have->file, vast_str("text_129"),
+          && is_line(have, "GenerateAddComment 85 129"));
+    CHECK(vast_make_inline_verilog_statement(&have->file, vast_str("text_131"),
                                              &have->inline_statement) == VAST_OK
-          && is_line(have, "MakeInlineVerilogStatement \"text_129\""));
+          && is_line(have, "MakeInlineVerilogStatement \"text_131\""));
     CHECK(vast_generate_add_inline_statement(&have->file, have->loop,
                                              have->inline_statement) == VAST_OK
-          && is_line(have, "GenerateAddInlineStatement 83 129"));
+          && is_line(have, "GenerateAddInlineStatement 85 131"));
     CHECK(vast_make_macro_statement(&have->file, have->macro, true,
                                     &have->macro_statement) == VAST_OK
           && is_line(have, "MakeMacroStatement 58 true"));
-    CHECK(vast_generate_add_macro_statement(&have->file, have->loop,
-                                            have->macro_statement) == VAST_OK
-          && is_line(have, "GenerateAddMacroStatement 83 131"));
-    CHECK(vast_make_continuous_assignment(&have->file, vast_expression_of(have->signal),
-                                          have->expression, &have->assignment) == VAST_OK
-          && is_line(have, "MakeContinuousAssignment 3 0"));
     return 0;
 }
 
 static int part_14(answers *have)
 {
+    CHECK(vast_generate_add_macro_statement(&have->file, have->loop,
+                                            have->macro_statement) == VAST_OK
+          && is_line(have, "GenerateAddMacroStatement 85 133"));
+    CHECK(vast_make_continuous_assignment(&have->file, vast_expression_of(have->signal),
+                                          have->expression, &have->assignment) == VAST_OK
+          && is_line(have, "MakeContinuousAssignment 3 0"));
     CHECK(vast_make_nonblocking_assignment(&have->file, vast_expression_of(have->signal),
                                            have->expression, NULL) == VAST_OK
           && is_line(have, "MakeNonblockingAssignment 3 0"));
     CHECK(vast_make_blocking_assignment(&have->file, vast_expression_of(have->signal),
                                         have->expression, NULL) == VAST_OK
           && is_line(have, "MakeBlockingAssignment 3 0"));
-    CHECK(vast_make_instantiation(&have->file, vast_str("module_name_136"),
-                                  vast_str("instance_name_136"), have->strings, 2,
+    CHECK(vast_make_instantiation(&have->file, vast_str("module_name_138"),
+                                  vast_str("instance_name_138"), have->strings, 2,
                                   have->expressions, 2, have->strings, 2, have->options, 2,
                                   &have->instantiation) == VAST_OK
-          && is_line(have, "MakeInstantiation \"module_name_136\" \"instance_name_136\" [ \"first\" \"second\" ] [ 3 3 ] [ \"first\" \"second\" ] [ + 3 - ]"));
+          && is_line(have, "MakeInstantiation \"module_name_138\" \"instance_name_138\" [ \"first\" \"second\" ] [ 3 3 ] [ \"first\" \"second\" ] [ + 3 - ]"));
     CHECK(vast_generate_add_instantiation(&have->file, have->loop, have->instantiation) == VAST_OK
-          && is_line(have, "GenerateAddInstantiation 83 136"));
+          && is_line(have, "GenerateAddInstantiation 85 138"));
     CHECK(vast_add_member_instantiation(&have->file, have->module, have->instantiation) == VAST_OK
-          && is_line(have, "AddMemberInstantiation 2 136"));
+          && is_line(have, "AddMemberInstantiation 2 138"));
     CHECK(vast_add_member_continuous_assignment(&have->file, have->module,
                                                 have->assignment) == VAST_OK
-          && is_line(have, "AddMemberContinuousAssignment 2 133"));
+          && is_line(have, "AddMemberContinuousAssignment 2 135"));
     CHECK(vast_add_member_blank_line(&have->file, have->module, have->blank_line) == VAST_OK
-          && is_line(have, "AddMemberBlankLine 2 125"));
+          && is_line(have, "AddMemberBlankLine 2 127"));
     CHECK(vast_add_member_comment(&have->file, have->module, have->comment) == VAST_OK
-          && is_line(have, "AddMemberComment 2 127"));
-    CHECK(vast_add_member_inline_statement(&have->file, have->module,
-                                           have->inline_statement) == VAST_OK
-          && is_line(have, "AddMemberInlineStatement 2 129"));
-    CHECK(vast_add_member_macro_statement(&have->file, have->module,
-                                          have->macro_statement) == VAST_OK
-          && is_line(have, "AddMemberMacroStatement 2 131"));
+          && is_line(have, "AddMemberComment 2 129"));
     return 0;
 }
 
 static int part_15(answers *have)
 {
+    CHECK(vast_add_member_inline_statement(&have->file, have->module,
+                                           have->inline_statement) == VAST_OK
+          && is_line(have, "AddMemberInlineStatement 2 131"));
+    CHECK(vast_add_member_macro_statement(&have->file, have->module,
+                                          have->macro_statement) == VAST_OK
+          && is_line(have, "AddMemberMacroStatement 2 133"));
     CHECK(vast_conditional_has_else(&have->file, have->conditional, &have->truth) == VAST_OK
-          && is_line(have, "?ConditionalHasElse 91"));
+          && is_line(have, "?ConditionalHasElse 93"));
     CHECK(vast_emit_expression(&have->file, vast_expression_of(have->signal),
                                &have->text) == VAST_OK && is_line(have, "?EmitExpression 3"));
     CHECK(vast_file_is_plain(&have->file, &have->truth) == VAST_OK
           && is_line(have, "?FileIsPlain"));
-    CHECK(vast_is_system_verilog_keyword(&have->file, vast_str("identifier_147"),
+    CHECK(vast_is_system_verilog_keyword(&have->file, vast_str("identifier_149"),
                                          &have->truth) == VAST_OK
-          && is_line(have, "?IsSystemVerilogKeyword \"identifier_147\""));
+          && is_line(have, "?IsSystemVerilogKeyword \"identifier_149\""));
     CHECK(vast_logic_ref_name(&have->file, have->signal, &have->text) == VAST_OK
           && is_line(have, "?LogicRefName 3"));
     CHECK(vast_module_input_ports(&have->file, have->module, &have->ports) == VAST_OK
@@ -514,18 +520,18 @@ static int part_15(answers *have)
           && is_line(have, "?ModuleMemberCount 2"));
     CHECK(vast_module_name(&have->file, have->module, &have->text) == VAST_OK
           && is_line(have, "?ModuleName 2"));
-    CHECK(vast_module_output_ports(&have->file, have->module, &have->ports) == VAST_OK
-          && is_line(have, "?ModuleOutputPorts 2"));
-    CHECK(vast_module_ports(&have->file, have->module, &have->ports) == VAST_OK
-          && is_line(have, "?ModulePorts 2"));
     return 0;
 }
 
 static int part_16(answers *have)
 {
-    CHECK(vast_name_is_free(&have->file, have->module, vast_str("name_154"),
+    CHECK(vast_module_output_ports(&have->file, have->module, &have->ports) == VAST_OK
+          && is_line(have, "?ModuleOutputPorts 2"));
+    CHECK(vast_module_ports(&have->file, have->module, &have->ports) == VAST_OK
+          && is_line(have, "?ModulePorts 2"));
+    CHECK(vast_name_is_free(&have->file, have->module, vast_str("name_156"),
                             &have->truth) == VAST_OK
-          && is_line(have, "?NameIsFree 2 \"name_154\""));
+          && is_line(have, "?NameIsFree 2 \"name_156\""));
     CHECK(vast_type_can_be_cast(&have->file, have->type, &have->truth) == VAST_OK
           && is_line(have, "?TypeCanBeCast 1"));
     CHECK(vast_type_can_be_packed(&have->file, have->type, &have->truth) == VAST_OK
@@ -540,19 +546,19 @@ static int part_16(answers *have)
           && is_line(have, "?TypeWidthExpr 1"));
     CHECK(vast_width_is_usable(&have->file, vast_expression_of(have->signal),
                                &have->truth) == VAST_OK && is_line(have, "?WidthIsUsable 3"));
-    CHECK(vast_add_registers(&have->file, vast_expression_of(have->signal), &have->reset,
-                             have->definitions, 2, vast_scope_of(have->loop)) == VAST_OK
-          && is_line(have, "!AddRegisters 3 + [ 3 true ] [ [ 3 0 + 3 - ] [ 3 0 - + 3 ] ] 83"));
-    CHECK(vast_bitwise_or_reduce(&have->file, have->expressions, 2, NULL) == VAST_OK
-          && is_line(have, "!BitwiseOrReduce [ 3 3 ]"));
     return 0;
 }
 
 static int part_17(answers *have)
 {
+    CHECK(vast_add_registers(&have->file, vast_expression_of(have->signal), &have->reset,
+                             have->definitions, 2, vast_scope_of(have->loop)) == VAST_OK
+          && is_line(have, "!AddRegisters 3 + [ 3 true ] [ [ 3 0 + 3 - ] [ 3 0 - + 3 ] ] 85"));
+    CHECK(vast_bitwise_or_reduce(&have->file, have->expressions, 2, NULL) == VAST_OK
+          && is_line(have, "!BitwiseOrReduce [ 3 3 ]"));
     CHECK(vast_bitwise_or_reduce_array_elements(&have->file, vast_indexable_of(have->memory),
                                                 have->integers, 1, NULL) == VAST_OK
-          && is_line(have, "!BitwiseOrReduceArrayElements 75 [ 2 ]"));
+          && is_line(have, "!BitwiseOrReduceArrayElements 77 [ 2 ]"));
     CHECK(vast_logical_and_reduce(&have->file, have->expressions, 2, true, NULL) == VAST_OK
           && is_line(have, "!LogicalAndReduce [ 3 3 ] true"));
     CHECK(vast_logical_or_reduce(&have->file, have->expressions, 2, true, NULL) == VAST_OK
@@ -571,7 +577,7 @@ int main(void)
     for (size_t part = 0; part < sizeof parts / sizeof parts[0]; part++)
         if (parts[part](&have))
             return 1;
-    CHECK(have.file.count == 149 && vast_emit(&have.file, &text) == VAST_OK);
+    CHECK(have.file.count == 151 && vast_emit(&have.file, &text) == VAST_OK);
     vast_file_close(&have.file);
     return 0;
 }

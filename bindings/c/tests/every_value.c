@@ -249,211 +249,215 @@ static int part_7(answers *have)
     CHECK(have->file.fault == VAST_OK && is_line(have, "MakePackedArrayType 1 [ 2 ]"));
     v_make_unpacked_array_type(&have->file, have->type, have->integers, 1);
     CHECK(have->file.fault == VAST_OK && is_line(have, "MakeUnpackedArrayType 1 [ 2 ]"));
+    v_make_packed_array_type_expr(&have->file, have->type, have->expressions, 2);
+    CHECK(have->file.fault == VAST_OK && is_line(have, "MakePackedArrayTypeExpr 1 [ 3 3 ]"));
+    v_make_unpacked_array_type_expr(&have->file, have->type, have->expressions, 2);
+    CHECK(have->file.fault == VAST_OK && is_line(have, "MakeUnpackedArrayTypeExpr 1 [ 3 3 ]"));
     v_add_include(&have->file, "defs.svh");
     CHECK(have->file.fault == VAST_OK && is_line(have, "AddInclude \"defs.svh\""));
-    v_add_comment_text(&have->file, "text_69");
-    CHECK(have->file.fault == VAST_OK && is_line(have, "AddCommentText \"text_69\""));
-    v_add_output(&have->file, have->module, "name_70", have->type);
-    CHECK(have->file.fault == VAST_OK && is_line(have, "AddOutput 2 \"name_70\" 1"));
-    v_add_inout(&have->file, have->module, "name_71", have->type);
-    CHECK(have->file.fault == VAST_OK && is_line(have, "AddInout 2 \"name_71\" 1"));
-    v_add_logic_input(&have->file, have->module, "name_72", have->type);
-    CHECK(have->file.fault == VAST_OK && is_line(have, "AddLogicInput 2 \"name_72\" 1"));
-    v_add_logic_output(&have->file, have->module, "name_73", have->type);
-    CHECK(have->file.fault == VAST_OK && is_line(have, "AddLogicOutput 2 \"name_73\" 1"));
+    v_add_comment_text(&have->file, "text_71");
+    CHECK(have->file.fault == VAST_OK && is_line(have, "AddCommentText \"text_71\""));
+    v_add_output(&have->file, have->module, "name_72", have->type);
+    CHECK(have->file.fault == VAST_OK && is_line(have, "AddOutput 2 \"name_72\" 1"));
+    v_add_inout(&have->file, have->module, "name_73", have->type);
+    CHECK(have->file.fault == VAST_OK && is_line(have, "AddInout 2 \"name_73\" 1"));
     return 0;
 }
 
 static int part_8(answers *have)
 {
-    v_add_wire(&have->file, have->module, "name_74", have->type);
-    CHECK(have->file.fault == VAST_OK && is_line(have, "AddWire 2 \"name_74\" 1"));
-    have->memory = v_add_reg(&have->file, have->module, "name_75", have->array);
-    CHECK(have->file.fault == VAST_OK && is_line(have, "AddReg 2 \"name_75\" 66"));
-    v_add_logic(&have->file, have->module, "name_76", have->type);
-    CHECK(have->file.fault == VAST_OK && is_line(have, "AddLogic 2 \"name_76\" 1"));
-    v_add_parameter_port(&have->file, have->module, "name_77", have->signal);
-    CHECK(have->file.fault == VAST_OK && is_line(have, "AddParameterPort 2 \"name_77\" 3"));
-    v_add_typed_parameter_port(&have->file, have->module, "name_78", have->type, have->signal);
-    CHECK(have->file.fault == VAST_OK && is_line(have, "AddTypedParameterPort 2 \"name_78\" 1 3"));
-    have->parameter = v_add_parameter(&have->file, have->module, "name_79", have->signal);
-    CHECK(have->file.fault == VAST_OK && is_line(have, "AddParameter 2 \"name_79\" 3"));
-    have->localparam = v_add_localparam(&have->file, have->module, "name_80", have->signal);
-    CHECK(have->file.fault == VAST_OK && is_line(have, "AddLocalparam 2 \"name_80\" 3"));
-    v_add_int_localparam(&have->file, have->module, "name_81", have->signal);
-    CHECK(have->file.fault == VAST_OK && is_line(have, "AddIntLocalparam 2 \"name_81\" 3"));
-    v_hoist_module_declarations(&have->file, have->module, 0);
-    CHECK(have->file.fault == VAST_OK && is_line(have, "HoistModuleDeclarations 2 0"));
-    have->loop = v_add_generate_loop(&have->file, have->module, "name_83", have->signal,
-                                     have->expression, "label");
-    CHECK(have->file.fault == VAST_OK && is_line(have, "AddGenerateLoop 2 \"name_83\" 3 0 + \"label\""));
+    v_add_logic_input(&have->file, have->module, "name_74", have->type);
+    CHECK(have->file.fault == VAST_OK && is_line(have, "AddLogicInput 2 \"name_74\" 1"));
+    v_add_logic_output(&have->file, have->module, "name_75", have->type);
+    CHECK(have->file.fault == VAST_OK && is_line(have, "AddLogicOutput 2 \"name_75\" 1"));
+    v_add_wire(&have->file, have->module, "name_76", have->type);
+    CHECK(have->file.fault == VAST_OK && is_line(have, "AddWire 2 \"name_76\" 1"));
+    have->memory = v_add_reg(&have->file, have->module, "name_77", have->array);
+    CHECK(have->file.fault == VAST_OK && is_line(have, "AddReg 2 \"name_77\" 66"));
+    v_add_logic(&have->file, have->module, "name_78", have->type);
+    CHECK(have->file.fault == VAST_OK && is_line(have, "AddLogic 2 \"name_78\" 1"));
+    v_add_parameter_port(&have->file, have->module, "name_79", have->signal);
+    CHECK(have->file.fault == VAST_OK && is_line(have, "AddParameterPort 2 \"name_79\" 3"));
+    v_add_typed_parameter_port(&have->file, have->module, "name_80", have->type, have->signal);
+    CHECK(have->file.fault == VAST_OK && is_line(have, "AddTypedParameterPort 2 \"name_80\" 1 3"));
+    have->parameter = v_add_parameter(&have->file, have->module, "name_81", have->signal);
+    CHECK(have->file.fault == VAST_OK && is_line(have, "AddParameter 2 \"name_81\" 3"));
+    have->localparam = v_add_localparam(&have->file, have->module, "name_82", have->signal);
+    CHECK(have->file.fault == VAST_OK && is_line(have, "AddLocalparam 2 \"name_82\" 3"));
+    v_add_int_localparam(&have->file, have->module, "name_83", have->signal);
+    CHECK(have->file.fault == VAST_OK && is_line(have, "AddIntLocalparam 2 \"name_83\" 3"));
     return 0;
 }
 
 static int part_9(answers *have)
 {
-    v_generate_add_generate_loop(&have->file, have->loop, "name_84", have->signal, have->expression,
+    v_hoist_module_declarations(&have->file, have->module, 0);
+    CHECK(have->file.fault == VAST_OK && is_line(have, "HoistModuleDeclarations 2 0"));
+    have->loop = v_add_generate_loop(&have->file, have->module, "name_85", have->signal,
+                                     have->expression, "label");
+    CHECK(have->file.fault == VAST_OK && is_line(have, "AddGenerateLoop 2 \"name_85\" 3 0 + \"label\""));
+    v_generate_add_generate_loop(&have->file, have->loop, "name_86", have->signal, have->expression,
                                  "label");
-    CHECK(have->file.fault == VAST_OK && is_line(have, "GenerateAddGenerateLoop 83 \"name_84\" 3 0 + \"label\""));
+    CHECK(have->file.fault == VAST_OK && is_line(have, "GenerateAddGenerateLoop 85 \"name_86\" 3 0 + \"label\""));
     v_generate_genvar(&have->file, have->loop);
-    CHECK(have->file.fault == VAST_OK && is_line(have, "GenerateGenvar 83"));
+    CHECK(have->file.fault == VAST_OK && is_line(have, "GenerateGenvar 85"));
     have->always = v_generate_add_always_comb(&have->file, have->loop);
-    CHECK(have->file.fault == VAST_OK && is_line(have, "GenerateAddAlwaysComb 83"));
+    CHECK(have->file.fault == VAST_OK && is_line(have, "GenerateAddAlwaysComb 85"));
     v_generate_add_always_ff(&have->file, have->loop, have->expressions, 2);
-    CHECK(have->file.fault == VAST_OK && is_line(have, "GenerateAddAlwaysFf 83 [ 3 3 ]"));
+    CHECK(have->file.fault == VAST_OK && is_line(have, "GenerateAddAlwaysFf 85 [ 3 3 ]"));
     v_generate_add_always_at(&have->file, have->loop, have->expressions, 2);
-    CHECK(have->file.fault == VAST_OK && is_line(have, "GenerateAddAlwaysAt 83 [ 3 3 ]"));
-    v_generate_add_localparam(&have->file, have->loop, "name_89", have->signal);
-    CHECK(have->file.fault == VAST_OK && is_line(have, "GenerateAddLocalparam 83 \"name_89\" 3"));
+    CHECK(have->file.fault == VAST_OK && is_line(have, "GenerateAddAlwaysAt 85 [ 3 3 ]"));
+    v_generate_add_localparam(&have->file, have->loop, "name_91", have->signal);
+    CHECK(have->file.fault == VAST_OK && is_line(have, "GenerateAddLocalparam 85 \"name_91\" 3"));
     have->statement = v_generate_add_continuous_assignment(&have->file, have->loop, have->signal,
                                                            have->expression);
-    CHECK(have->file.fault == VAST_OK && is_line(have, "GenerateAddContinuousAssignment 83 3 0"));
+    CHECK(have->file.fault == VAST_OK && is_line(have, "GenerateAddContinuousAssignment 85 3 0"));
     have->conditional = v_generate_add_conditional(&have->file, have->loop, have->signal);
-    CHECK(have->file.fault == VAST_OK && is_line(have, "GenerateAddConditional 83 3"));
-    v_generate_add_blank_line(&have->file, have->loop);
-    CHECK(have->file.fault == VAST_OK && is_line(have, "GenerateAddBlankLine 83"));
-    have->function = v_add_function(&have->file, have->module, "name_93", have->type);
-    CHECK(have->file.fault == VAST_OK && is_line(have, "AddFunction 2 \"name_93\" 1"));
+    CHECK(have->file.fault == VAST_OK && is_line(have, "GenerateAddConditional 85 3"));
     return 0;
 }
 
 static int part_10(answers *have)
 {
-    v_function_add_input(&have->file, have->function, "name_94", have->type);
-    CHECK(have->file.fault == VAST_OK && is_line(have, "FunctionAddInput 93 \"name_94\" 1"));
-    v_function_add_logic_input(&have->file, have->function, "name_95", have->type);
-    CHECK(have->file.fault == VAST_OK && is_line(have, "FunctionAddLogicInput 93 \"name_95\" 1"));
-    v_function_add_reg(&have->file, have->function, "name_96", have->type);
-    CHECK(have->file.fault == VAST_OK && is_line(have, "FunctionAddReg 93 \"name_96\" 1"));
-    v_function_add_logic(&have->file, have->function, "name_97", have->type);
-    CHECK(have->file.fault == VAST_OK && is_line(have, "FunctionAddLogic 93 \"name_97\" 1"));
+    v_generate_add_blank_line(&have->file, have->loop);
+    CHECK(have->file.fault == VAST_OK && is_line(have, "GenerateAddBlankLine 85"));
+    have->function = v_add_function(&have->file, have->module, "name_95", have->type);
+    CHECK(have->file.fault == VAST_OK && is_line(have, "AddFunction 2 \"name_95\" 1"));
+    v_function_add_input(&have->file, have->function, "name_96", have->type);
+    CHECK(have->file.fault == VAST_OK && is_line(have, "FunctionAddInput 95 \"name_96\" 1"));
+    v_function_add_logic_input(&have->file, have->function, "name_97", have->type);
+    CHECK(have->file.fault == VAST_OK && is_line(have, "FunctionAddLogicInput 95 \"name_97\" 1"));
+    v_function_add_reg(&have->file, have->function, "name_98", have->type);
+    CHECK(have->file.fault == VAST_OK && is_line(have, "FunctionAddReg 95 \"name_98\" 1"));
+    v_function_add_logic(&have->file, have->function, "name_99", have->type);
+    CHECK(have->file.fault == VAST_OK && is_line(have, "FunctionAddLogic 95 \"name_99\" 1"));
     have->block = v_function_body(&have->file, have->function);
-    CHECK(have->file.fault == VAST_OK && is_line(have, "FunctionBody 93"));
+    CHECK(have->file.fault == VAST_OK && is_line(have, "FunctionBody 95"));
     v_function_result(&have->file, have->function);
-    CHECK(have->file.fault == VAST_OK && is_line(have, "FunctionResult 93"));
+    CHECK(have->file.fault == VAST_OK && is_line(have, "FunctionResult 95"));
     v_add_always_ff(&have->file, have->module, have->expressions, 2);
     CHECK(have->file.fault == VAST_OK && is_line(have, "AddAlwaysFf 2 [ 3 3 ]"));
     v_add_always_at(&have->file, have->module, have->expressions, 2);
     CHECK(have->file.fault == VAST_OK && is_line(have, "AddAlwaysAt 2 [ 3 3 ]"));
-    v_add_always_comb(&have->file, have->module);
-    CHECK(have->file.fault == VAST_OK && is_line(have, "AddAlwaysComb 2"));
-    v_statement_block(&have->file, have->always);
-    CHECK(have->file.fault == VAST_OK && is_line(have, "StatementBlock 86"));
     return 0;
 }
 
 static int part_11(answers *have)
 {
+    v_add_always_comb(&have->file, have->module);
+    CHECK(have->file.fault == VAST_OK && is_line(have, "AddAlwaysComb 2"));
+    v_statement_block(&have->file, have->always);
+    CHECK(have->file.fault == VAST_OK && is_line(have, "StatementBlock 88"));
     v_block_add_blocking_assignment(&have->file, have->block, have->signal, have->expression);
-    CHECK(have->file.fault == VAST_OK && is_line(have, "BlockAddBlockingAssignment 98 3 0"));
+    CHECK(have->file.fault == VAST_OK && is_line(have, "BlockAddBlockingAssignment 100 3 0"));
     v_block_add_nonblocking_assignment(&have->file, have->block, have->signal, have->expression);
-    CHECK(have->file.fault == VAST_OK && is_line(have, "BlockAddNonblockingAssignment 98 3 0"));
+    CHECK(have->file.fault == VAST_OK && is_line(have, "BlockAddNonblockingAssignment 100 3 0"));
     v_block_add_continuous_assignment(&have->file, have->block, have->signal, have->expression);
-    CHECK(have->file.fault == VAST_OK && is_line(have, "BlockAddContinuousAssignment 98 3 0"));
-    v_block_add_comment_text(&have->file, have->block, "text_107");
-    CHECK(have->file.fault == VAST_OK && is_line(have, "BlockAddCommentText 98 \"text_107\""));
-    v_block_add_inline_text(&have->file, have->block, "text_108");
-    CHECK(have->file.fault == VAST_OK && is_line(have, "BlockAddInlineText 98 \"text_108\""));
+    CHECK(have->file.fault == VAST_OK && is_line(have, "BlockAddContinuousAssignment 100 3 0"));
+    v_block_add_comment_text(&have->file, have->block, "text_109");
+    CHECK(have->file.fault == VAST_OK && is_line(have, "BlockAddCommentText 100 \"text_109\""));
+    v_block_add_inline_text(&have->file, have->block, "text_110");
+    CHECK(have->file.fault == VAST_OK && is_line(have, "BlockAddInlineText 100 \"text_110\""));
     v_block_add_blank_line(&have->file, have->block);
-    CHECK(have->file.fault == VAST_OK && is_line(have, "BlockAddBlankLine 98"));
+    CHECK(have->file.fault == VAST_OK && is_line(have, "BlockAddBlankLine 100"));
     v_add_conditional(&have->file, have->module, have->signal);
     CHECK(have->file.fault == VAST_OK && is_line(have, "AddConditional 2 3"));
     v_block_add_cond(&have->file, have->block, have->signal);
-    CHECK(have->file.fault == VAST_OK && is_line(have, "BlockAddCond 98 3"));
-    v_conditional_then_block(&have->file, have->conditional);
-    CHECK(have->file.fault == VAST_OK && is_line(have, "ConditionalThenBlock 91"));
-    v_conditional_add_else_if(&have->file, have->conditional, have->signal);
-    CHECK(have->file.fault == VAST_OK && is_line(have, "ConditionalAddElseIf 91 3"));
+    CHECK(have->file.fault == VAST_OK && is_line(have, "BlockAddCond 100 3"));
     return 0;
 }
 
 static int part_12(answers *have)
 {
+    v_conditional_then_block(&have->file, have->conditional);
+    CHECK(have->file.fault == VAST_OK && is_line(have, "ConditionalThenBlock 93"));
+    v_conditional_add_else_if(&have->file, have->conditional, have->signal);
+    CHECK(have->file.fault == VAST_OK && is_line(have, "ConditionalAddElseIf 93 3"));
     v_conditional_add_else(&have->file, have->conditional);
-    CHECK(have->file.fault == VAST_OK && is_line(have, "ConditionalAddElse 91"));
+    CHECK(have->file.fault == VAST_OK && is_line(have, "ConditionalAddElse 93"));
     have->cases = v_block_add_case(&have->file, have->block, have->signal);
-    CHECK(have->file.fault == VAST_OK && is_line(have, "BlockAddCase 98 3"));
+    CHECK(have->file.fault == VAST_OK && is_line(have, "BlockAddCase 100 3"));
     v_block_add_casez(&have->file, have->block, have->signal);
-    CHECK(have->file.fault == VAST_OK && is_line(have, "BlockAddCasez 98 3"));
+    CHECK(have->file.fault == VAST_OK && is_line(have, "BlockAddCasez 100 3"));
     v_block_add_casex(&have->file, have->block, have->signal);
-    CHECK(have->file.fault == VAST_OK && is_line(have, "BlockAddCasex 98 3"));
+    CHECK(have->file.fault == VAST_OK && is_line(have, "BlockAddCasex 100 3"));
     v_case_add_item(&have->file, have->cases, have->signal);
-    CHECK(have->file.fault == VAST_OK && is_line(have, "CaseAddItem 115 3"));
+    CHECK(have->file.fault == VAST_OK && is_line(have, "CaseAddItem 117 3"));
     v_case_add_default(&have->file, have->cases);
-    CHECK(have->file.fault == VAST_OK && is_line(have, "CaseAddDefault 115"));
+    CHECK(have->file.fault == VAST_OK && is_line(have, "CaseAddDefault 117"));
     v_case_set_unique(&have->file, have->cases, true);
-    CHECK(have->file.fault == VAST_OK && is_line(have, "CaseSetUnique 115 true"));
-    have->definition = v_make_def(&have->file, "name_121", VAST_DATA_KIND_GENVAR, have->type);
-    CHECK(have->file.fault == VAST_OK && is_line(have, "MakeDef \"name_121\" Genvar 1"));
-    v_add_parameter_with_def(&have->file, have->module, have->definition, have->signal);
-    CHECK(have->file.fault == VAST_OK && is_line(have, "AddParameterWithDef 2 121 3"));
-    v_add_typed_localparam(&have->file, have->module, have->definition, have->signal);
-    CHECK(have->file.fault == VAST_OK && is_line(have, "AddTypedLocalparam 2 121 3"));
+    CHECK(have->file.fault == VAST_OK && is_line(have, "CaseSetUnique 117 true"));
+    have->definition = v_make_def(&have->file, "name_123", VAST_DATA_KIND_GENVAR, have->type);
+    CHECK(have->file.fault == VAST_OK && is_line(have, "MakeDef \"name_123\" Genvar 1"));
     return 0;
 }
 
 static int part_13(answers *have)
 {
+    v_add_parameter_with_def(&have->file, have->module, have->definition, have->signal);
+    CHECK(have->file.fault == VAST_OK && is_line(have, "AddParameterWithDef 2 123 3"));
+    v_add_typed_localparam(&have->file, have->module, have->definition, have->signal);
+    CHECK(have->file.fault == VAST_OK && is_line(have, "AddTypedLocalparam 2 123 3"));
     v_generate_add_typed_localparam(&have->file, have->loop, have->definition, have->signal);
-    CHECK(have->file.fault == VAST_OK && is_line(have, "GenerateAddTypedLocalparam 83 121 3"));
+    CHECK(have->file.fault == VAST_OK && is_line(have, "GenerateAddTypedLocalparam 85 123 3"));
     have->blank_line = v_make_blank_line(&have->file);
     CHECK(have->file.fault == VAST_OK && is_line(have, "MakeBlankLine"));
     v_add_blank_line(&have->file, have->blank_line);
-    CHECK(have->file.fault == VAST_OK && is_line(have, "AddBlankLine 125"));
-    have->comment = v_make_comment(&have->file, "text_127");
-    CHECK(have->file.fault == VAST_OK && is_line(have, "MakeComment \"text_127\""));
+    CHECK(have->file.fault == VAST_OK && is_line(have, "AddBlankLine 127"));
+    have->comment = v_make_comment(&have->file, "text_129");
+    CHECK(have->file.fault == VAST_OK && is_line(have, "MakeComment \"text_129\""));
     v_generate_add_comment(&have->file, have->loop, have->comment);
-    CHECK(have->file.fault == VAST_OK && is_line(have, "GenerateAddComment 83 127"));
-    have->inline_statement = v_make_inline_verilog_statement(&have->file, "text_129");
-    CHECK(have->file.fault == VAST_OK && is_line(have, "MakeInlineVerilogStatement \"text_129\""));
+    CHECK(have->file.fault == VAST_OK && is_line(have, "GenerateAddComment 85 129"));
+    have->inline_statement = v_make_inline_verilog_statement(&have->file, "text_131");
+    CHECK(have->file.fault == VAST_OK && is_line(have, "MakeInlineVerilogStatement \"text_131\""));
     v_generate_add_inline_statement(&have->file, have->loop, have->inline_statement);
-    CHECK(have->file.fault == VAST_OK && is_line(have, "GenerateAddInlineStatement 83 129"));
+    CHECK(have->file.fault == VAST_OK && is_line(have, "GenerateAddInlineStatement 85 131"));
     have->macro_statement = v_make_macro_statement(&have->file, have->macro, true);
     CHECK(have->file.fault == VAST_OK && is_line(have, "MakeMacroStatement 58 true"));
-    v_generate_add_macro_statement(&have->file, have->loop, have->macro_statement);
-    CHECK(have->file.fault == VAST_OK && is_line(have, "GenerateAddMacroStatement 83 131"));
-    have->assignment = v_make_continuous_assignment(&have->file, have->signal, have->expression);
-    CHECK(have->file.fault == VAST_OK && is_line(have, "MakeContinuousAssignment 3 0"));
     return 0;
 }
 
 static int part_14(answers *have)
 {
+    v_generate_add_macro_statement(&have->file, have->loop, have->macro_statement);
+    CHECK(have->file.fault == VAST_OK && is_line(have, "GenerateAddMacroStatement 85 133"));
+    have->assignment = v_make_continuous_assignment(&have->file, have->signal, have->expression);
+    CHECK(have->file.fault == VAST_OK && is_line(have, "MakeContinuousAssignment 3 0"));
     v_make_nonblocking_assignment(&have->file, have->signal, have->expression);
     CHECK(have->file.fault == VAST_OK && is_line(have, "MakeNonblockingAssignment 3 0"));
     v_make_blocking_assignment(&have->file, have->signal, have->expression);
     CHECK(have->file.fault == VAST_OK && is_line(have, "MakeBlockingAssignment 3 0"));
-    have->instantiation = v_make_instantiation(&have->file, "module_name_136", "instance_name_136",
+    have->instantiation = v_make_instantiation(&have->file, "module_name_138", "instance_name_138",
                                                have->strings, 2, have->expressions, 2,
                                                have->strings, 2, have->options, 2);
-    CHECK(have->file.fault == VAST_OK && is_line(have, "MakeInstantiation \"module_name_136\" \"instance_name_136\" [ \"first\" \"second\" ] [ 3 3 ] [ \"first\" \"second\" ] [ + 3 - ]"));
+    CHECK(have->file.fault == VAST_OK && is_line(have, "MakeInstantiation \"module_name_138\" \"instance_name_138\" [ \"first\" \"second\" ] [ 3 3 ] [ \"first\" \"second\" ] [ + 3 - ]"));
     v_generate_add_instantiation(&have->file, have->loop, have->instantiation);
-    CHECK(have->file.fault == VAST_OK && is_line(have, "GenerateAddInstantiation 83 136"));
+    CHECK(have->file.fault == VAST_OK && is_line(have, "GenerateAddInstantiation 85 138"));
     v_add_member_instantiation(&have->file, have->module, have->instantiation);
-    CHECK(have->file.fault == VAST_OK && is_line(have, "AddMemberInstantiation 2 136"));
+    CHECK(have->file.fault == VAST_OK && is_line(have, "AddMemberInstantiation 2 138"));
     v_add_member_continuous_assignment(&have->file, have->module, have->assignment);
-    CHECK(have->file.fault == VAST_OK && is_line(have, "AddMemberContinuousAssignment 2 133"));
+    CHECK(have->file.fault == VAST_OK && is_line(have, "AddMemberContinuousAssignment 2 135"));
     v_add_member_blank_line(&have->file, have->module, have->blank_line);
-    CHECK(have->file.fault == VAST_OK && is_line(have, "AddMemberBlankLine 2 125"));
+    CHECK(have->file.fault == VAST_OK && is_line(have, "AddMemberBlankLine 2 127"));
     v_add_member_comment(&have->file, have->module, have->comment);
-    CHECK(have->file.fault == VAST_OK && is_line(have, "AddMemberComment 2 127"));
-    v_add_member_inline_statement(&have->file, have->module, have->inline_statement);
-    CHECK(have->file.fault == VAST_OK && is_line(have, "AddMemberInlineStatement 2 129"));
-    v_add_member_macro_statement(&have->file, have->module, have->macro_statement);
-    CHECK(have->file.fault == VAST_OK && is_line(have, "AddMemberMacroStatement 2 131"));
+    CHECK(have->file.fault == VAST_OK && is_line(have, "AddMemberComment 2 129"));
     return 0;
 }
 
 static int part_15(answers *have)
 {
+    v_add_member_inline_statement(&have->file, have->module, have->inline_statement);
+    CHECK(have->file.fault == VAST_OK && is_line(have, "AddMemberInlineStatement 2 131"));
+    v_add_member_macro_statement(&have->file, have->module, have->macro_statement);
+    CHECK(have->file.fault == VAST_OK && is_line(have, "AddMemberMacroStatement 2 133"));
     have->truth = v_conditional_has_else(&have->file, have->conditional);
-    CHECK(have->file.fault == VAST_OK && is_line(have, "?ConditionalHasElse 91"));
+    CHECK(have->file.fault == VAST_OK && is_line(have, "?ConditionalHasElse 93"));
     have->text = v_emit_expression(&have->file, have->signal);
     CHECK(have->file.fault == VAST_OK && is_line(have, "?EmitExpression 3"));
     have->truth = v_file_is_plain(&have->file);
     CHECK(have->file.fault == VAST_OK && is_line(have, "?FileIsPlain"));
-    have->truth = v_is_system_verilog_keyword(&have->file, "identifier_147");
-    CHECK(have->file.fault == VAST_OK && is_line(have, "?IsSystemVerilogKeyword \"identifier_147\""));
+    have->truth = v_is_system_verilog_keyword(&have->file, "identifier_149");
+    CHECK(have->file.fault == VAST_OK && is_line(have, "?IsSystemVerilogKeyword \"identifier_149\""));
     have->text = v_logic_ref_name(&have->file, have->signal);
     CHECK(have->file.fault == VAST_OK && is_line(have, "?LogicRefName 3"));
     have->ports = v_module_input_ports(&have->file, have->module);
@@ -462,17 +466,17 @@ static int part_15(answers *have)
     CHECK(have->file.fault == VAST_OK && is_line(have, "?ModuleMemberCount 2"));
     have->text = v_module_name(&have->file, have->module);
     CHECK(have->file.fault == VAST_OK && is_line(have, "?ModuleName 2"));
-    have->ports = v_module_output_ports(&have->file, have->module);
-    CHECK(have->file.fault == VAST_OK && is_line(have, "?ModuleOutputPorts 2"));
-    have->ports = v_module_ports(&have->file, have->module);
-    CHECK(have->file.fault == VAST_OK && is_line(have, "?ModulePorts 2"));
     return 0;
 }
 
 static int part_16(answers *have)
 {
-    have->truth = v_name_is_free(&have->file, have->module, "name_154");
-    CHECK(have->file.fault == VAST_OK && is_line(have, "?NameIsFree 2 \"name_154\""));
+    have->ports = v_module_output_ports(&have->file, have->module);
+    CHECK(have->file.fault == VAST_OK && is_line(have, "?ModuleOutputPorts 2"));
+    have->ports = v_module_ports(&have->file, have->module);
+    CHECK(have->file.fault == VAST_OK && is_line(have, "?ModulePorts 2"));
+    have->truth = v_name_is_free(&have->file, have->module, "name_156");
+    CHECK(have->file.fault == VAST_OK && is_line(have, "?NameIsFree 2 \"name_156\""));
     have->truth = v_type_can_be_cast(&have->file, have->type);
     CHECK(have->file.fault == VAST_OK && is_line(have, "?TypeCanBeCast 1"));
     have->truth = v_type_can_be_packed(&have->file, have->type);
@@ -487,17 +491,17 @@ static int part_16(answers *have)
     CHECK(have->file.fault == VAST_OK && is_line(have, "?TypeWidthExpr 1"));
     have->truth = v_width_is_usable(&have->file, have->signal);
     CHECK(have->file.fault == VAST_OK && is_line(have, "?WidthIsUsable 3"));
-    v_add_registers(&have->file, have->signal, &have->reset, have->definitions, 2, have->loop);
-    CHECK(have->file.fault == VAST_OK && is_line(have, "!AddRegisters 3 + [ 3 true ] [ [ 3 0 + 3 - ] [ 3 0 - + 3 ] ] 83"));
-    v_bitwise_or_reduce(&have->file, have->expressions, 2);
-    CHECK(have->file.fault == VAST_OK && is_line(have, "!BitwiseOrReduce [ 3 3 ]"));
     return 0;
 }
 
 static int part_17(answers *have)
 {
+    v_add_registers(&have->file, have->signal, &have->reset, have->definitions, 2, have->loop);
+    CHECK(have->file.fault == VAST_OK && is_line(have, "!AddRegisters 3 + [ 3 true ] [ [ 3 0 + 3 - ] [ 3 0 - + 3 ] ] 85"));
+    v_bitwise_or_reduce(&have->file, have->expressions, 2);
+    CHECK(have->file.fault == VAST_OK && is_line(have, "!BitwiseOrReduce [ 3 3 ]"));
     v_bitwise_or_reduce_array_elements(&have->file, have->memory, have->integers, 1);
-    CHECK(have->file.fault == VAST_OK && is_line(have, "!BitwiseOrReduceArrayElements 75 [ 2 ]"));
+    CHECK(have->file.fault == VAST_OK && is_line(have, "!BitwiseOrReduceArrayElements 77 [ 2 ]"));
     v_logical_and_reduce(&have->file, have->expressions, 2, true);
     CHECK(have->file.fault == VAST_OK && is_line(have, "!LogicalAndReduce [ 3 3 ] true"));
     v_logical_or_reduce(&have->file, have->expressions, 2, true);
@@ -516,7 +520,7 @@ int main(void)
     for (size_t part = 0; part < sizeof parts / sizeof parts[0]; part++)
         if (parts[part](&have))
             return 1;
-    CHECK(have.file.count == 149 && vast_emit(&have.file, &text) == VAST_OK);
+    CHECK(have.file.count == 151 && vast_emit(&have.file, &text) == VAST_OK);
     vast_file_close(&have.file);
     return 0;
 }

@@ -29,6 +29,8 @@ pub(crate) fn data_type_step(
         (21, "MakeBitVectorTypeExpr") => arguments.two(TypeStep::MakeBitVectorTypeExpr),
         (19, "MakePackedArrayType") => arguments.two(TypeStep::MakePackedArrayType),
         (21, "MakeUnpackedArrayType") => arguments.two(TypeStep::MakeUnpackedArrayType),
+        (23, "MakePackedArrayTypeExpr") => arguments.two(TypeStep::MakePackedArrayTypeExpr),
+        (25, "MakeUnpackedArrayTypeExpr") => arguments.two(TypeStep::MakeUnpackedArrayTypeExpr),
         _ => return None,
     })
 }
