@@ -50,7 +50,7 @@ array-over ds es all count whole split each rest some same large =
     ≤ℤ_trans _ _ _ large (rw (array-step ds es all count (product ds *ℤ count) whole split each rest some same refl) at more)
 
 -- At the end nothing is left.
-array-end : (all : List ℤ) (count whole : ℤ) → pos 1 ≤ℤ count → all ≡ [] → product all *ℤ count ≡ whole → count ≡ whole
+pub array-end : (all : List ℤ) (count whole : ℤ) → pos 1 ≤ℤ count → all ≡ [] → product all *ℤ count ≡ whole → count ≡ whole
 array-end all count whole some none same = sym (one-times count some) ∙ (ap (λ (xs : List ℤ). product xs *ℤ count) (sym none) ∙ same)
 
 counted-is : (t : TypeTree) (bits count : ℤ) → unknown_dimension t ≡ NoExpr → base_bits (base_of t) ≡ Some bits → count ≡ product (dimensions_of t) *ℤ bits → bit_count t ≡ Some count

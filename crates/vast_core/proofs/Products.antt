@@ -96,10 +96,10 @@ pub values-length : (b : Nodes) (ds : List Dimension) → length (size_values (s
 values-length b [] = refl
 values-length b (d ∷ ds) = ap suc (values-length b ds)
 
-pub value-at : (b : Nodes) (ds : List Dimension) (i : ℕ) (d : Dimension) → i < length ds → d ≡ get_or ds i d → value_or_one (literal_value (size_in b d)) ≡ get_or (size_values (sizes_in b ds)) i (pos 0)
-value-at b [] i d below is = absurd (omega arith)
-value-at b (x ∷ ds) zero d below is = ap (λ (y : Dimension). value_or_one (literal_value (size_in b y))) is
-value-at b (x ∷ ds) (suc i) d below is = value-at b ds i d (omega arith) is
+pub value-at : (b : Nodes) (ds : List Dimension) (i : ℕ) (d : Dimension) → i < length ds → value_or_one (literal_value (size_in b (get_or ds i d))) ≡ get_or (size_values (sizes_in b ds)) i (pos 0)
+value-at b [] i d below = absurd (omega arith)
+value-at b (x ∷ ds) zero d below = refl
+value-at b (x ∷ ds) (suc i) d below = value-at b ds i d (omega arith)
 
 pub dimensions-positive : (t : TypeTree) → TypeWellFormed t → All (λ d. pos 1 ≤ℤ d) (dimensions_of t)
 dimensions-positive (PackedTree element ds) h = All-append (λ d. pos 1 ≤ℤ d) (size_values ds) (dimensions_of element) (sizes-positive ds h.0.1) (dimensions-positive element h.1)

@@ -1,5 +1,5 @@
 -- Beside `specs/BitCount.antt`: what private contracts and proofs say, and no public one.
-use Rattle.std.specs.Prelude.{◌≡◌, ◌≤ℤ◌, ◌<◌, pos, ℤ, IsTrue, List, [], ◌++◌, All}
+use Rattle.std.specs.Prelude.{◌≡◌, ◌≤ℤ◌, ◌<◌, pos, IsTrue, List, [], ◌++◌, All}
 use Rattle.vast_literal.specs.Tree.{TypeTree, NoExpr}
 use Rattle.vast_core.specs.Handles.{VastDataType, type_rank}
 use Rattle.vast_core.specs.Types.{is_castable}

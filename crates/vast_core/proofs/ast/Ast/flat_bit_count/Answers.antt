@@ -12,20 +12,20 @@ returns-in_default-multiplied-clause-refused c =
     let t = type_of b c.args.data_type in
     let bits : to_z w64 (of_z w64 c.in_ok-bits.bits) ≡ c.in_ok-bits.bits = search rules in
     let known : unknown_dimension t ≡ NoExpr = search rules in
-    let a = c.in-Some.ensures.some in
+    let a = c.in-Some-array.ensures.some in
     exceeded t c.in_ok-bits.bits _ known c.in_ok-bits.ensures.counted (ap (λ (n : ℤ). product (dimensions_of t) *ℤ n) bits)
-    (array-over (size_values (sizes_of b c.in-Some.dimensions.now)) (dimensions_of (type_of b c.in-Some.element)) (dimensions_of (type_of b c.loop-array.array)) _ _ a.all a.each a.rest
+    (array-over (size_values (sizes_of b c.in-Some-array.dimensions.now)) (dimensions_of (type_of b c.in-Some-array.element)) (dimensions_of (type_of b c.loop-array.array)) _ _ a.all a.each a.rest
     c.loop-array.invariant.some c.loop-array.invariant.same c.in_default-multiplied.ensures.none)
 
 pub loop-array-preserved : goal.loop-array-preserved
 loop-array-preserved c =
     let b = bench c.args.self.now in
     let total : to_z w64 (of_z w64 c.in-Some-multiplied.total) ≡ c.in-Some-multiplied.total = search rules in
-    let a = c.in-Some.ensures.some in
+    let a = c.in-Some-array.ensures.some in
     rw total (record {
       owned = a.owned;
       some = c.in-Some-multiplied.ensures.positive;
-      same = array-step (size_values (sizes_of b c.in-Some.dimensions.now)) (dimensions_of (type_of b c.in-Some.element)) (dimensions_of (type_of b c.loop-array.array)) _ _ _ a.all a.each a.rest
+      same = array-step (size_values (sizes_of b c.in-Some-array.dimensions.now)) (dimensions_of (type_of b c.in-Some-array.element)) (dimensions_of (type_of b c.loop-array.array)) _ _ _ a.all a.each a.rest
           c.loop-array.invariant.some c.loop-array.invariant.same c.in-Some-multiplied.ensures.some;
     })
 
@@ -35,5 +35,5 @@ returns-clause-counted c =
     let t = type_of b c.args.data_type in
     let bits : to_z w64 (of_z w64 c.in_ok-bits.bits) ≡ c.in_ok-bits.bits = search rules in
     let known : unknown_dimension t ≡ NoExpr = search rules in
-    counted t (dimensions_of (type_of b c.loop-array.array)) c.in_ok-bits.bits _ known c.in_ok-bits.ensures.counted c.loop-array.invariant.some c.in_default.ensures.none.all
+    counted t (dimensions_of (type_of b c.loop-array.array)) c.in_ok-bits.bits _ known c.in_ok-bits.ensures.counted c.loop-array.invariant.some c.in_default-array.ensures.none.all
     (c.loop-array.invariant.same ∙ ap (λ (n : ℤ). product (dimensions_of t) *ℤ n) bits)
