@@ -27,9 +27,9 @@ use Rattle.vast_literal.proofs.LiteralLaws.{literal_reads}
 use Rattle.vast_literal.proofs.NumberLaws.{signed_text}
 use Rattle.vast_literal.proofs.Words.{key_reads, name_reads, number_reads, double_colon}
 use Rattle.vast_literal.specs.Shape.{literal_value, base_of, packed_dimensions, unpacked_dimensions, highest_index_wraps}
-use Rattle.vast_print.specs.Printed.{Printed, plain_text, ◌⊕◌, gapped, spaced, wrapped}
+use Rattle.vast_print.specs.Printed.{Printed, plain_text, ◌⊕◌, gapped, spaced}
 use Rattle.vast_print.specs.Text.{package_text, expr_text}
-use Rattle.vast_print.specs.Declaration.{packed_range, packed_text, unpacked_range, unpacked_text, highest_index_text, signed_word, unsigned_word, with_dimensions, based_text, type_text, name_text, kind_word, declaration_text}
+use Rattle.vast_print.specs.Declaration.{packed_text, unpacked_range, unpacked_text, highest_index_text, signed_word, unsigned_word, with_dimensions, based_text, type_text, name_text, kind_word, declaration_text}
 use Rattle.vast_print.proofs.ExprOpens.{literal_opens, wrapped_opens, front, opens_text}
 use Rattle.vast_print.proofs.ExprReads.{expr_reads}
 use Rattle.vast_print.proofs.TextReads.{Prints, Rest, nothing_reads, rest_none, printed_assoc, leftward, regrouped, stands, after, after_free, enclosing, parted, goes_on, bracketed}

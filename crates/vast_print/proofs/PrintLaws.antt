@@ -2,7 +2,7 @@
 use Rattle.std.proofs.Common.{◌≡◌, ◌<◌, ℕ, ℤ, Bool, true, false, List, [], ◌∷◌, length, refl, ◌∙◌, ap, codes, arith, Option}
 use Rattle.vast_literal.specs.Tree.{ExprTree, Exprs, TypeTree, ScalarTree, VectorTree, IntegerTree, IntTree, ExternalTree, PackageTree, PackedTree, UnpackedTree}
 use Rattle.vast_literal.specs.Shape.{joined, base_of, packed_dimensions}
-use Rattle.vast_core.specs.Nodes.{Dimension}
+use Rattle.vast_core.specs.declared.node.Dimension.{Dimension}
 use Rattle.vast_core.specs.Bench.{Bench, sizes_of}
 use Rattle.vast_print.specs.Printed.{plain_text, spaced}
 use Rattle.vast_print.specs.Page.{written}

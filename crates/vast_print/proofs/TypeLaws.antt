@@ -1,11 +1,11 @@
 -- Laws of the dimensions of arrays.
-use Rattle.std.proofs.Common.{◌≡◌, ℕ, ℤ, refl, sym, ◌∙◌, ap, codes, Option}
+use Rattle.std.proofs.Common.{◌≡◌, ℕ, ℤ, sym, ◌∙◌, ap, codes, Option}
 use Rattle.std.specs.Fmt.{signed_decimal}
 use Rattle.vast_literal.specs.Tree.{ExprTree, LiteralTree, Exprs, NoExprs, MoreExprs}
 use Rattle.vast_literal.specs.Shape.{literal_value, joined}
 use Rattle.vast_literal.specs.declared.kind.VastFileType.{VastFileType as Dialect}
 use Rattle.vast_literal.specs.declared.kind.VastFileType.TheVariants.{Verilog as VerilogDialect, SystemVerilog as SystemVerilogDialect}
-use Rattle.vast_print.specs.Printed.{Printed, plain_text, ◌⊕◌}
+use Rattle.vast_print.specs.Printed.{Printed, ◌⊕◌}
 use Rattle.vast_print.specs.Page.{written}
 use Rattle.vast_print.specs.Output.{Output, word, inline}
 use Rattle.vast_print.specs.Text.{expr_text}
