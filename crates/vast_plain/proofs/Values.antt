@@ -23,12 +23,12 @@ weight-append b [] ys = omega arith
 weight-append b (x ∷ xs) ys = omega (arith, weight-append b xs ys)
 
 -- a dimension that begins to wait
-pub dimension-waits : (d rest waiting : Bool) → ((d && rest) && waiting) ≡ (rest && ((d && true) && waiting))
+pub dimension-waits : (d rest waiting : Bool) → ((d && rest) && waiting) ≡ (rest && (d && waiting))
 dimension-waits true rest waiting = refl
 dimension-waits false true waiting = refl
 dimension-waits false false waiting = refl
 
-pub ruleset dimensions = (values-append, weight-append, dimension-waits, drop_more, drop_all)
+pub ruleset dimensions = (dimension-waits, drop_more, drop_all)
 
 pub ruleset waits = (values-append, weight-append)
 

@@ -1,18 +1,46 @@
 //! Types and declarations. Arrays of arrays are walked to what they are made of.
 
 ghost use Rattle.std.specs.Prelude.{◌≡◌, ◌+◌, ◌≤◌, ◌&&◌, All, OnOk};
-ghost use Rattle.vast_literal.specs.Plain.{are_plain, is_plain_type};
+ghost use Rattle.vast_literal.specs.Plain.{are_plain, is_plain, is_plain_type};
 ghost use Rattle.vast_literal.specs.PlainFile.{is_plain_declaration};
-ghost use Rattle.vast_core.specs.Bench.{OwnsExpr, OwnsType, OwnsDimension, trees_of, type_of, sizes_of};
+ghost use Rattle.vast_core.specs.Bench.{OwnsExpr, OwnsType, OwnsDimension, trees_of, type_of, size_of, sizes_of};
 ghost use Rattle.vast_core.specs.View.{bench};
-ghost use Rattle.vast_plain.specs.Internal.Values.{Answers, Begins, exprs_weight, type_weight};
+ghost use Rattle.vast_plain.specs.Internal.Values.{Answers, Begins, expr_weight, exprs_weight, type_weight};
 
 use crate::expression::{are_plain_values, wait};
 use crate::names::is_plain_name;
 use std::alloc::AllocError;
 use vast_core::{Ast, Dimension, Expr, TypeNode, VastDataType};
 
-/// Lets the expressions of dimensions wait. A number is always plain.
+/// Lets a dimension wait. A number is always plain.
+#[tactic(auto, using(crate::proofs::Values::heads))]
+fn wait_dimension(
+    ast: &Ast,
+    dimension: Dimension,
+    waiting: &mut Vec<Expr>,
+) -> Result<(), AllocError>
+    requires dimension { OwnsDimension (bench ast.now) dimension }
+    requires owned { All (OwnsExpr (bench ast.now)) waiting.old.items }
+    ensures plain { OnOk result
+        (are_plain (trees_of (bench ast.now) waiting.new.items)
+        ≡ (is_plain (size_of (bench ast.now) dimension)
+        && are_plain (trees_of (bench ast.now) waiting.old.items))) }
+    ensures weight { OnOk result
+        (exprs_weight (trees_of (bench ast.now) waiting.new.items)
+        ≤ exprs_weight (trees_of (bench ast.now) waiting.old.items)
+        + expr_weight (size_of (bench ast.now) dimension)) }
+    ensures owned { OnOk result (All (OwnsExpr (bench ast.now)) waiting.new.items) }
+{
+    match dimension {
+        Dimension::Count(_) => Ok(()),
+        Dimension::Size(size) => {
+            waiting.push(size)?;
+            Ok(())
+        }
+    }
+}
+
+/// Lets dimensions wait.
 #[tactic(auto, using(crate::proofs::Values::dimensions))]
 fn wait_dimensions(
     ast: &Ast,
@@ -32,9 +60,7 @@ fn wait_dimensions(
     ensures owned { OnOk result (All (OwnsExpr (bench ast.now)) waiting.new.items) }
 {
     for dimension in dimensions {
-        if let Dimension::Size(size) = dimension {
-            waiting.push(*size)?;
-        }
+        wait_dimension(ast, *dimension, waiting)?;
     }
     Ok(())
 }
