@@ -1,12 +1,14 @@
 -- Dimensions of arrays: those that are made, and the test of those that are expressions.
-use Rattle.std.proofs.Common.{◌≡◌, ℕ, ℤ, pos, ◌<◌, Bool, true, false, IsTrue, List, [], ◌∷◌, map, length, All, refl, sym, ap, ◌∙◌, arith}
+use Rattle.std.proofs.Common.{◌≡◌, ℤ, zero, suc, pos, negsuc, Bool, true, false, IsTrue, List, [], ◌∷◌, map, length, All, Bor, refl, ap, arith}
 use Rattle.std.specs.Prelude.{◌≤ℤ◌, ◌&&◌, ◌==◌, Option, Some, None, IfSome}
+use Rattle.std.proofs.lemmas.Int.{ints}
+use Rattle.std.proofs.lemmas.Bool.{eqb-true}
 use Rattle.std.proofs.lemmas.List.{drop_more, drop_all}
-use Rattle.vast_literal.specs.Tree.{ExprTree, Exprs, NoExprs, MoreExprs}
+use Rattle.vast_literal.specs.Tree.{Exprs, NoExprs, MoreExprs}
 use Rattle.vast_literal.specs.Shape.{literal_value}
 use Rattle.vast_core.specs.declared.handle.Expr.{Expr}
 use Rattle.vast_core.specs.declared.node.Dimension.TheVariants.{Count, Size}
-use Rattle.vast_core.specs.Nodes.{Nodes, exprs_in, sizes_in, SizeHolds}
+use Rattle.vast_core.specs.Nodes.{Nodes, expr_in, exprs_in, sizes_in, SizeHolds}
 use Rattle.vast_core.specs.Types.{AreDimensions, EachUsable, AreSizes}
 use Rattle.vast_core.specs.Growth.{counts}
 use Rattle.vast_core.proofs.Lists.{All-head, All-tail, All-cons}
@@ -32,23 +34,21 @@ counts-usable (d ∷ ds) h = each-count (d ∷ ds) h.each
 
 -- Dimensions that are expressions.
 
-pub sizes-in : (b : Nodes) (es : List Expr) → sizes_in b (map Size es) ≡ exprs_in b es
+pub sizes-in : (b : Nodes) (es : List (Bor Expr)) → sizes_in b (map (λ e. Size e.now) es) ≡ exprs_in b (map (λ e. e.now) es)
 sizes-in b [] = refl
-sizes-in b (e ∷ es) = rw (sizes-in b es) refl
+sizes-in b (e ∷ es) = ap (λ sizes. MoreExprs (expr_in b e.now) sizes) (sizes-in b es)
 
-pub sizes-hold : {A : Type 0} (P : Expr → Type 0) (f : A → Expr) (xs : List A) → All (λ x. P (f x)) xs → All (SizeHolds P) (map Size (map f xs))
-sizes-hold P f [] h = λ k d below. absurd (omega arith)
-sizes-hold P f (x ∷ xs) h = All-cons (SizeHolds P) (Size (f x)) (map Size (map f xs)) (All-head (λ x. P (f x)) x xs h) (sizes-hold P f xs (All-tail (λ x. P (f x)) x xs h))
-
-pub sizes-mapped : {A : Type 0} (f : A → Expr) (xs : List A) → map (λ x. Size (f x)) xs ≡ map Size (map f xs)
-sizes-mapped f [] = refl
-sizes-mapped f (x ∷ xs) = rw (sizes-mapped f xs) refl
+pub sizes-hold : (P : Expr → Type 0) (es : List (Bor Expr)) → All (λ e. P e.now) es → All (SizeHolds P) (map (λ e. Size e.now) es)
+sizes-hold P [] h = λ k d below. absurd (omega arith)
+sizes-hold P (e ∷ es) h = All-cons (SizeHolds P) (Size e.now) (map (λ e. Size e.now) es) (All-head (λ x. P x.now) e es h) (sizes-hold P es (All-tail (λ x. P x.now) e es h))
 
 -- The test.
 
 value-usable : (value : Option ℤ) → IsTrue (is_usable_value value) → IfSome value (λ v. pos 1 ≤ℤ v)
 value-usable None h = tt
-value-usable (Some v) h = cc h
+value-usable (Some (pos zero)) h = absurd cc
+value-usable (Some (pos (suc n))) h = omega (arith, ints)
+value-usable (Some (negsuc n)) h = absurd cc
 
 both : (a b : Bool) → IsTrue (a && b) → IsTrue a × IsTrue b
 both true b h = (refl, h)
@@ -66,11 +66,11 @@ usable-meant (MoreExprs size sizes) h = each-usable (MoreExprs size sizes) h
 pub usable-none : {A : Type 0} (b : Nodes) (f : A → Expr) (xs : List A) → (length xs == 0) ≡ true → are_usable_dimensions (exprs_in b (map f xs)) ≡ false
 unfolding are_usable_dimensions
 usable-none b f [] h = refl
-usable-none b f (x ∷ xs) h = absurd cc
+usable-none b f (x ∷ xs) h = let zero : length (x ∷ xs) ≡ 0 = eqb-true _ _ h in absurd (omega arith)
 
 pub usable-some : {A : Type 0} (b : Nodes) (f : A → Expr) (xs : List A) → (length xs == 0) ≡ false → are_usable_dimensions (exprs_in b (map f xs)) ≡ each_usable (exprs_in b (map f xs))
 unfolding are_usable_dimensions
 usable-some b f [] h = absurd cc
 usable-some b f (x ∷ xs) h = refl
 
-pub ruleset dimensions = (counts-in, counts-hold, counts-usable, sizes-in, sizes-hold, sizes-mapped, usable-meant, usable-none, usable-some, drop_more, drop_all)
+pub ruleset dimensions = (counts-in, counts-hold, counts-usable, sizes-in, sizes-hold, usable-meant, usable-none, usable-some, drop_more, drop_all)

@@ -5,7 +5,7 @@ ghost use Rattle.vast_literal.specs.Tree.{ScalarTree, IntegerTree, IntTree, Exte
 ghost use Rattle.vast_core.specs.Types.{IsUsableWidth, is_packable, is_castable, is_signed, width_of, AreDimensions, AreSizes};
 ghost use Rattle.vast_literal.specs.Shape.{literal_value};
 ghost use Rattle.vast_core.specs.declared.node.Dimension.TheVariants.{Count, Size};
-ghost use Rattle.vast_core.specs.Bench.{OwnsExpr, OwnsType, tree_of, trees_of, maybe_tree_of, type_of};
+ghost use Rattle.vast_core.specs.Bench.{OwnsExpr, OwnsType, OwnsDimension, tree_of, trees_of, maybe_tree_of, type_of, sizes_of};
 ghost use Rattle.vast_core.specs.Growth.{Builds, counts, next_type, with_type};
 ghost use Rattle.xlsynth_vast.specs.Keeps.{Keeps};
 ghost use Rattle.xlsynth_vast.specs.Conditions.{is_usable_width, each_usable, are_usable_dimensions};
@@ -15,9 +15,27 @@ ghost use Rattle.xlsynth_vast.specs.Widths.{declared_width, flat_bits};
 
 use crate::file::VastFile;
 use crate::refusals::{count_exceeds, no_declared_width, no_known_width, no_literal};
-use std::alloc::AllocError;
+use std::alloc::{AllocError, Global};
 use vast_core::{BitCountFault, Dimension, Expr, PackageName, TypeNode, VastDataType, WidthFault};
 use vast_literal::VastFault;
+
+fn counts_of(dimensions: &[i64], alloc: Global) -> Result<Vec<Dimension>, AllocError>
+    ensures { IfOk result (λ made. made.items ≡ map Count dimensions.now) }
+{
+    dimensions
+        .iter()
+        .map(|count| Dimension::Count(*count))
+        .collect(alloc)
+}
+
+fn sizes_of(dimensions: &[&Expr], alloc: Global) -> Result<Vec<Dimension>, AllocError>
+    ensures { IfOk result (λ made. made.items ≡ map (λ e. Size e.now) dimensions.now) }
+{
+    dimensions
+        .iter()
+        .map(|size| Dimension::Size(**size))
+        .collect(alloc)
+}
 
 impl VastFile {
     /// The type of one bit.
@@ -217,25 +235,26 @@ impl VastFile {
     }
 
     /// Dimensions that are numbers.
+    #[tactic(auto, using(crate::proofs::Dimensions::dimensions))]
     fn counted(&self, dimensions: &[i64]) -> Result<Vec<Dimension>, AllocError>
-        ensures { IfOk result (λ made. made.items ≡ map Count dimensions.now) }
+        ensures sizes { IfOk result
+            (λ made. sizes_of self.now made.items ≡ counts dimensions.now) }
+        ensures owned { IfOk result (λ made. All (OwnsDimension self.now) made.items) }
     {
-        dimensions
-            .iter()
-            .map(|count| Dimension::Count(*count))
-            .collect(self.ast.allocator())
+        let made = counts_of(dimensions, self.ast.allocator())?;
+        Ok(made)
     }
 
     /// Dimensions that are expressions.
     #[tactic(auto, using(crate::proofs::Dimensions::dimensions))]
     fn sized(&self, dimensions: &[&Expr]) -> Result<Vec<Dimension>, AllocError>
-        ensures { IfOk result
-            (λ made. made.items ≡ map Size (map (λ e. e.now) dimensions.now)) }
+        requires { All (λ e. OwnsExpr self.now e.now) dimensions.now }
+        ensures sizes { IfOk result (λ made. sizes_of self.now made.items
+            ≡ trees_of self.now (map (λ e. e.now) dimensions.now)) }
+        ensures owned { IfOk result (λ made. All (OwnsDimension self.now) made.items) }
     {
-        dimensions
-            .iter()
-            .map(|size| Dimension::Size(**size))
-            .collect(self.ast.allocator())
+        let made = sizes_of(dimensions, self.ast.allocator())?;
+        Ok(made)
     }
 
     #[tactic(auto, using(crate::proofs::Dimensions::dimensions))]
