@@ -113,7 +113,14 @@ static OF_LENGTH: [&[u16]; 32] = [
 pub(crate) fn number_of(name: &str) -> Option<usize>
     ensures { IfSome result (λ number. IsNumberOf number name.now) }
 {
-    for number in *OF_LENGTH.get(name.len())? {
+    number_among(OF_LENGTH.get(name.len())?, name)
+}
+
+/// The number of the call of the name, if it is one of these.
+fn number_among(numbers: &[u16], name: &str) -> Option<usize>
+    ensures { IfSome result (λ number. IsNumberOf number name.now) }
+{
+    for number in numbers {
         let number = usize::from(*number);
         match row_numbered(number) {
             Some(row) if row.name() == name => return Some(number),
