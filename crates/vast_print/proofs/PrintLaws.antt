@@ -10,7 +10,7 @@ use Rattle.vast_print.specs.Output.{Output, word, inline}
 use Rattle.vast_print.specs.Declaration.{packed_text, based_text, type_text, signed_word, unsigned_word, highest_index_text}
 use Rattle.vast_print.specs.Internal.Words.{has_text, has_dimension, signed_opening, unsigned_opening}
 use Rattle.vast_print.specs.Text.{package_text}
-use Rattle.vast_print.proofs.OutputLaws.{inline-word, inline-then, inline-empty, inline-stopped}
+use Rattle.vast_print.proofs.OutputLaws.{inline-word, inline-then, inline-stopped}
 use Rattle.vast_print.proofs.Lines.{word-word, word-stopped}
 use Rattle.vast_print.proofs.NumberLaws.{inline-number}
 use Rattle.vast_print.proofs.DeclarationLaws.{inline-with-dimensions, spaced-then, spaced-package, package_then, inline-signed-word, inline-unsigned-word, inline-spaced, inline-spaced-none, inline-spaced-packed, inline-spaced-unpacked, inline-highest-value, inline-highest-index}

@@ -1,5 +1,7 @@
 //! Conditions of calls in words, by asking for each again.
 
+ghost use Rattle.vast_core.specs.Bench.{OwnsExpr};
+
 use crate::explain::conditions::modules::{module_condition, statement_condition};
 use std::alloc::AllocError;
 use vast_script::{Answer, ArtifactStep, ExpressionStep, Step, TypeStep, one};
@@ -89,7 +91,9 @@ fn width_condition(
 }
 
 /// The expression is printed where it has a text.
-fn unusable(file: &VastFile, noun: &str, width: &Expr) -> Result<String, AllocError> {
+fn unusable(file: &VastFile, noun: &str, width: &Expr) -> Result<String, AllocError>
+    requires { OwnsExpr file.now width.now }
+{
     let alloc = file.allocator();
     match file.emit_expression(width) {
         Ok(text) => format!(in alloc;
