@@ -18,6 +18,8 @@ CONDITIONS = {
     "add_wire": "module wires must have unique names",
     "make_bit_vector_type": "bit-vector width must be greater than zero",
     "make_bit_vector_type_expr": "bit-vector width must be greater than zero",
+    "make_packed_array_type_expr": "a packed array has elements that can be packed, and dimensions of which none is below 1",
+    "make_unpacked_array_type_expr": "an array has dimensions, of which none is below 1",
     "make_slice": "bit and part-select indices must be nonnegative",
     "make_index": "bit and part-select indices must be nonnegative",
     "make_indexed_part_select": "indexed part-select width must be positive",
@@ -70,6 +72,8 @@ WIDTHS = {
     "make_bit_vector_type_expr": "Width::Expression(width_step)",
     "make_packed_array_type": "Width::Element(element_step)",
     "make_unpacked_array_type": "Width::Element(element_step)",
+    "make_packed_array_type_expr": "Width::Element(element_step)",
+    "make_unpacked_array_type_expr": "Width::Element(element_step)",
 }
 
 # Calls that answer a handle of the block which they are given, as the original's do.

@@ -338,6 +338,22 @@ pub fn make(file: &mut VastFile, answers: &Answers, line: &Line) -> Result<Answe
                 file.make_unpacked_array_type(element, &dimensions),
             ))
         }
+        "MakePackedArrayTypeExpr" => {
+            let element = answers.handle(&words[0])?;
+            let dimensions: Vec<Expr> = answers.handles(&words[1])?;
+            let dimensions: Vec<&Expr> = dimensions.iter().collect();
+            Ok(Answer::VastDataType(
+                file.make_packed_array_type_expr(element, &dimensions),
+            ))
+        }
+        "MakeUnpackedArrayTypeExpr" => {
+            let element = answers.handle(&words[0])?;
+            let dimensions: Vec<Expr> = answers.handles(&words[1])?;
+            let dimensions: Vec<&Expr> = dimensions.iter().collect();
+            Ok(Answer::VastDataType(
+                file.make_unpacked_array_type_expr(element, &dimensions),
+            ))
+        }
         "AddInclude" => {
             let include = words[0].text();
             file.add_include(include);
