@@ -6,9 +6,9 @@ use Rattle.vast_core.specs.Handles.{VastDataType, type_rank}
 use Rattle.vast_core.specs.Types.{TypeWellFormed}
 use Rattle.vast_literal.specs.Shape.{base_of}
 use Rattle.vast_core.specs.Nodes.{Dimension}
-use Rattle.vast_core.specs.Bench.{Bench, OwnsType, OwnsDimension, type_of, sizes_of}
+use Rattle.vast_core.specs.Bench.{Bench, OwnsType, OwnsDimension, type_of}
 use Rattle.vast_core.specs.BitCount.{product, dimensions_of, base_bits, unknown_dimension, bit_count, Exceeds}
-use Rattle.vast_core.specs.Internal.BitCount.{IsArrayOf}
+use Rattle.vast_core.specs.Internal.BitCount.{IsArrayOf, sizes_of}
 use Rattle.vast_core.proofs.Products.{product-positive, product-append, regroup, one-times, at-least, positive-product, ≤ℤ_trans, sizes-positive, dimensions-positive}
 
 pub packed-array :

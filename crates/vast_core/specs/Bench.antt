@@ -3,7 +3,7 @@ use Rattle.std.specs.Prelude.{ℕ, Bool, true, false, List, [], length, nat_lt, 
 use Rattle.vast_literal.specs.Tree.{ExprTree, TypeTree, MaybeExpr, Exprs}
 use Rattle.vast_core.specs.Handles.{Expr, IndexableExpr, Index, Slice, LogicRef, ParameterRef, LocalparamRef, MacroRef, VastDataType, VastModule, VastFunction, ModulePort, Instantiation, Def, BlankLine, Comment, InlineVerilogStatement, MacroStatement, ContinuousAssignment, VastStatement, VastAlwaysBase, VastStatementBlock, Conditional, CaseStatement, GenerateLoop}
 use Rattle.vast_literal.specs.declared.kind.VastFileType.{VastFileType}
-use Rattle.vast_core.specs.Nodes.{Nodes, no_nodes, IsOwned, is_expr_root, is_type_root, is_root_of, is_name, is_index, is_slice, is_macro, expr_in, type_in, maybe_expr_in, exprs_in, Dimension, size_in, sizes_in, SizeHolds}
+use Rattle.vast_core.specs.Nodes.{Nodes, no_nodes, IsOwned, is_expr_root, is_type_root, is_root_of, is_name, is_index, is_slice, is_macro, expr_in, type_in, maybe_expr_in, exprs_in, Dimension, size_in, SizeHolds}
 use Rattle.vast_core.specs.Types.{ExprWellFormed, TypeWellFormed}
 use Rattle.vast_core.specs.Records.{Assignment, Port, ModuleRecord, Definition, Artifact, BlankArtifact, CommentArtifact, InlineArtifact, MacroArtifact, InstanceRecord, FileItem, IsFree}
 use Rattle.vast_core.specs.Nests.{NestRecord, FunctionRecord, AlwaysRecord, nest_kind, is_kind, BlockKind, ConditionalKind, CaseStatementKind, LoopKind}
@@ -45,9 +45,6 @@ trees_of b es = exprs_in b.nodes es
 
 abbrev pub size_of : Bench → Dimension → ExprTree
 size_of b d = size_in b.nodes d
-
-abbrev pub sizes_of : Bench → List Dimension → Exprs
-sizes_of b ds = sizes_in b.nodes ds
 
 -- Which handles are the file's: the id is the file's, and the index names a node of the handle's kind.
 

@@ -3,7 +3,8 @@
 ghost use Rattle.std.specs.Prelude.{◌≡◌, ◌+◌, ◌≤◌, ◌&&◌, All, OnOk};
 ghost use Rattle.vast_literal.specs.Plain.{are_plain, is_plain, is_plain_type};
 ghost use Rattle.vast_literal.specs.PlainFile.{is_plain_declaration};
-ghost use Rattle.vast_core.specs.Bench.{OwnsExpr, OwnsType, OwnsDimension, trees_of, type_of, size_of, sizes_of};
+ghost use Rattle.vast_core.specs.Bench.{OwnsExpr, OwnsType, OwnsDimension, trees_of, type_of, size_of};
+ghost use Rattle.vast_core.specs.Internal.BitCount.{sizes_of};
 ghost use Rattle.vast_core.specs.View.{bench};
 ghost use Rattle.vast_plain.specs.Internal.Values.{Answers, Begins, expr_weight, exprs_weight, type_weight};
 

@@ -15,7 +15,8 @@ use Rattle.vast_print.specs.Output.{Output, word, inline, inline_lines, indented
 use Rattle.vast_print.specs.Text.{expr_text, package_text}
 use Rattle.vast_print.specs.Declaration.{packed_text, unpacked_text, highest_index_text, signed_word, unsigned_word, with_dimensions, type_text, name_text, kind_word, declaration_text, port_declaration_text}
 use Rattle.vast_print.specs.Layout.{port_text, parameter_port_text, direction_word}
-use Rattle.vast_print.specs.Internal.Words.{has_text, has_dimension, kind_opening, signed_opening, unsigned_opening}
+use Rattle.vast_print.specs.Internal.Words.{has_dimension, kind_opening, signed_opening, unsigned_opening}
+use Rattle.vast_print.proofs.NumberLaws.{has_text}
 use Rattle.vast_print.proofs.OutputLaws.{inline-then, inline-empty, inline-word}
 
 -- the kind word, the type and the name

@@ -3,16 +3,17 @@ use Rattle.std.proofs.Common.{◌≡◌, ◌<◌, ℕ, ℤ, Bool, true, false, L
 use Rattle.vast_literal.specs.Tree.{ExprTree, Exprs, TypeTree, ScalarTree, VectorTree, IntegerTree, IntTree, ExternalTree, PackageTree, PackedTree, UnpackedTree}
 use Rattle.vast_literal.specs.Shape.{joined, base_of, packed_dimensions}
 use Rattle.vast_core.specs.declared.node.Dimension.{Dimension}
-use Rattle.vast_core.specs.Bench.{Bench, sizes_of}
+use Rattle.vast_core.specs.Bench.{Bench}
+use Rattle.vast_core.specs.Internal.BitCount.{sizes_of}
 use Rattle.vast_print.specs.Printed.{plain_text, spaced}
 use Rattle.vast_print.specs.Page.{written}
 use Rattle.vast_print.specs.Output.{Output, word, inline}
 use Rattle.vast_print.specs.Declaration.{packed_text, based_text, type_text, signed_word, unsigned_word, highest_index_text}
-use Rattle.vast_print.specs.Internal.Words.{has_text, has_dimension, signed_opening, unsigned_opening}
+use Rattle.vast_print.specs.Internal.Words.{has_dimension, signed_opening, unsigned_opening}
 use Rattle.vast_print.specs.Text.{package_text}
 use Rattle.vast_print.proofs.OutputLaws.{inline-word, inline-then, inline-stopped}
 use Rattle.vast_print.proofs.Lines.{word-word, word-stopped}
-use Rattle.vast_print.proofs.NumberLaws.{inline-number}
+use Rattle.vast_print.proofs.NumberLaws.{has_text, inline-number}
 use Rattle.vast_print.proofs.DeclarationLaws.{inline-with-dimensions, spaced-then, spaced-package, package_then, inline-signed-word, inline-unsigned-word, inline-spaced, inline-spaced-none, inline-spaced-packed, inline-spaced-unpacked, inline-highest-value, inline-highest-index}
 use Rattle.vast_print.proofs.TypeLaws.{inline-no-packed, inline-packed-joined, inline-no-unpacked, inline-unpacked-joined, inline-verilog-range, inline-system-range, inline-packed, inline-unpacked, inline-count}
 use Rattle.vast_print.proofs.Left.{left}

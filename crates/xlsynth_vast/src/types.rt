@@ -5,7 +5,8 @@ ghost use Rattle.vast_literal.specs.Tree.{ScalarTree, IntegerTree, IntTree, Exte
 ghost use Rattle.vast_core.specs.Types.{IsUsableWidth, is_packable, is_castable, is_signed, width_of, AreDimensions, AreSizes};
 ghost use Rattle.vast_literal.specs.Shape.{literal_value};
 ghost use Rattle.vast_core.specs.declared.node.Dimension.TheVariants.{Count, Size};
-ghost use Rattle.vast_core.specs.Bench.{OwnsExpr, OwnsType, OwnsDimension, tree_of, trees_of, maybe_tree_of, type_of, sizes_of};
+ghost use Rattle.vast_core.specs.Bench.{OwnsExpr, OwnsType, OwnsDimension, tree_of, trees_of, maybe_tree_of, type_of};
+ghost use Rattle.vast_core.specs.Internal.BitCount.{sizes_of};
 ghost use Rattle.vast_core.specs.Growth.{Builds, counts, next_type, with_type};
 ghost use Rattle.xlsynth_vast.specs.Keeps.{Keeps};
 ghost use Rattle.xlsynth_vast.specs.Conditions.{is_usable_width, each_usable, are_usable_dimensions};

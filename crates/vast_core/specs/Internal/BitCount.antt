@@ -1,12 +1,16 @@
 -- Beside `specs/BitCount.antt`: what private contracts and proofs say, and no public one.
 use Rattle.std.specs.Prelude.{◌≡◌, ◌≤ℤ◌, ◌<◌, pos, IsTrue, List, [], ◌++◌, All}
-use Rattle.vast_literal.specs.Tree.{TypeTree, NoExpr}
+use Rattle.vast_literal.specs.Tree.{TypeTree, NoExpr, Exprs}
 use Rattle.vast_core.specs.Handles.{VastDataType, type_rank}
 use Rattle.vast_core.specs.Types.{is_castable}
 use Rattle.vast_literal.specs.Shape.{base_of}
-use Rattle.vast_core.specs.Nodes.{Dimension}
-use Rattle.vast_core.specs.Bench.{Bench, OwnsType, OwnsDimension, type_of, sizes_of}
+use Rattle.vast_core.specs.Nodes.{Dimension, sizes_in}
+use Rattle.vast_core.specs.Bench.{Bench, OwnsType, OwnsDimension, type_of}
 use Rattle.vast_core.specs.BitCount.{size_values, dimensions_of, unknown_size, or_later, unknown_dimension}
+
+-- The sizes that dimensions name.
+abbrev pub sizes_of : Bench → List Dimension → Exprs
+sizes_of b ds = sizes_in b.nodes ds
 
 -- The type is an array with these dimensions of the element type.
 pub record IsArrayOf (b : Bench) (data_type element : VastDataType) (dimensions : List Dimension) : Type 0 where

@@ -3,7 +3,8 @@
 ghost use Rattle.std.specs.Prelude.{◌≡◌, ◌≤ℤ◌, ◌*ℤ◌, ◌^◌, pos, All, Some, IfNone, IfSome, IfOk, IfErr};
 ghost use Rattle.vast_literal.specs.Shape.{base_of, literal_value};
 ghost use Rattle.vast_core.specs.BitCount.{product, value_or_one, size_values, unknown_size, unknown_dimension, base_bits, bit_count, width_value, CountRefused, WidthRefused};
-ghost use Rattle.vast_core.specs.Bench.{OwnsExpr, OwnsType, OwnsDimension, maybe_tree_of, type_of, size_of, sizes_of};
+ghost use Rattle.vast_core.specs.Bench.{OwnsExpr, OwnsType, OwnsDimension, maybe_tree_of, type_of, size_of};
+ghost use Rattle.vast_core.specs.Internal.BitCount.{sizes_of};
 ghost use Rattle.vast_core.specs.View.{bench};
 
 use crate::ast::Ast;

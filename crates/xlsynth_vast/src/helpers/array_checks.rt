@@ -4,7 +4,8 @@ ghost use Rattle.std.specs.Prelude.{◌≡◌, ◌^◌, ◌≤ℤ◌, ◌++◌, 
 ghost use Rattle.std.specs.List.{list_all};
 ghost use Rattle.std.specs.Int.{is_positive};
 ghost use Rattle.vast_core.specs.BitCount.{product, size_values};
-ghost use Rattle.vast_core.specs.Bench.{OwnsExpr, OwnsType, OwnsDimension, tree_of, type_of, sizes_of};
+ghost use Rattle.vast_core.specs.Bench.{OwnsExpr, OwnsType, OwnsDimension, tree_of, type_of};
+ghost use Rattle.vast_core.specs.Internal.BitCount.{sizes_of};
 ghost use Rattle.vast_core.specs.View.{bench};
 ghost use Rattle.xlsynth_vast.specs.Internal.Reductions.{ChecksBy};
 ghost use Rattle.xlsynth_vast.specs.ArrayReduction.{packed_dimensions, type_dimensions, known_dimensions, mismatch, any_dimension, each_positive, as_known, countable, reducible};

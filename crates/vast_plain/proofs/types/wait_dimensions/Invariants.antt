@@ -1,7 +1,8 @@
 use Rattle.std.proofs.Common.{◌≡◌, ◌+◌, ◌≤◌, drop, All}
 use Rattle.std.specs.Prelude.{◌&&◌}
 use Rattle.vast_literal.specs.Plain.{are_plain}
-use Rattle.vast_core.specs.Bench.{OwnsExpr, trees_of, sizes_of}
+use Rattle.vast_core.specs.Bench.{OwnsExpr, trees_of}
+use Rattle.vast_core.specs.Internal.BitCount.{sizes_of}
 use Rattle.vast_core.specs.View.{bench}
 use Rattle.vast_plain.specs.Internal.Values.{exprs_weight}
 use Rattle.vast_plain.proofs.types.wait_dimensions.Given as goal

@@ -1,6 +1,6 @@
 use Rattle.std.proofs.Common.{drop}
 use Rattle.vast_print.specs.Declaration.{unpacked_text}
-use Rattle.vast_core.specs.Bench.{sizes_of}
+use Rattle.vast_core.specs.Internal.BitCount.{sizes_of}
 use Rattle.vast_core.specs.View.{bench}
 use Rattle.vast_print.proofs.Left.{TextLeft}
 use Rattle.vast_print.proofs.types.print_unpacked_ranges.Given as goal

@@ -1,6 +1,7 @@
 use Rattle.std.proofs.Common.{◌≡◌, All}
 use Rattle.vast_literal.specs.Tree.{PackedTree, UnpackedTree}
-use Rattle.vast_core.specs.Bench.{OwnsType, OwnsDimension, type_of, sizes_of}
+use Rattle.vast_core.specs.Bench.{OwnsType, OwnsDimension, type_of}
+use Rattle.vast_core.specs.Internal.BitCount.{sizes_of}
 use Rattle.vast_core.specs.View.{bench}
 use Rattle.vast_core.proofs.Arrays.{packed-array, unpacked-array}
 use Rattle.vast_core.proofs.ast.Ast.array.Goals as goal

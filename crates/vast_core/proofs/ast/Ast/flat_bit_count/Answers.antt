@@ -1,6 +1,7 @@
 use Rattle.std.proofs.Common.{rules, ◌≡◌, ◌*ℤ◌, ℤ, ap, ◌∙◌, to_z, of_z, w64}
 use Rattle.vast_literal.specs.Tree.{NoExpr}
-use Rattle.vast_core.specs.Bench.{type_of, sizes_of}
+use Rattle.vast_core.specs.Bench.{type_of}
+use Rattle.vast_core.specs.Internal.BitCount.{sizes_of}
 use Rattle.vast_core.specs.BitCount.{product, size_values, dimensions_of, unknown_dimension}
 use Rattle.vast_core.specs.View.{bench}
 use Rattle.vast_core.proofs.Arrays.{array-step, array-over, counted, exceeded}

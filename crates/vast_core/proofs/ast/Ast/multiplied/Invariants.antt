@@ -1,5 +1,5 @@
 use Rattle.std.proofs.Common.{◌≡◌, pos, ◌*ℤ◌, ◌≤ℤ◌, drop}
-use Rattle.vast_core.specs.Bench.{sizes_of}
+use Rattle.vast_core.specs.Internal.BitCount.{sizes_of}
 use Rattle.vast_core.specs.BitCount.{product, size_values}
 use Rattle.vast_core.specs.View.{bench}
 use Rattle.vast_core.proofs.ast.Ast.multiplied.Given as goal

@@ -1,5 +1,5 @@
 use Rattle.std.proofs.Common.{◌≡◌, drop}
-use Rattle.vast_core.specs.Bench.{sizes_of}
+use Rattle.vast_core.specs.Internal.BitCount.{sizes_of}
 use Rattle.vast_core.specs.BitCount.{unknown_size}
 use Rattle.vast_core.specs.View.{bench}
 use Rattle.vast_core.proofs.ast.Ast.unknown_size.Given as goal

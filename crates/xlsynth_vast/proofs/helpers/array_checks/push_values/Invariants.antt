@@ -1,5 +1,5 @@
 use Rattle.std.proofs.Common.{◌≡◌, ◌++◌, drop}
-use Rattle.vast_core.specs.Bench.{sizes_of}
+use Rattle.vast_core.specs.Internal.BitCount.{sizes_of}
 use Rattle.vast_core.specs.BitCount.{size_values}
 use Rattle.vast_core.specs.View.{bench}
 use Rattle.xlsynth_vast.proofs.helpers.array_checks.push_values.Given as goal
