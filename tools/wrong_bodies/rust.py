@@ -1,0 +1,62 @@
+"""Files of Rust as lines: which functions stand there, where they begin and end, and who can call them."""
+import re
+from collections import namedtuple
+from pathlib import Path
+
+FUNCTION = re.compile(r"( *)((?:pub(?:\([a-z]+\))? )?(?:const )?(?:unsafe )?)fn (\w+)(.)")
+BLOCK = re.compile(r"(?:pub(?:\([a-z]+\))? )?(?:unsafe )?(impl|trait)\b")
+
+# A function's name, the block that it stands in, its words before `fn`, and its lines: that of its name, that of the
+# brace before its body, and that after its body.
+Function = namedtuple("Function", "name block words indent first body end")
+
+
+def sources(crate):
+    """The paths of the crate's files below it, but those of tests."""
+    return sorted(it for it in Path(crate).glob("src/**/*.rt") if "tests" not in str(it.relative_to(crate)))
+
+
+def end_of(lines, first, indent):
+    """The line of the brace that ends what begins here."""
+    last = first
+    while lines[last] != indent + "}":
+        last += 1
+    return last
+
+
+def is_body(lines, at, indent):
+    """Whether the function's body begins at the end of this line: alone, or after the parameters where no contract stands."""
+    line = lines[at].rstrip()
+    return line == indent + "{" or line.endswith("{") and not line.lstrip().startswith(("requires", "ensures"))
+
+
+def functions(text):
+    """The functions of a file in order, without those of its tests."""
+    lines, at, block = text.split("\n"), 0, ""
+    while at < len(lines):
+        if lines[at] == "#[cfg(test)]":
+            at = end_of(lines, at, "") if lines[at + 1].endswith("{") else at + 2
+        if BLOCK.match(lines[at]):
+            block = lines[at]
+        found = FUNCTION.match(lines[at])
+        if found:
+            indent, words, name, _ = found.groups()
+            body = at
+            while not is_body(lines, body, indent) and not lines[body].endswith(("{}", ";")):
+                body += 1
+            if lines[body].endswith(";"):
+                at = body + 1
+                continue
+            end = body if lines[body].endswith("{}") else end_of(lines, body, indent)
+            yield Function(name, block if indent else "", words, indent, at, body, end)
+            at = end
+        at += 1
+
+
+def is_public(function):
+    """Whether other crates can call it by its name; methods of traits are not told apart."""
+    return function.words.startswith("pub ")
+
+
+def has_contract(lines, function):
+    return any("ensures" in it for it in lines[function.first:function.body])
