@@ -109,44 +109,4 @@ impl VastFile {
         self.keep_width(made, Width::Element(element_step));
         VastDataType(made)
     }
-
-    /// The packed array of elements of a type, each dimension as many as an expression says;
-    /// [`VastFile::dimensions_are_usable`] is the test of these.
-    ///
-    /// # Panics
-    /// With `a packed array has elements that can be packed, and dimensions of which none is below 1`, where
-    /// that is not so.
-    pub fn make_packed_array_type_expr(
-        &mut self,
-        element: VastDataType,
-        dimensions: &[&Expr],
-    ) -> VastDataType {
-        let element_step = self.own(element.0);
-        let dimensions_steps = self.own_all(dimensions);
-        let made = self.made(false, Call::MakePackedArrayTypeExpr, "a packed array has elements that can be packed, and dimensions of which none is below 1", |calls| calls.step(element_step).steps(&dimensions_steps));
-        self.keep_width(made, Width::Element(element_step));
-        VastDataType(made)
-    }
-
-    /// The unpacked array of elements of a type, each dimension as many as an expression says;
-    /// [`VastFile::dimensions_are_usable`] is the test of these.
-    ///
-    /// # Panics
-    /// With `an array has dimensions, of which none is below 1`, where that is not so.
-    pub fn make_unpacked_array_type_expr(
-        &mut self,
-        element: VastDataType,
-        dimensions: &[&Expr],
-    ) -> VastDataType {
-        let element_step = self.own(element.0);
-        let dimensions_steps = self.own_all(dimensions);
-        let made = self.made(
-            false,
-            Call::MakeUnpackedArrayTypeExpr,
-            "an array has dimensions, of which none is below 1",
-            |calls| calls.step(element_step).steps(&dimensions_steps),
-        );
-        self.keep_width(made, Width::Element(element_step));
-        VastDataType(made)
-    }
 }

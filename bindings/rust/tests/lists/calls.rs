@@ -4,7 +4,7 @@
 
 use crate::answers::{format_of, kind_of, Answer, Answers, Fault};
 use crate::form::{Argument, Line};
-use xlsynth_vast::{Expr, VastFile};
+use xlsynth_vast::{Expr, VastFile, VastFileExtension};
 
 /// Makes the call of the line.
 pub fn make(file: &mut VastFile, answers: &Answers, line: &Line) -> Result<Answer, Fault> {
