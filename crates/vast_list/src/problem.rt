@@ -13,6 +13,7 @@ pub(crate) enum Problem {
     NoCall,
     NoLength,
     NoVersion,
+    OtherFile,
     NotAName,
     NameTaken,
     NameUnknown,
@@ -52,6 +53,7 @@ impl Problem {
             Problem::NoCall => "the number of a call expected",
             Problem::NoLength => "a call expected, after how many bytes it has",
             Problem::NoVersion => "a packed list expected, of version 1 and of a dialect",
+            Problem::OtherFile => "the packed list would build another file",
             Problem::NotAName =>
                 "a name expected before `=`: letters, digits and `_`, no digit first",
             Problem::NameTaken => "an earlier line has the name",
