@@ -7,14 +7,10 @@ use crate::packed::{Choice, folded, push_number};
 use crate::problem::{Misfit, Problem};
 use crate::session::Session;
 use crate::table::numbered::{number_of, row_of};
-use crate::table::{Item, Kind, Range, Words};
+use crate::table::{Item, Kind, Range};
 
 /// Appends the line's call to the bytes, without how many it has.
-pub(super) fn pack_line(
-    session: &Session,
-    line: &[u8],
-    bytes: &mut Vec<u8>,
-) -> Result<(), Misfit> {
+pub(super) fn pack_line(session: &Session, line: &[u8], bytes: &mut Vec<u8>) -> Result<(), Misfit> {
     let text = text_of(line)?;
     let (_, call, rest) = split_line(text);
     let (Some(place), Some(row)) = (number_of(call), row_of(call)) else {
@@ -93,8 +89,7 @@ fn pack_item(arguments: &mut Arguments<'_>, item: Item, bytes: &mut Vec<u8>) -> 
         }
         Item::Truth => pack_word(arguments, Choice::Truth, bytes),
         Item::Integer(range) => pack_integer(arguments, range, bytes),
-        Item::Word(Words::Format) => pack_word(arguments, Choice::Format, bytes),
-        Item::Word(Words::DataKind) => pack_word(arguments, Choice::Kind, bytes),
+        Item::Word(words) => pack_word(arguments, words.choice(), bytes),
         Item::Reset => {
             arguments.open()?;
             pack_handle(arguments, bytes)?;
