@@ -43,7 +43,8 @@ fn twin_of(alloc: Global, list: &ListLines<'_>, text: &[u8]) -> Result<Vec<u8>, 
     ensures { IfOk result (λ bytes. IsPackedText bytes.items text.now) }
 {
     let bytes = packed_lines(alloc, list)?;
-    match packed_output(alloc, &bytes)?.output {
+    let packed = packed_output(alloc, &bytes)?;
+    match &packed.output {
         Some(built) if built.as_slice() == text => Ok(bytes),
         _ => {
             let problem = Problem::OtherFile;
