@@ -173,7 +173,7 @@ fn push_words(words: Words, text: &mut String) -> Result<(), AllocError> {
         Words::DataKind => "DataKind",
     };
     write!(text, "{{\"form\":\"word\",\"of\":\"{name}\",\"words\":[")?;
-    for word in words.all() {
+    for word in words.choice().words() {
         push_word(word, text)?;
     }
     text.push_str("]}")
