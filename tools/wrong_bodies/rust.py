@@ -53,9 +53,20 @@ def functions(text):
         at += 1
 
 
-def is_public(function):
-    """Whether other crates can call it by its name; methods of traits are not told apart."""
-    return function.words.startswith("pub ")
+def shown(crate, module="lib"):
+    """The words that a library makes public: what its root hands on, its public modules, and what these hand on."""
+    path = Path(crate) / f"src/{module}.rt"
+    root = path.read_text() if path.exists() else ""
+    modules = re.findall(r"^pub mod (\w+);", root, re.M)
+    words = {word for it in re.findall(r"^pub use ([^;]*);", root, re.M) for word in re.findall(r"\w+", it)}
+    return words.union([module], modules, *(shown(crate, it) for it in modules))
+
+
+def is_public(function, module, words):
+    """Whether other crates can call it: itself or its type is handed on under one of these words, or its module is public."""
+    owner = re.findall(r"\w+", function.block.split(">", 1)[-1] if function.block.startswith("impl<") else function.block[4:])
+    named = owner[:1] if function.block else [function.name]
+    return function.words.startswith("pub ") and (named[0] in words or module in words)
 
 
 def has_contract(lines, function):
