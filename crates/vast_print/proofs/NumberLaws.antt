@@ -15,7 +15,7 @@ use Rattle.vast_literal.specs.Scan.{is_digit}
 use Rattle.std.proofs.lemmas.Bool.Decides.{nat_tests}
 
 -- Whether a text isn't empty.
-pub has_text : List ℕ → Bool
+abbrev pub has_text : List ℕ → Bool
 has_text [] = false
 has_text (c ∷ w) = true
 
