@@ -15,7 +15,7 @@ use Rattle.vast_rows.specs.declared.grammar.Item.TheVariants.{Phrase}
 use Rattle.vast_rows.specs.declared.grammar.Phrase.TheVariants.{Expression}
 use Rattle.vast_rows.specs.declared.rule.Rule.TheVariants.{File, FileItem, Parameters, MoreParameters, Parameter, Ports, MorePorts, Port, Direction, ModuleMembers, LoopMembers, Member, AnyMacro, MacroArguments, Expressions, MoreExpressions, LastSemicolon, GivenList, Given, MoreGiven, Connections, Connection, Connected, MoreConnections, Events, OneEvent, MoreEvents, Inputs, Input, MoreInputs, Locals, Declaration, Statements, FunctionBody, NoWait, Awaited, LoopLabel}
 use Rattle.vast_rows.specs.Events.{Event, Makes, Names}
-use Rattle.vast_rows.specs.Numbers.{Key, Comma, OpenParen, Semicolon, At, Assign, BeginKey, GenvarKey, CloseParen, InputKey, OutputKey, InOutKey, ParameterKey, LocalparamKey, PosedgeKey, NegedgeKey, OrKey, EndModuleKey, EndKey, IfKey}
+use Rattle.vast_rows.specs.Numbers.{Key, Comma, OpenParen, Semicolon, Assign, BeginKey, GenvarKey, CloseParen, InputKey, OutputKey, InOutKey, ParameterKey, LocalparamKey, PosedgeKey, NegedgeKey, OrKey, EndModuleKey, EndKey, IfKey}
 use Rattle.vast_rows.specs.Phrases.{expression, target, loop_head, path}
 use Rattle.vast_rows.specs.Symbols.{key, mark, rule}
 use Rattle.vast_rows.specs.Trace.{read, answer, trace_list, trace_statements, trace_declaration, trace_declarations, trace_expressions, trace_arguments, trace_value, trace_connection, trace_connections, trace_event, trace_events, trace_label, trace_member, trace_members, trace_parameter, trace_parameters, trace_port, trace_ports, trace_item, trace_items}

@@ -1,5 +1,5 @@
 -- What calls of loops keep.
-use Rattle.std.specs.Prelude.{true, false, [], codes, string_bytes}
+use Rattle.std.specs.Prelude.{true, false, codes, string_bytes}
 use Rattle.vast_literal.specs.declared.kind.AlwaysKind.TheVariants.{AlwaysFF, AlwaysAt, AlwaysComb, AlwaysStar, AlwaysLatch, Initial}
 use Rattle.vast_core.specs.declared.ast.scope.Scope.TheVariants.{Loop as ScopeLoop}
 use Rattle.vast_core.specs.declared.node.ParameterForm.TheVariants.{Plain as PlainForm, Defined as DefinedForm}
@@ -9,10 +9,9 @@ use Rattle.vast_core.specs.Nests.{label_bytes}
 use Rattle.vast_core.specs.Growth.{next_node, with_member, next_continuous, with_assignment}
 use Rattle.vast_core.specs.Artifacts.{next_statement}
 use Rattle.vast_core.specs.Containers.{next_conditional, with_conditional}
-use Rattle.vast_core.specs.Loops.{next_always, next_loop, with_loop, with_loop_member}
-use Rattle.xlsynth_vast.specs.AlwaysBlocks.{with_scope_always}
+use Rattle.vast_core.specs.Loops.{next_loop, with_loop, with_loop_member}
 use Rattle.xlsynth_vast.specs.Inspections.{genvar_at}
-use Rattle.vast_script.specs.declared.answer.Answer.TheVariants.{GenerateLoop, LogicRef, VastAlwaysBase, LocalparamRef, VastStatement, Conditional, Nothing}
+use Rattle.vast_script.specs.declared.answer.Answer.TheVariants.{GenerateLoop, LogicRef, LocalparamRef, VastStatement, Conditional, Nothing}
 use Rattle.vast_script.specs.declared.step.LoopStep.{LoopStep}
 use Rattle.vast_script.specs.declared.step.LoopStep.TheVariants.{AddGenerateLoop, GenerateAddGenerateLoop, GenerateGenvar, GenerateAddAlwaysComb, GenerateAddAlwaysStar, GenerateAddAlwaysLatch, GenerateAddInitial, GenerateAddAlwaysFf, GenerateAddAlwaysAt, GenerateAddLocalparam, GenerateAddTypedLocalparam, GenerateAddContinuousAssignment, GenerateAddConditional, GenerateAddBlankLine, GenerateAddComment, GenerateAddInstantiation, GenerateAddInlineStatement, GenerateAddMacroStatement}
 use Rattle.vast_script.specs.Outcome.{Made, holding}
@@ -20,7 +19,7 @@ use Rattle.vast_script.specs.Kinds.{a_module, a_loop, an_expr, a_definition, a_c
 use Rattle.vast_script.specs.Arguments.{one, two, three}
 use Rattle.xlsynth_vast.proofs.Kept.{keeps-then, keeps-same}
 use Rattle.vast_script.proofs.KeptOutcomes.{CallKeeps, given-keeps, holding-keeps}
-use Rattle.xlsynth_vast.proofs.KeptWords.{assignment-kept, conditional-kept, loop-kept, loop_member-kept, member-kept, scope_always-kept, scope_parameter-kept}
+use Rattle.xlsynth_vast.proofs.KeptWords.{assignment-kept, conditional-kept, loop-kept, loop_member-kept, member-kept, scope_parameter-kept}
 use Rattle.vast_script.proofs.KeptStatements.{add_always-keeps, add_unclocked-keeps}
 use Rattle.vast_script.specs.Loops.{loop_call}
 

@@ -1,5 +1,5 @@
 -- What becomes of a call of generate loops and their members.
-use Rattle.std.specs.Prelude.{true, false, [], codes, string_bytes}
+use Rattle.std.specs.Prelude.{true, false, codes, string_bytes}
 use Rattle.vast_literal.specs.declared.kind.AlwaysKind.TheVariants.{AlwaysFF, AlwaysAt, AlwaysComb, AlwaysStar, AlwaysLatch, Initial}
 use Rattle.vast_script.specs.Statements.{add_always, add_unclocked}
 use Rattle.vast_script.specs.Artifacts.{add_part}
@@ -11,10 +11,9 @@ use Rattle.vast_core.specs.Nests.{label_bytes}
 use Rattle.vast_core.specs.Growth.{next_node, with_member, next_continuous, with_assignment}
 use Rattle.vast_core.specs.Artifacts.{next_statement}
 use Rattle.vast_core.specs.Containers.{next_conditional, with_conditional}
-use Rattle.vast_core.specs.Loops.{next_always, next_loop, with_loop, with_loop_member}
-use Rattle.xlsynth_vast.specs.AlwaysBlocks.{with_scope_always}
+use Rattle.vast_core.specs.Loops.{next_loop, with_loop, with_loop_member}
 use Rattle.xlsynth_vast.specs.Inspections.{genvar_at}
-use Rattle.vast_script.specs.declared.answer.Answer.TheVariants.{GenerateLoop, LogicRef, VastAlwaysBase, LocalparamRef, VastStatement, Conditional, Nothing}
+use Rattle.vast_script.specs.declared.answer.Answer.TheVariants.{GenerateLoop, LogicRef, LocalparamRef, VastStatement, Conditional, Nothing}
 use Rattle.vast_script.specs.declared.step.LoopStep.{LoopStep}
 use Rattle.vast_script.specs.declared.step.LoopStep.TheVariants.{AddGenerateLoop, GenerateAddGenerateLoop, GenerateGenvar, GenerateAddAlwaysComb, GenerateAddAlwaysStar, GenerateAddAlwaysLatch, GenerateAddInitial, GenerateAddAlwaysFf, GenerateAddAlwaysAt, GenerateAddLocalparam, GenerateAddTypedLocalparam, GenerateAddContinuousAssignment, GenerateAddConditional, GenerateAddBlankLine, GenerateAddComment, GenerateAddInstantiation, GenerateAddInlineStatement, GenerateAddMacroStatement}
 use Rattle.vast_script.specs.Outcome.{Call, Made, holding, makes}
