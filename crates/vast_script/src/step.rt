@@ -137,9 +137,6 @@ pub enum LoopStep {
     GenerateAddGenerateLoop(usize, String, usize, usize, Option<String>),
     GenerateGenvar(usize),
     GenerateAddAlwaysComb(usize),
-    GenerateAddAlwaysStar(usize),
-    GenerateAddAlwaysLatch(usize),
-    GenerateAddInitial(usize),
     GenerateAddAlwaysFf(usize, Vec<usize>),
     GenerateAddAlwaysAt(usize, Vec<usize>),
     GenerateAddLocalparam(usize, String, usize),
@@ -151,6 +148,9 @@ pub enum LoopStep {
     GenerateAddInstantiation(usize, usize),
     GenerateAddInlineStatement(usize, usize),
     GenerateAddMacroStatement(usize, usize),
+    GenerateAddAlwaysStar(usize),
+    GenerateAddAlwaysLatch(usize),
+    GenerateAddInitial(usize),
 }
 
 /// Calls of functions, always blocks, conditionals and statements.
@@ -166,9 +166,6 @@ pub enum StatementStep {
     AddAlwaysFf(usize, Vec<usize>),
     AddAlwaysAt(usize, Vec<usize>),
     AddAlwaysComb(usize),
-    AddAlwaysStar(usize),
-    AddAlwaysLatch(usize),
-    AddInitial(usize),
     StatementBlock(usize),
     BlockAddBlockingAssignment(usize, usize, usize),
     BlockAddNonblockingAssignment(usize, usize, usize),
@@ -187,6 +184,9 @@ pub enum StatementStep {
     CaseAddItem(usize, usize),
     CaseAddDefault(usize),
     CaseSetUnique(usize, bool),
+    AddAlwaysStar(usize),
+    AddAlwaysLatch(usize),
+    AddInitial(usize),
 }
 
 /// Calls of parts that are made beforehand, and that add them to modules.
