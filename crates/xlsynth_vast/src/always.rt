@@ -15,7 +15,9 @@ ghost use Rattle.xlsynth_vast.specs.Inspections.{block_at};
 
 use crate::file::VastFile;
 use std::alloc::{AllocError, Global};
-use vast_core::{AlwaysKind, Expr, GenerateLoop, Scope, VastAlwaysBase, VastModule, VastStatementBlock};
+use vast_core::{
+    AlwaysKind, Expr, GenerateLoop, Scope, VastAlwaysBase, VastModule, VastStatementBlock,
+};
 use vast_literal::{VastError, VastFault};
 
 /// The words that refuse the event at this place of a list, for an always block that begins with the word.
@@ -71,9 +73,10 @@ impl VastFile {
         ensures kept { Keeps self.old self.new }
     {
         let events = self.events("always_ff", sensitivity_list)?;
-        Ok(self
-            .ast
-            .push_always(Scope::Module(owner), AlwaysKind::AlwaysFF, events)?)
+        Ok(
+            self.ast
+                .push_always(Scope::Module(owner), AlwaysKind::AlwaysFF, events)?,
+        )
     }
 
     /// An `always @` with these events and an empty block, as the module's last member; there may be no events.
@@ -95,9 +98,10 @@ impl VastFile {
         ensures kept { Keeps self.old self.new }
     {
         let events = self.events("always @", sensitivity_list)?;
-        Ok(self
-            .ast
-            .push_always(Scope::Module(owner), AlwaysKind::AlwaysAt, events)?)
+        Ok(
+            self.ast
+                .push_always(Scope::Module(owner), AlwaysKind::AlwaysAt, events)?,
+        )
     }
 
     /// An `always_comb` with an empty block, as the module's last member.
@@ -110,9 +114,10 @@ impl VastFile {
             (λ _. with_scope_always (ScopeModule owner) AlwaysComb []) }
         ensures kept { Keeps self.old self.new }
     {
-        Ok(self
-            .ast
-            .push_unclocked(Scope::Module(owner), AlwaysKind::AlwaysComb)?)
+        Ok(
+            self.ast
+                .push_unclocked(Scope::Module(owner), AlwaysKind::AlwaysComb)?,
+        )
     }
 
     /// An `always @*` with an empty block, as the module's last member.
@@ -125,9 +130,10 @@ impl VastFile {
             (λ _. with_scope_always (ScopeModule owner) AlwaysStar []) }
         ensures kept { Keeps self.old self.new }
     {
-        Ok(self
-            .ast
-            .push_unclocked(Scope::Module(owner), AlwaysKind::AlwaysStar)?)
+        Ok(
+            self.ast
+                .push_unclocked(Scope::Module(owner), AlwaysKind::AlwaysStar)?,
+        )
     }
 
     /// An `always_latch` with an empty block, as the module's last member.
@@ -140,9 +146,10 @@ impl VastFile {
             (λ _. with_scope_always (ScopeModule owner) AlwaysLatch []) }
         ensures kept { Keeps self.old self.new }
     {
-        Ok(self
-            .ast
-            .push_unclocked(Scope::Module(owner), AlwaysKind::AlwaysLatch)?)
+        Ok(
+            self.ast
+                .push_unclocked(Scope::Module(owner), AlwaysKind::AlwaysLatch)?,
+        )
     }
 
     /// An `initial` block with an empty block, as the module's last member.
@@ -155,9 +162,10 @@ impl VastFile {
             (λ _. with_scope_always (ScopeModule owner) Initial []) }
         ensures kept { Keeps self.old self.new }
     {
-        Ok(self
-            .ast
-            .push_unclocked(Scope::Module(owner), AlwaysKind::Initial)?)
+        Ok(
+            self.ast
+                .push_unclocked(Scope::Module(owner), AlwaysKind::Initial)?,
+        )
     }
 
     /// The block of the always block, which is the file's.
@@ -188,9 +196,10 @@ impl VastFile {
         ensures kept { Keeps self.old self.new }
     {
         let events = self.events("always_ff", sensitivity_list)?;
-        Ok(self
-            .ast
-            .push_always(Scope::Loop(generate), AlwaysKind::AlwaysFF, events)?)
+        Ok(
+            self.ast
+                .push_always(Scope::Loop(generate), AlwaysKind::AlwaysFF, events)?,
+        )
     }
 
     /// An `always @` with these events and an empty block, as the loop's last member; there may be no events.
@@ -212,9 +221,10 @@ impl VastFile {
         ensures kept { Keeps self.old self.new }
     {
         let events = self.events("always @", sensitivity_list)?;
-        Ok(self
-            .ast
-            .push_always(Scope::Loop(generate), AlwaysKind::AlwaysAt, events)?)
+        Ok(
+            self.ast
+                .push_always(Scope::Loop(generate), AlwaysKind::AlwaysAt, events)?,
+        )
     }
 
     /// An `always_comb` with an empty block, as the loop's last member.
@@ -230,9 +240,10 @@ impl VastFile {
             (λ _. with_scope_always (ScopeLoop generate) AlwaysComb []) }
         ensures kept { Keeps self.old self.new }
     {
-        Ok(self
-            .ast
-            .push_unclocked(Scope::Loop(generate), AlwaysKind::AlwaysComb)?)
+        Ok(
+            self.ast
+                .push_unclocked(Scope::Loop(generate), AlwaysKind::AlwaysComb)?,
+        )
     }
 
     /// An `always @*` with an empty block, as the loop's last member.
@@ -248,9 +259,10 @@ impl VastFile {
             (λ _. with_scope_always (ScopeLoop generate) AlwaysStar []) }
         ensures kept { Keeps self.old self.new }
     {
-        Ok(self
-            .ast
-            .push_unclocked(Scope::Loop(generate), AlwaysKind::AlwaysStar)?)
+        Ok(
+            self.ast
+                .push_unclocked(Scope::Loop(generate), AlwaysKind::AlwaysStar)?,
+        )
     }
 
     /// An `always_latch` with an empty block, as the loop's last member.
@@ -266,9 +278,10 @@ impl VastFile {
             (λ _. with_scope_always (ScopeLoop generate) AlwaysLatch []) }
         ensures kept { Keeps self.old self.new }
     {
-        Ok(self
-            .ast
-            .push_unclocked(Scope::Loop(generate), AlwaysKind::AlwaysLatch)?)
+        Ok(
+            self.ast
+                .push_unclocked(Scope::Loop(generate), AlwaysKind::AlwaysLatch)?,
+        )
     }
 
     /// An `initial` block with an empty block, as the loop's last member.
@@ -284,8 +297,9 @@ impl VastFile {
             (λ _. with_scope_always (ScopeLoop generate) Initial []) }
         ensures kept { Keeps self.old self.new }
     {
-        Ok(self
-            .ast
-            .push_unclocked(Scope::Loop(generate), AlwaysKind::Initial)?)
+        Ok(
+            self.ast
+                .push_unclocked(Scope::Loop(generate), AlwaysKind::Initial)?,
+        )
     }
 }
