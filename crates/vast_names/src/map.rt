@@ -1,8 +1,5 @@
 //! What names stand for.
 
-#[cfg(test)]
-mod tests;
-
 ghost use Rattle.std.specs.Prelude.{◌≡◌, OnOk, OnErr, Some, None};
 ghost use Rattle.std.specs.Map.{update};
 ghost use Rattle.std.specs.Str.{bytes_eq};

@@ -1,8 +1,5 @@
 //! The table of names.
 
-#[cfg(test)]
-mod tests;
-
 ghost use Rattle.std.specs.Prelude.{◌≡◌, ◌≢◌, ◌<◌, ◌↔◌, ◌∷◌, [], ◌++◌, Some, length, All, Contains, IsTrue, OnOk, OnErr, MatchOption, slice_get};
 
 use crate::index::Index;
