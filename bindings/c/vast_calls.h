@@ -112,7 +112,7 @@ static inline int32_t vast_make_not(vast_file *file, vast_expression expression,
 static inline int32_t vast_make_bitwise_not(vast_file *file, vast_expression expression,
                                             vast_expression *made)
 {
-    vast_call_begin(file, "MakeBitwiseNot", 1);
+    vast_call_begin(file, "MakeBitwiseNot", 16);
     vast_call_handle(file, expression.id);
     return vast_call_make(file, made == NULL ? NULL : &made->id);
 }
@@ -121,7 +121,7 @@ static inline int32_t vast_make_bitwise_not(vast_file *file, vast_expression exp
 static inline int32_t vast_make_negate(vast_file *file, vast_expression expression,
                                        vast_expression *made)
 {
-    vast_call_begin(file, "MakeNegate", 2);
+    vast_call_begin(file, "MakeNegate", 32);
     vast_call_handle(file, expression.id);
     return vast_call_make(file, made == NULL ? NULL : &made->id);
 }
@@ -130,7 +130,7 @@ static inline int32_t vast_make_negate(vast_file *file, vast_expression expressi
 static inline int32_t vast_make_logical_not(vast_file *file, vast_expression expression,
                                             vast_expression *made)
 {
-    vast_call_begin(file, "MakeLogicalNot", 3);
+    vast_call_begin(file, "MakeLogicalNot", 48);
     vast_call_handle(file, expression.id);
     return vast_call_make(file, made == NULL ? NULL : &made->id);
 }
@@ -139,7 +139,7 @@ static inline int32_t vast_make_logical_not(vast_file *file, vast_expression exp
 static inline int32_t vast_make_and_reduce(vast_file *file, vast_expression expression,
                                            vast_expression *made)
 {
-    vast_call_begin(file, "MakeAndReduce", 4);
+    vast_call_begin(file, "MakeAndReduce", 64);
     vast_call_handle(file, expression.id);
     return vast_call_make(file, made == NULL ? NULL : &made->id);
 }
@@ -148,7 +148,7 @@ static inline int32_t vast_make_and_reduce(vast_file *file, vast_expression expr
 static inline int32_t vast_make_or_reduce(vast_file *file, vast_expression expression,
                                           vast_expression *made)
 {
-    vast_call_begin(file, "MakeOrReduce", 5);
+    vast_call_begin(file, "MakeOrReduce", 80);
     vast_call_handle(file, expression.id);
     return vast_call_make(file, made == NULL ? NULL : &made->id);
 }
@@ -157,7 +157,7 @@ static inline int32_t vast_make_or_reduce(vast_file *file, vast_expression expre
 static inline int32_t vast_make_xor_reduce(vast_file *file, vast_expression expression,
                                            vast_expression *made)
 {
-    vast_call_begin(file, "MakeXorReduce", 6);
+    vast_call_begin(file, "MakeXorReduce", 96);
     vast_call_handle(file, expression.id);
     return vast_call_make(file, made == NULL ? NULL : &made->id);
 }
@@ -166,7 +166,7 @@ static inline int32_t vast_make_xor_reduce(vast_file *file, vast_expression expr
 static inline int32_t vast_make_add(vast_file *file, vast_expression lhs, vast_expression rhs,
                                     vast_expression *made)
 {
-    vast_call_begin(file, "MakeAdd", 7);
+    vast_call_begin(file, "MakeAdd", 112);
     vast_call_handle(file, lhs.id);
     vast_call_handle(file, rhs.id);
     return vast_call_make(file, made == NULL ? NULL : &made->id);
@@ -176,7 +176,7 @@ static inline int32_t vast_make_add(vast_file *file, vast_expression lhs, vast_e
 static inline int32_t vast_make_sub(vast_file *file, vast_expression lhs, vast_expression rhs,
                                     vast_expression *made)
 {
-    vast_call_begin(file, "MakeSub", 8);
+    vast_call_begin(file, "MakeSub", 128);
     vast_call_handle(file, lhs.id);
     vast_call_handle(file, rhs.id);
     return vast_call_make(file, made == NULL ? NULL : &made->id);
@@ -186,7 +186,7 @@ static inline int32_t vast_make_sub(vast_file *file, vast_expression lhs, vast_e
 static inline int32_t vast_make_mul(vast_file *file, vast_expression lhs, vast_expression rhs,
                                     vast_expression *made)
 {
-    vast_call_begin(file, "MakeMul", 9);
+    vast_call_begin(file, "MakeMul", 144);
     vast_call_handle(file, lhs.id);
     vast_call_handle(file, rhs.id);
     return vast_call_make(file, made == NULL ? NULL : &made->id);
@@ -196,7 +196,7 @@ static inline int32_t vast_make_mul(vast_file *file, vast_expression lhs, vast_e
 static inline int32_t vast_make_div(vast_file *file, vast_expression lhs, vast_expression rhs,
                                     vast_expression *made)
 {
-    vast_call_begin(file, "MakeDiv", 10);
+    vast_call_begin(file, "MakeDiv", 160);
     vast_call_handle(file, lhs.id);
     vast_call_handle(file, rhs.id);
     return vast_call_make(file, made == NULL ? NULL : &made->id);
@@ -206,7 +206,7 @@ static inline int32_t vast_make_div(vast_file *file, vast_expression lhs, vast_e
 static inline int32_t vast_make_mod(vast_file *file, vast_expression lhs, vast_expression rhs,
                                     vast_expression *made)
 {
-    vast_call_begin(file, "MakeMod", 11);
+    vast_call_begin(file, "MakeMod", 176);
     vast_call_handle(file, lhs.id);
     vast_call_handle(file, rhs.id);
     return vast_call_make(file, made == NULL ? NULL : &made->id);
@@ -216,7 +216,7 @@ static inline int32_t vast_make_mod(vast_file *file, vast_expression lhs, vast_e
 static inline int32_t vast_make_power(vast_file *file, vast_expression lhs, vast_expression rhs,
                                       vast_expression *made)
 {
-    vast_call_begin(file, "MakePower", 12);
+    vast_call_begin(file, "MakePower", 192);
     vast_call_handle(file, lhs.id);
     vast_call_handle(file, rhs.id);
     return vast_call_make(file, made == NULL ? NULL : &made->id);
@@ -226,7 +226,7 @@ static inline int32_t vast_make_power(vast_file *file, vast_expression lhs, vast
 static inline int32_t vast_make_bitwise_and(vast_file *file, vast_expression lhs,
                                             vast_expression rhs, vast_expression *made)
 {
-    vast_call_begin(file, "MakeBitwiseAnd", 13);
+    vast_call_begin(file, "MakeBitwiseAnd", 208);
     vast_call_handle(file, lhs.id);
     vast_call_handle(file, rhs.id);
     return vast_call_make(file, made == NULL ? NULL : &made->id);
@@ -236,7 +236,7 @@ static inline int32_t vast_make_bitwise_and(vast_file *file, vast_expression lhs
 static inline int32_t vast_make_bitwise_or(vast_file *file, vast_expression lhs,
                                            vast_expression rhs, vast_expression *made)
 {
-    vast_call_begin(file, "MakeBitwiseOr", 14);
+    vast_call_begin(file, "MakeBitwiseOr", 224);
     vast_call_handle(file, lhs.id);
     vast_call_handle(file, rhs.id);
     return vast_call_make(file, made == NULL ? NULL : &made->id);
@@ -246,7 +246,7 @@ static inline int32_t vast_make_bitwise_or(vast_file *file, vast_expression lhs,
 static inline int32_t vast_make_bitwise_xor(vast_file *file, vast_expression lhs,
                                             vast_expression rhs, vast_expression *made)
 {
-    vast_call_begin(file, "MakeBitwiseXor", 15);
+    vast_call_begin(file, "MakeBitwiseXor", 240);
     vast_call_handle(file, lhs.id);
     vast_call_handle(file, rhs.id);
     return vast_call_make(file, made == NULL ? NULL : &made->id);
@@ -256,7 +256,7 @@ static inline int32_t vast_make_bitwise_xor(vast_file *file, vast_expression lhs
 static inline int32_t vast_make_shll(vast_file *file, vast_expression lhs, vast_expression rhs,
                                      vast_expression *made)
 {
-    vast_call_begin(file, "MakeShll", 16);
+    vast_call_begin(file, "MakeShll", 256);
     vast_call_handle(file, lhs.id);
     vast_call_handle(file, rhs.id);
     return vast_call_make(file, made == NULL ? NULL : &made->id);
@@ -266,7 +266,7 @@ static inline int32_t vast_make_shll(vast_file *file, vast_expression lhs, vast_
 static inline int32_t vast_make_shra(vast_file *file, vast_expression lhs, vast_expression rhs,
                                      vast_expression *made)
 {
-    vast_call_begin(file, "MakeShra", 17);
+    vast_call_begin(file, "MakeShra", 272);
     vast_call_handle(file, lhs.id);
     vast_call_handle(file, rhs.id);
     return vast_call_make(file, made == NULL ? NULL : &made->id);
@@ -276,7 +276,7 @@ static inline int32_t vast_make_shra(vast_file *file, vast_expression lhs, vast_
 static inline int32_t vast_make_shrl(vast_file *file, vast_expression lhs, vast_expression rhs,
                                      vast_expression *made)
 {
-    vast_call_begin(file, "MakeShrl", 18);
+    vast_call_begin(file, "MakeShrl", 288);
     vast_call_handle(file, lhs.id);
     vast_call_handle(file, rhs.id);
     return vast_call_make(file, made == NULL ? NULL : &made->id);
@@ -286,7 +286,7 @@ static inline int32_t vast_make_shrl(vast_file *file, vast_expression lhs, vast_
 static inline int32_t vast_make_ne(vast_file *file, vast_expression lhs, vast_expression rhs,
                                    vast_expression *made)
 {
-    vast_call_begin(file, "MakeNe", 19);
+    vast_call_begin(file, "MakeNe", 304);
     vast_call_handle(file, lhs.id);
     vast_call_handle(file, rhs.id);
     return vast_call_make(file, made == NULL ? NULL : &made->id);
@@ -296,7 +296,7 @@ static inline int32_t vast_make_ne(vast_file *file, vast_expression lhs, vast_ex
 static inline int32_t vast_make_case_ne(vast_file *file, vast_expression lhs, vast_expression rhs,
                                         vast_expression *made)
 {
-    vast_call_begin(file, "MakeCaseNe", 20);
+    vast_call_begin(file, "MakeCaseNe", 320);
     vast_call_handle(file, lhs.id);
     vast_call_handle(file, rhs.id);
     return vast_call_make(file, made == NULL ? NULL : &made->id);
@@ -306,7 +306,7 @@ static inline int32_t vast_make_case_ne(vast_file *file, vast_expression lhs, va
 static inline int32_t vast_make_eq(vast_file *file, vast_expression lhs, vast_expression rhs,
                                    vast_expression *made)
 {
-    vast_call_begin(file, "MakeEq", 21);
+    vast_call_begin(file, "MakeEq", 336);
     vast_call_handle(file, lhs.id);
     vast_call_handle(file, rhs.id);
     return vast_call_make(file, made == NULL ? NULL : &made->id);
@@ -316,7 +316,7 @@ static inline int32_t vast_make_eq(vast_file *file, vast_expression lhs, vast_ex
 static inline int32_t vast_make_case_eq(vast_file *file, vast_expression lhs, vast_expression rhs,
                                         vast_expression *made)
 {
-    vast_call_begin(file, "MakeCaseEq", 22);
+    vast_call_begin(file, "MakeCaseEq", 352);
     vast_call_handle(file, lhs.id);
     vast_call_handle(file, rhs.id);
     return vast_call_make(file, made == NULL ? NULL : &made->id);
@@ -326,7 +326,7 @@ static inline int32_t vast_make_case_eq(vast_file *file, vast_expression lhs, va
 static inline int32_t vast_make_ge(vast_file *file, vast_expression lhs, vast_expression rhs,
                                    vast_expression *made)
 {
-    vast_call_begin(file, "MakeGe", 23);
+    vast_call_begin(file, "MakeGe", 368);
     vast_call_handle(file, lhs.id);
     vast_call_handle(file, rhs.id);
     return vast_call_make(file, made == NULL ? NULL : &made->id);
@@ -336,7 +336,7 @@ static inline int32_t vast_make_ge(vast_file *file, vast_expression lhs, vast_ex
 static inline int32_t vast_make_gt(vast_file *file, vast_expression lhs, vast_expression rhs,
                                    vast_expression *made)
 {
-    vast_call_begin(file, "MakeGt", 24);
+    vast_call_begin(file, "MakeGt", 384);
     vast_call_handle(file, lhs.id);
     vast_call_handle(file, rhs.id);
     return vast_call_make(file, made == NULL ? NULL : &made->id);
@@ -346,7 +346,7 @@ static inline int32_t vast_make_gt(vast_file *file, vast_expression lhs, vast_ex
 static inline int32_t vast_make_le(vast_file *file, vast_expression lhs, vast_expression rhs,
                                    vast_expression *made)
 {
-    vast_call_begin(file, "MakeLe", 25);
+    vast_call_begin(file, "MakeLe", 400);
     vast_call_handle(file, lhs.id);
     vast_call_handle(file, rhs.id);
     return vast_call_make(file, made == NULL ? NULL : &made->id);
@@ -356,7 +356,7 @@ static inline int32_t vast_make_le(vast_file *file, vast_expression lhs, vast_ex
 static inline int32_t vast_make_lt(vast_file *file, vast_expression lhs, vast_expression rhs,
                                    vast_expression *made)
 {
-    vast_call_begin(file, "MakeLt", 26);
+    vast_call_begin(file, "MakeLt", 416);
     vast_call_handle(file, lhs.id);
     vast_call_handle(file, rhs.id);
     return vast_call_make(file, made == NULL ? NULL : &made->id);
@@ -366,7 +366,7 @@ static inline int32_t vast_make_lt(vast_file *file, vast_expression lhs, vast_ex
 static inline int32_t vast_make_logical_and(vast_file *file, vast_expression lhs,
                                             vast_expression rhs, vast_expression *made)
 {
-    vast_call_begin(file, "MakeLogicalAnd", 27);
+    vast_call_begin(file, "MakeLogicalAnd", 432);
     vast_call_handle(file, lhs.id);
     vast_call_handle(file, rhs.id);
     return vast_call_make(file, made == NULL ? NULL : &made->id);
@@ -376,7 +376,7 @@ static inline int32_t vast_make_logical_and(vast_file *file, vast_expression lhs
 static inline int32_t vast_make_logical_or(vast_file *file, vast_expression lhs,
                                            vast_expression rhs, vast_expression *made)
 {
-    vast_call_begin(file, "MakeLogicalOr", 28);
+    vast_call_begin(file, "MakeLogicalOr", 448);
     vast_call_handle(file, lhs.id);
     vast_call_handle(file, rhs.id);
     return vast_call_make(file, made == NULL ? NULL : &made->id);
@@ -386,7 +386,7 @@ static inline int32_t vast_make_logical_or(vast_file *file, vast_expression lhs,
 static inline int32_t vast_make_ne_x(vast_file *file, vast_expression lhs, vast_expression rhs,
                                      vast_expression *made)
 {
-    vast_call_begin(file, "MakeNeX", 29);
+    vast_call_begin(file, "MakeNeX", 464);
     vast_call_handle(file, lhs.id);
     vast_call_handle(file, rhs.id);
     return vast_call_make(file, made == NULL ? NULL : &made->id);
@@ -396,7 +396,7 @@ static inline int32_t vast_make_ne_x(vast_file *file, vast_expression lhs, vast_
 static inline int32_t vast_make_eq_x(vast_file *file, vast_expression lhs, vast_expression rhs,
                                      vast_expression *made)
 {
-    vast_call_begin(file, "MakeEqX", 30);
+    vast_call_begin(file, "MakeEqX", 480);
     vast_call_handle(file, lhs.id);
     vast_call_handle(file, rhs.id);
     return vast_call_make(file, made == NULL ? NULL : &made->id);
@@ -410,7 +410,7 @@ static inline int32_t vast_make_eq_x(vast_file *file, vast_expression lhs, vast_
 static inline int32_t vast_make_literal(vast_file *file, vast_string text,
                                         vast_literal_format format, vast_expression *made)
 {
-    vast_call_begin(file, "MakeLiteral", 31);
+    vast_call_begin(file, "MakeLiteral", 1);
     vast_call_text(file, text);
     vast_call_variant(file, vast_literal_format_word(format), (uint64_t)format);
     return vast_call_make(file, made == NULL ? NULL : &made->id);
@@ -423,7 +423,7 @@ static inline int32_t vast_make_literal(vast_file *file, vast_string text,
 static inline int32_t vast_make_binary_pattern(vast_file *file, vast_string bits_msb,
                                                vast_expression *made)
 {
-    vast_call_begin(file, "MakeBinaryPattern", 32);
+    vast_call_begin(file, "MakeBinaryPattern", 17);
     vast_call_text(file, bits_msb);
     return vast_call_make(file, made == NULL ? NULL : &made->id);
 }
@@ -441,7 +441,7 @@ static inline int32_t vast_make_unsized_decimal_literal(vast_file *file, int32_t
 static inline int32_t vast_make_string_literal(vast_file *file, vast_string value,
                                                vast_expression *made)
 {
-    vast_call_begin(file, "MakeStringLiteral", 34);
+    vast_call_begin(file, "MakeStringLiteral", 49);
     vast_call_text(file, value);
     return vast_call_make(file, made == NULL ? NULL : &made->id);
 }
@@ -449,28 +449,28 @@ static inline int32_t vast_make_string_literal(vast_file *file, vast_string valu
 /* All ones, `'1`. */
 static inline int32_t vast_make_unsized_one_literal(vast_file *file, vast_expression *made)
 {
-    vast_call_begin(file, "MakeUnsizedOneLiteral", 35);
+    vast_call_begin(file, "MakeUnsizedOneLiteral", 65);
     return vast_call_make(file, made == NULL ? NULL : &made->id);
 }
 
 /* All zeros, `'0`. */
 static inline int32_t vast_make_unsized_zero_literal(vast_file *file, vast_expression *made)
 {
-    vast_call_begin(file, "MakeUnsizedZeroLiteral", 36);
+    vast_call_begin(file, "MakeUnsizedZeroLiteral", 81);
     return vast_call_make(file, made == NULL ? NULL : &made->id);
 }
 
 /* All bits unknown, `'X`. */
 static inline int32_t vast_make_unsized_x_literal(vast_file *file, vast_expression *made)
 {
-    vast_call_begin(file, "MakeUnsizedXLiteral", 37);
+    vast_call_begin(file, "MakeUnsizedXLiteral", 97);
     return vast_call_make(file, made == NULL ? NULL : &made->id);
 }
 
 /* The bare name, which prints as it is and has no type. */
 static inline int32_t vast_make_name(vast_file *file, vast_string name, vast_expression *made)
 {
-    vast_call_begin(file, "MakeName", 38);
+    vast_call_begin(file, "MakeName", 113);
     vast_call_text(file, name);
     return vast_call_make(file, made == NULL ? NULL : &made->id);
 }
@@ -479,7 +479,7 @@ static inline int32_t vast_make_name(vast_file *file, vast_string name, vast_exp
 static inline int32_t vast_make_indexable_expression(vast_file *file, vast_expression expression,
                                                      vast_indexable *made)
 {
-    vast_call_begin(file, "MakeIndexableExpression", 39);
+    vast_call_begin(file, "MakeIndexableExpression", 129);
     vast_call_handle(file, expression.id);
     return vast_call_make(file, made == NULL ? NULL : &made->id);
 }
@@ -491,7 +491,7 @@ static inline int32_t vast_make_indexable_expression(vast_file *file, vast_expre
 static inline int32_t vast_make_slice(vast_file *file, vast_indexable subject, int64_t hi,
                                       int64_t lo, vast_slice *made)
 {
-    vast_call_begin(file, "MakeSlice", 40);
+    vast_call_begin(file, "MakeSlice", 145);
     vast_call_handle(file, subject.id);
     vast_call_integer(file, hi);
     vast_call_integer(file, lo);
@@ -504,7 +504,7 @@ static inline int32_t vast_make_slice(vast_file *file, vast_indexable subject, i
 static inline int32_t vast_make_index(vast_file *file, vast_indexable subject, int64_t index,
                                       vast_index *made)
 {
-    vast_call_begin(file, "MakeIndex", 41);
+    vast_call_begin(file, "MakeIndex", 161);
     vast_call_handle(file, subject.id);
     vast_call_integer(file, index);
     return vast_call_make(file, made == NULL ? NULL : &made->id);
@@ -516,7 +516,7 @@ static inline int32_t vast_make_index(vast_file *file, vast_indexable subject, i
 static inline int32_t vast_make_slice_expr(vast_file *file, vast_indexable subject,
                                            vast_expression hi, vast_expression lo, vast_slice *made)
 {
-    vast_call_begin(file, "MakeSliceExpr", 42);
+    vast_call_begin(file, "MakeSliceExpr", 177);
     vast_call_handle(file, subject.id);
     vast_call_handle(file, hi.id);
     vast_call_handle(file, lo.id);
@@ -527,7 +527,7 @@ static inline int32_t vast_make_slice_expr(vast_file *file, vast_indexable subje
 static inline int32_t vast_make_index_expr(vast_file *file, vast_indexable subject,
                                            vast_expression index, vast_index *made)
 {
-    vast_call_begin(file, "MakeIndexExpr", 43);
+    vast_call_begin(file, "MakeIndexExpr", 193);
     vast_call_handle(file, subject.id);
     vast_call_handle(file, index.id);
     return vast_call_make(file, made == NULL ? NULL : &made->id);
@@ -540,7 +540,7 @@ static inline int32_t vast_make_indexed_part_select(vast_file *file, vast_indexa
                                                     vast_expression start, int64_t width,
                                                     vast_expression *made)
 {
-    vast_call_begin(file, "MakeIndexedPartSelect", 44);
+    vast_call_begin(file, "MakeIndexedPartSelect", 209);
     vast_call_handle(file, subject.id);
     vast_call_handle(file, start.id);
     vast_call_integer(file, width);
@@ -553,7 +553,7 @@ static inline int32_t vast_make_function_call(vast_file *file, vast_string name,
                                               const vast_expression *arguments,
                                               size_t arguments_count, vast_expression *made)
 {
-    vast_call_begin(file, "MakeFunctionCall", 45);
+    vast_call_begin(file, "MakeFunctionCall", 225);
     vast_call_text(file, name);
     vast_call_expressions(file, arguments, arguments_count);
     return vast_call_make(file, made == NULL ? NULL : &made->id);
@@ -563,7 +563,7 @@ static inline int32_t vast_make_function_call(vast_file *file, vast_string name,
 static inline int32_t vast_make_concat(vast_file *file, const vast_expression *expressions,
                                        size_t expressions_count, vast_expression *made)
 {
-    vast_call_begin(file, "MakeConcat", 46);
+    vast_call_begin(file, "MakeConcat", 241);
     vast_call_expressions(file, expressions, expressions_count);
     return vast_call_make(file, made == NULL ? NULL : &made->id);
 }
@@ -573,7 +573,7 @@ static inline int32_t vast_make_replicated_concat(vast_file *file, vast_expressi
                                                   const vast_expression *elements,
                                                   size_t elements_count, vast_expression *made)
 {
-    vast_call_begin(file, "MakeReplicatedConcat", 47);
+    vast_call_begin(file, "MakeReplicatedConcat", 257);
     vast_call_handle(file, replication.id);
     vast_call_expressions(file, elements, elements_count);
     return vast_call_make(file, made == NULL ? NULL : &made->id);
@@ -585,7 +585,7 @@ static inline int32_t vast_make_replicated_concat_i64(vast_file *file, int64_t r
                                                       const vast_expression *elements,
                                                       size_t elements_count, vast_expression *made)
 {
-    vast_call_begin(file, "MakeReplicatedConcatI64", 48);
+    vast_call_begin(file, "MakeReplicatedConcatI64", 273);
     vast_call_integer(file, replication);
     vast_call_expressions(file, elements, elements_count);
     return vast_call_make(file, made == NULL ? NULL : &made->id);
@@ -597,7 +597,7 @@ static inline int32_t vast_make_array_assignment_pattern(vast_file *file,
                                                          size_t elements_count,
                                                          vast_expression *made)
 {
-    vast_call_begin(file, "MakeArrayAssignmentPattern", 49);
+    vast_call_begin(file, "MakeArrayAssignmentPattern", 289);
     vast_call_expressions(file, elements, elements_count);
     return vast_call_make(file, made == NULL ? NULL : &made->id);
 }
@@ -607,7 +607,7 @@ static inline int32_t vast_make_ternary(vast_file *file, vast_expression conditi
                                         vast_expression consequent, vast_expression alternate,
                                         vast_expression *made)
 {
-    vast_call_begin(file, "MakeTernary", 50);
+    vast_call_begin(file, "MakeTernary", 305);
     vast_call_handle(file, condition.id);
     vast_call_handle(file, consequent.id);
     vast_call_handle(file, alternate.id);
@@ -618,7 +618,7 @@ static inline int32_t vast_make_ternary(vast_file *file, vast_expression conditi
 static inline int32_t vast_make_width_cast(vast_file *file, vast_expression width,
                                            vast_expression value, vast_expression *made)
 {
-    vast_call_begin(file, "MakeWidthCast", 51);
+    vast_call_begin(file, "MakeWidthCast", 321);
     vast_call_handle(file, width.id);
     vast_call_handle(file, value.id);
     return vast_call_make(file, made == NULL ? NULL : &made->id);
@@ -629,7 +629,7 @@ static inline int32_t vast_make_width_cast(vast_file *file, vast_expression widt
 static inline int32_t vast_make_type_cast(vast_file *file, vast_type data_type,
                                           vast_expression value, vast_expression *made)
 {
-    vast_call_begin(file, "MakeTypeCast", 52);
+    vast_call_begin(file, "MakeTypeCast", 337);
     vast_call_handle(file, data_type.id);
     vast_call_handle(file, value.id);
     return vast_call_make(file, made == NULL ? NULL : &made->id);
@@ -639,7 +639,7 @@ static inline int32_t vast_make_type_cast(vast_file *file, vast_type data_type,
 static inline int32_t vast_make_pos_edge(vast_file *file, vast_expression expression,
                                          vast_expression *made)
 {
-    vast_call_begin(file, "MakePosEdge", 53);
+    vast_call_begin(file, "MakePosEdge", 353);
     vast_call_handle(file, expression.id);
     return vast_call_make(file, made == NULL ? NULL : &made->id);
 }
@@ -648,7 +648,7 @@ static inline int32_t vast_make_pos_edge(vast_file *file, vast_expression expres
 static inline int32_t vast_make_neg_edge(vast_file *file, vast_expression expression,
                                          vast_expression *made)
 {
-    vast_call_begin(file, "MakeNegEdge", 54);
+    vast_call_begin(file, "MakeNegEdge", 369);
     vast_call_handle(file, expression.id);
     return vast_call_make(file, made == NULL ? NULL : &made->id);
 }
@@ -656,7 +656,7 @@ static inline int32_t vast_make_neg_edge(vast_file *file, vast_expression expres
 /* The use of a macro without arguments, `` `M ``. */
 static inline int32_t vast_make_macro_ref(vast_file *file, vast_string name, vast_macro *made)
 {
-    vast_call_begin(file, "MakeMacroRef", 55);
+    vast_call_begin(file, "MakeMacroRef", 385);
     vast_call_text(file, name);
     return vast_call_make(file, made == NULL ? NULL : &made->id);
 }
@@ -666,7 +666,7 @@ static inline int32_t vast_make_macro_ref_with_args(vast_file *file, vast_string
                                                     const vast_expression *arguments,
                                                     size_t arguments_count, vast_macro *made)
 {
-    vast_call_begin(file, "MakeMacroRefWithArgs", 56);
+    vast_call_begin(file, "MakeMacroRefWithArgs", 401);
     vast_call_text(file, name);
     vast_call_expressions(file, arguments, arguments_count);
     return vast_call_make(file, made == NULL ? NULL : &made->id);
@@ -677,14 +677,14 @@ static inline int32_t vast_make_macro_ref_with_args(vast_file *file, vast_string
 /* The type of one bit. */
 static inline int32_t vast_make_scalar_type(vast_file *file, vast_type *made)
 {
-    vast_call_begin(file, "MakeScalarType", 57);
+    vast_call_begin(file, "MakeScalarType", 2);
     return vast_call_make(file, made == NULL ? NULL : &made->id);
 }
 
 /* Verilog's `integer`. */
 static inline int32_t vast_make_integer_type(vast_file *file, bool is_signed, vast_type *made)
 {
-    vast_call_begin(file, "MakeIntegerType", 58);
+    vast_call_begin(file, "MakeIntegerType", 18);
     vast_call_truth(file, is_signed);
     return vast_call_make(file, made == NULL ? NULL : &made->id);
 }
@@ -692,7 +692,7 @@ static inline int32_t vast_make_integer_type(vast_file *file, bool is_signed, va
 /* SystemVerilog's `int`. */
 static inline int32_t vast_make_int_type(vast_file *file, bool is_signed, vast_type *made)
 {
-    vast_call_begin(file, "MakeIntType", 59);
+    vast_call_begin(file, "MakeIntType", 34);
     vast_call_truth(file, is_signed);
     return vast_call_make(file, made == NULL ? NULL : &made->id);
 }
@@ -700,7 +700,7 @@ static inline int32_t vast_make_int_type(vast_file *file, bool is_signed, vast_t
 /* A type of this name that is declared elsewhere. */
 static inline int32_t vast_make_extern_type(vast_file *file, vast_string name, vast_type *made)
 {
-    vast_call_begin(file, "MakeExternType", 60);
+    vast_call_begin(file, "MakeExternType", 50);
     vast_call_text(file, name);
     return vast_call_make(file, made == NULL ? NULL : &made->id);
 }
@@ -709,7 +709,7 @@ static inline int32_t vast_make_extern_type(vast_file *file, vast_string name, v
 static inline int32_t vast_make_extern_package_type(vast_file *file, vast_string package_name,
                                                     vast_string name, vast_type *made)
 {
-    vast_call_begin(file, "MakeExternPackageType", 61);
+    vast_call_begin(file, "MakeExternPackageType", 66);
     vast_call_text(file, package_name);
     vast_call_text(file, name);
     return vast_call_make(file, made == NULL ? NULL : &made->id);
@@ -721,7 +721,7 @@ static inline int32_t vast_make_extern_package_type(vast_file *file, vast_string
 static inline int32_t vast_make_bit_vector_type(vast_file *file, int64_t bit_count, bool is_signed,
                                                 vast_type *made)
 {
-    vast_call_begin(file, "MakeBitVectorType", 62);
+    vast_call_begin(file, "MakeBitVectorType", 82);
     vast_call_integer(file, bit_count);
     vast_call_truth(file, is_signed);
     return vast_call_make(file, made == NULL ? NULL : &made->id);
@@ -732,7 +732,7 @@ static inline int32_t vast_make_bit_vector_type(vast_file *file, int64_t bit_cou
 static inline int32_t vast_make_bit_vector_type_expr(vast_file *file, vast_expression width,
                                                      bool is_signed, vast_type *made)
 {
-    vast_call_begin(file, "MakeBitVectorTypeExpr", 63);
+    vast_call_begin(file, "MakeBitVectorTypeExpr", 98);
     vast_call_handle(file, width.id);
     vast_call_truth(file, is_signed);
     return vast_call_make(file, made == NULL ? NULL : &made->id);
@@ -745,7 +745,7 @@ static inline int32_t vast_make_packed_array_type(vast_file *file, vast_type ele
                                                   const int64_t *dimensions,
                                                   size_t dimensions_count, vast_type *made)
 {
-    vast_call_begin(file, "MakePackedArrayType", 64);
+    vast_call_begin(file, "MakePackedArrayType", 114);
     vast_call_handle(file, element.id);
     vast_call_integers(file, dimensions, dimensions_count);
     return vast_call_make(file, made == NULL ? NULL : &made->id);
@@ -758,9 +758,36 @@ static inline int32_t vast_make_unpacked_array_type(vast_file *file, vast_type e
                                                     const int64_t *dimensions,
                                                     size_t dimensions_count, vast_type *made)
 {
-    vast_call_begin(file, "MakeUnpackedArrayType", 65);
+    vast_call_begin(file, "MakeUnpackedArrayType", 130);
     vast_call_handle(file, element.id);
     vast_call_integers(file, dimensions, dimensions_count);
+    return vast_call_make(file, made == NULL ? NULL : &made->id);
+}
+
+/* The packed array of elements of a type, each dimension as many as an expression says.
+ * `dimensions`: numbers of elements, the outermost dimension first.
+ * VAST_CONDITION unless: `vast_type_can_be_packed`, at least one dimension, each with
+ * `vast_width_is_usable`. */
+static inline int32_t vast_make_packed_array_type_expr(vast_file *file, vast_type element,
+                                                       const vast_expression *dimensions,
+                                                       size_t dimensions_count, vast_type *made)
+{
+    vast_call_begin(file, "MakePackedArrayTypeExpr", 146);
+    vast_call_handle(file, element.id);
+    vast_call_expressions(file, dimensions, dimensions_count);
+    return vast_call_make(file, made == NULL ? NULL : &made->id);
+}
+
+/* The unpacked array of elements of a type, each dimension as many as an expression says.
+ * `dimensions`: numbers of elements, the outermost dimension first.
+ * VAST_CONDITION unless: at least one dimension, each with `vast_width_is_usable`. */
+static inline int32_t vast_make_unpacked_array_type_expr(vast_file *file, vast_type element,
+                                                         const vast_expression *dimensions,
+                                                         size_t dimensions_count, vast_type *made)
+{
+    vast_call_begin(file, "MakeUnpackedArrayTypeExpr", 162);
+    vast_call_handle(file, element.id);
+    vast_call_expressions(file, dimensions, dimensions_count);
     return vast_call_make(file, made == NULL ? NULL : &made->id);
 }
 
@@ -769,7 +796,7 @@ static inline int32_t vast_make_unpacked_array_type(vast_file *file, vast_type e
 /* The inclusion of the file at this path, as the last item of the file. */
 static inline int32_t vast_add_include(vast_file *file, vast_string include)
 {
-    vast_call_begin(file, "AddInclude", 66);
+    vast_call_begin(file, "AddInclude", 3);
     vast_call_text(file, include);
     return vast_call_make(file, NULL);
 }
@@ -777,7 +804,7 @@ static inline int32_t vast_add_include(vast_file *file, vast_string include)
 /* A blank line, as the last item of the file. */
 static inline int32_t vast_add_blank_line(vast_file *file, vast_blank_line blank_line)
 {
-    vast_call_begin(file, "AddBlankLine", 67);
+    vast_call_begin(file, "AddBlankLine", 19);
     vast_call_handle(file, blank_line.id);
     return vast_call_make(file, NULL);
 }
@@ -785,7 +812,7 @@ static inline int32_t vast_add_blank_line(vast_file *file, vast_blank_line blank
 /* A comment, as the last item of the file. */
 static inline int32_t vast_add_comment_text(vast_file *file, vast_string text)
 {
-    vast_call_begin(file, "AddCommentText", 68);
+    vast_call_begin(file, "AddCommentText", 35);
     vast_call_text(file, text);
     return vast_call_make(file, NULL);
 }
@@ -793,7 +820,7 @@ static inline int32_t vast_add_comment_text(vast_file *file, vast_string text)
 /* An empty module, as the last item of the file. */
 static inline int32_t vast_add_module(vast_file *file, vast_string name, vast_module *made)
 {
-    vast_call_begin(file, "AddModule", 69);
+    vast_call_begin(file, "AddModule", 51);
     vast_call_text(file, name);
     return vast_call_make(file, made == NULL ? NULL : &made->id);
 }
@@ -803,7 +830,7 @@ static inline int32_t vast_add_module(vast_file *file, vast_string name, vast_mo
 static inline int32_t vast_add_input(vast_file *file, vast_module owner, vast_string name,
                                      vast_type data_type, vast_signal *made)
 {
-    vast_call_begin(file, "AddInput", 70);
+    vast_call_begin(file, "AddInput", 67);
     vast_call_handle(file, owner.id);
     vast_call_text(file, name);
     vast_call_handle(file, data_type.id);
@@ -815,7 +842,7 @@ static inline int32_t vast_add_input(vast_file *file, vast_module owner, vast_st
 static inline int32_t vast_add_output(vast_file *file, vast_module owner, vast_string name,
                                       vast_type data_type, vast_signal *made)
 {
-    vast_call_begin(file, "AddOutput", 71);
+    vast_call_begin(file, "AddOutput", 83);
     vast_call_handle(file, owner.id);
     vast_call_text(file, name);
     vast_call_handle(file, data_type.id);
@@ -827,7 +854,7 @@ static inline int32_t vast_add_output(vast_file *file, vast_module owner, vast_s
 static inline int32_t vast_add_inout(vast_file *file, vast_module owner, vast_string name,
                                      vast_type data_type, vast_signal *made)
 {
-    vast_call_begin(file, "AddInout", 72);
+    vast_call_begin(file, "AddInout", 99);
     vast_call_handle(file, owner.id);
     vast_call_text(file, name);
     vast_call_handle(file, data_type.id);
@@ -839,7 +866,7 @@ static inline int32_t vast_add_inout(vast_file *file, vast_module owner, vast_st
 static inline int32_t vast_add_logic_input(vast_file *file, vast_module owner, vast_string name,
                                            vast_type data_type, vast_signal *made)
 {
-    vast_call_begin(file, "AddLogicInput", 73);
+    vast_call_begin(file, "AddLogicInput", 115);
     vast_call_handle(file, owner.id);
     vast_call_text(file, name);
     vast_call_handle(file, data_type.id);
@@ -851,7 +878,7 @@ static inline int32_t vast_add_logic_input(vast_file *file, vast_module owner, v
 static inline int32_t vast_add_logic_output(vast_file *file, vast_module owner, vast_string name,
                                             vast_type data_type, vast_signal *made)
 {
-    vast_call_begin(file, "AddLogicOutput", 74);
+    vast_call_begin(file, "AddLogicOutput", 131);
     vast_call_handle(file, owner.id);
     vast_call_text(file, name);
     vast_call_handle(file, data_type.id);
@@ -863,7 +890,7 @@ static inline int32_t vast_add_logic_output(vast_file *file, vast_module owner, 
 static inline int32_t vast_add_wire(vast_file *file, vast_module owner, vast_string name,
                                     vast_type data_type, vast_signal *made)
 {
-    vast_call_begin(file, "AddWire", 75);
+    vast_call_begin(file, "AddWire", 147);
     vast_call_handle(file, owner.id);
     vast_call_text(file, name);
     vast_call_handle(file, data_type.id);
@@ -875,7 +902,7 @@ static inline int32_t vast_add_wire(vast_file *file, vast_module owner, vast_str
 static inline int32_t vast_add_reg(vast_file *file, vast_module owner, vast_string name,
                                    vast_type data_type, vast_signal *made)
 {
-    vast_call_begin(file, "AddReg", 76);
+    vast_call_begin(file, "AddReg", 163);
     vast_call_handle(file, owner.id);
     vast_call_text(file, name);
     vast_call_handle(file, data_type.id);
@@ -887,7 +914,7 @@ static inline int32_t vast_add_reg(vast_file *file, vast_module owner, vast_stri
 static inline int32_t vast_add_logic(vast_file *file, vast_module owner, vast_string name,
                                      vast_type data_type, vast_signal *made)
 {
-    vast_call_begin(file, "AddLogic", 77);
+    vast_call_begin(file, "AddLogic", 179);
     vast_call_handle(file, owner.id);
     vast_call_text(file, name);
     vast_call_handle(file, data_type.id);
@@ -898,7 +925,7 @@ static inline int32_t vast_add_logic(vast_file *file, vast_module owner, vast_st
 static inline int32_t vast_add_parameter_port(vast_file *file, vast_module owner, vast_string name,
                                               vast_expression value, vast_signal *made)
 {
-    vast_call_begin(file, "AddParameterPort", 78);
+    vast_call_begin(file, "AddParameterPort", 195);
     vast_call_handle(file, owner.id);
     vast_call_text(file, name);
     vast_call_handle(file, value.id);
@@ -910,7 +937,7 @@ static inline int32_t vast_add_typed_parameter_port(vast_file *file, vast_module
                                                     vast_string name, vast_type data_type,
                                                     vast_expression value, vast_signal *made)
 {
-    vast_call_begin(file, "AddTypedParameterPort", 79);
+    vast_call_begin(file, "AddTypedParameterPort", 211);
     vast_call_handle(file, owner.id);
     vast_call_text(file, name);
     vast_call_handle(file, data_type.id);
@@ -922,7 +949,7 @@ static inline int32_t vast_add_typed_parameter_port(vast_file *file, vast_module
 static inline int32_t vast_add_parameter(vast_file *file, vast_module owner, vast_string name,
                                          vast_expression rhs, vast_parameter *made)
 {
-    vast_call_begin(file, "AddParameter", 80);
+    vast_call_begin(file, "AddParameter", 227);
     vast_call_handle(file, owner.id);
     vast_call_text(file, name);
     vast_call_handle(file, rhs.id);
@@ -934,7 +961,7 @@ static inline int32_t vast_add_parameter_with_def(vast_file *file, vast_module o
                                                   vast_definition definition, vast_expression rhs,
                                                   vast_parameter *made)
 {
-    vast_call_begin(file, "AddParameterWithDef", 81);
+    vast_call_begin(file, "AddParameterWithDef", 243);
     vast_call_handle(file, owner.id);
     vast_call_handle(file, definition.id);
     vast_call_handle(file, rhs.id);
@@ -945,7 +972,7 @@ static inline int32_t vast_add_parameter_with_def(vast_file *file, vast_module o
 static inline int32_t vast_add_localparam(vast_file *file, vast_module owner, vast_string name,
                                           vast_expression rhs, vast_localparam *made)
 {
-    vast_call_begin(file, "AddLocalparam", 82);
+    vast_call_begin(file, "AddLocalparam", 259);
     vast_call_handle(file, owner.id);
     vast_call_text(file, name);
     vast_call_handle(file, rhs.id);
@@ -956,7 +983,7 @@ static inline int32_t vast_add_localparam(vast_file *file, vast_module owner, va
 static inline int32_t vast_add_int_localparam(vast_file *file, vast_module owner, vast_string name,
                                               vast_expression rhs, vast_localparam *made)
 {
-    vast_call_begin(file, "AddIntLocalparam", 83);
+    vast_call_begin(file, "AddIntLocalparam", 275);
     vast_call_handle(file, owner.id);
     vast_call_text(file, name);
     vast_call_handle(file, rhs.id);
@@ -968,7 +995,7 @@ static inline int32_t vast_add_typed_localparam(vast_file *file, vast_module own
                                                 vast_definition definition, vast_expression rhs,
                                                 vast_localparam *made)
 {
-    vast_call_begin(file, "AddTypedLocalparam", 84);
+    vast_call_begin(file, "AddTypedLocalparam", 291);
     vast_call_handle(file, owner.id);
     vast_call_handle(file, definition.id);
     vast_call_handle(file, rhs.id);
@@ -982,7 +1009,7 @@ static inline int32_t vast_add_typed_localparam(vast_file *file, vast_module own
 static inline int32_t vast_hoist_module_declarations(vast_file *file, vast_module owner,
                                                      uint64_t start)
 {
-    vast_call_begin(file, "HoistModuleDeclarations", 85);
+    vast_call_begin(file, "HoistModuleDeclarations", 307);
     vast_call_handle(file, owner.id);
     vast_call_natural(file, start);
     return vast_call_make(file, NULL);
@@ -996,7 +1023,7 @@ static inline int32_t vast_add_generate_loop(vast_file *file, vast_module owner,
                                              vast_expression start, vast_expression end,
                                              vast_string label, vast_loop *made)
 {
-    vast_call_begin(file, "AddGenerateLoop", 86);
+    vast_call_begin(file, "AddGenerateLoop", 4);
     vast_call_handle(file, owner.id);
     vast_call_text(file, name);
     vast_call_handle(file, start.id);
@@ -1012,7 +1039,7 @@ static inline int32_t vast_generate_add_generate_loop(vast_file *file, vast_loop
                                                       vast_expression end, vast_string label,
                                                       vast_loop *made)
 {
-    vast_call_begin(file, "GenerateAddGenerateLoop", 87);
+    vast_call_begin(file, "GenerateAddGenerateLoop", 20);
     vast_call_handle(file, parent.id);
     vast_call_text(file, name);
     vast_call_handle(file, start.id);
@@ -1024,7 +1051,7 @@ static inline int32_t vast_generate_add_generate_loop(vast_file *file, vast_loop
 /* The loop's variable as an expression, which is the file's. */
 static inline int32_t vast_generate_genvar(vast_file *file, vast_loop generate, vast_signal *made)
 {
-    vast_call_begin(file, "GenerateGenvar", 88);
+    vast_call_begin(file, "GenerateGenvar", 36);
     vast_call_handle(file, generate.id);
     return vast_call_make(file, made == NULL ? NULL : &made->id);
 }
@@ -1033,7 +1060,7 @@ static inline int32_t vast_generate_genvar(vast_file *file, vast_loop generate, 
 static inline int32_t vast_generate_add_always_comb(vast_file *file, vast_loop generate,
                                                     vast_always *made)
 {
-    vast_call_begin(file, "GenerateAddAlwaysComb", 89);
+    vast_call_begin(file, "GenerateAddAlwaysComb", 52);
     vast_call_handle(file, generate.id);
     return vast_call_make(file, made == NULL ? NULL : &made->id);
 }
@@ -1045,7 +1072,7 @@ static inline int32_t vast_generate_add_always_ff(vast_file *file, vast_loop gen
                                                   const vast_expression *sensitivity_list,
                                                   size_t sensitivity_list_count, vast_always *made)
 {
-    vast_call_begin(file, "GenerateAddAlwaysFf", 90);
+    vast_call_begin(file, "GenerateAddAlwaysFf", 68);
     vast_call_handle(file, generate.id);
     vast_call_expressions(file, sensitivity_list, sensitivity_list_count);
     return vast_call_make(file, made == NULL ? NULL : &made->id);
@@ -1058,7 +1085,7 @@ static inline int32_t vast_generate_add_always_at(vast_file *file, vast_loop gen
                                                   const vast_expression *sensitivity_list,
                                                   size_t sensitivity_list_count, vast_always *made)
 {
-    vast_call_begin(file, "GenerateAddAlwaysAt", 91);
+    vast_call_begin(file, "GenerateAddAlwaysAt", 84);
     vast_call_handle(file, generate.id);
     vast_call_expressions(file, sensitivity_list, sensitivity_list_count);
     return vast_call_make(file, made == NULL ? NULL : &made->id);
@@ -1069,7 +1096,7 @@ static inline int32_t vast_generate_add_localparam(vast_file *file, vast_loop ge
                                                    vast_string name, vast_expression rhs,
                                                    vast_localparam *made)
 {
-    vast_call_begin(file, "GenerateAddLocalparam", 92);
+    vast_call_begin(file, "GenerateAddLocalparam", 100);
     vast_call_handle(file, generate.id);
     vast_call_text(file, name);
     vast_call_handle(file, rhs.id);
@@ -1081,7 +1108,7 @@ static inline int32_t vast_generate_add_typed_localparam(vast_file *file, vast_l
                                                          vast_definition definition,
                                                          vast_expression rhs, vast_localparam *made)
 {
-    vast_call_begin(file, "GenerateAddTypedLocalparam", 93);
+    vast_call_begin(file, "GenerateAddTypedLocalparam", 116);
     vast_call_handle(file, generate.id);
     vast_call_handle(file, definition.id);
     vast_call_handle(file, rhs.id);
@@ -1094,7 +1121,7 @@ static inline int32_t vast_generate_add_continuous_assignment(vast_file *file, v
                                                               vast_expression rhs,
                                                               vast_statement *made)
 {
-    vast_call_begin(file, "GenerateAddContinuousAssignment", 94);
+    vast_call_begin(file, "GenerateAddContinuousAssignment", 132);
     vast_call_handle(file, generate.id);
     vast_call_handle(file, lhs.id);
     vast_call_handle(file, rhs.id);
@@ -1106,7 +1133,7 @@ static inline int32_t vast_generate_add_conditional(vast_file *file, vast_loop g
                                                     vast_expression condition,
                                                     vast_conditional *made)
 {
-    vast_call_begin(file, "GenerateAddConditional", 95);
+    vast_call_begin(file, "GenerateAddConditional", 148);
     vast_call_handle(file, generate.id);
     vast_call_handle(file, condition.id);
     return vast_call_make(file, made == NULL ? NULL : &made->id);
@@ -1115,7 +1142,7 @@ static inline int32_t vast_generate_add_conditional(vast_file *file, vast_loop g
 /* A blank line, as the loop's last member. */
 static inline int32_t vast_generate_add_blank_line(vast_file *file, vast_loop generate)
 {
-    vast_call_begin(file, "GenerateAddBlankLine", 96);
+    vast_call_begin(file, "GenerateAddBlankLine", 164);
     vast_call_handle(file, generate.id);
     return vast_call_make(file, NULL);
 }
@@ -1124,7 +1151,7 @@ static inline int32_t vast_generate_add_blank_line(vast_file *file, vast_loop ge
 static inline int32_t vast_generate_add_comment(vast_file *file, vast_loop generate,
                                                 vast_comment comment)
 {
-    vast_call_begin(file, "GenerateAddComment", 97);
+    vast_call_begin(file, "GenerateAddComment", 180);
     vast_call_handle(file, generate.id);
     vast_call_handle(file, comment.id);
     return vast_call_make(file, NULL);
@@ -1134,7 +1161,7 @@ static inline int32_t vast_generate_add_comment(vast_file *file, vast_loop gener
 static inline int32_t vast_generate_add_instantiation(vast_file *file, vast_loop generate,
                                                       vast_instantiation instantiation)
 {
-    vast_call_begin(file, "GenerateAddInstantiation", 98);
+    vast_call_begin(file, "GenerateAddInstantiation", 196);
     vast_call_handle(file, generate.id);
     vast_call_handle(file, instantiation.id);
     return vast_call_make(file, NULL);
@@ -1144,7 +1171,7 @@ static inline int32_t vast_generate_add_instantiation(vast_file *file, vast_loop
 static inline int32_t vast_generate_add_inline_statement(vast_file *file, vast_loop generate,
                                                          vast_inline_statement statement)
 {
-    vast_call_begin(file, "GenerateAddInlineStatement", 99);
+    vast_call_begin(file, "GenerateAddInlineStatement", 212);
     vast_call_handle(file, generate.id);
     vast_call_handle(file, statement.id);
     return vast_call_make(file, NULL);
@@ -1154,7 +1181,7 @@ static inline int32_t vast_generate_add_inline_statement(vast_file *file, vast_l
 static inline int32_t vast_generate_add_macro_statement(vast_file *file, vast_loop generate,
                                                         vast_macro_statement statement)
 {
-    vast_call_begin(file, "GenerateAddMacroStatement", 100);
+    vast_call_begin(file, "GenerateAddMacroStatement", 228);
     vast_call_handle(file, generate.id);
     vast_call_handle(file, statement.id);
     return vast_call_make(file, NULL);
@@ -1167,7 +1194,7 @@ static inline int32_t vast_generate_add_macro_statement(vast_file *file, vast_lo
 static inline int32_t vast_add_function(vast_file *file, vast_module owner, vast_string name,
                                         vast_type result_type, vast_function *made)
 {
-    vast_call_begin(file, "AddFunction", 101);
+    vast_call_begin(file, "AddFunction", 5);
     vast_call_handle(file, owner.id);
     vast_call_text(file, name);
     vast_call_handle(file, result_type.id);
@@ -1180,7 +1207,7 @@ static inline int32_t vast_function_add_input(vast_file *file, vast_function fun
                                               vast_string name, vast_type data_type,
                                               vast_signal *made)
 {
-    vast_call_begin(file, "FunctionAddInput", 102);
+    vast_call_begin(file, "FunctionAddInput", 21);
     vast_call_handle(file, function.id);
     vast_call_text(file, name);
     vast_call_handle(file, data_type.id);
@@ -1193,7 +1220,7 @@ static inline int32_t vast_function_add_logic_input(vast_file *file, vast_functi
                                                     vast_string name, vast_type data_type,
                                                     vast_signal *made)
 {
-    vast_call_begin(file, "FunctionAddLogicInput", 103);
+    vast_call_begin(file, "FunctionAddLogicInput", 37);
     vast_call_handle(file, function.id);
     vast_call_text(file, name);
     vast_call_handle(file, data_type.id);
@@ -1206,7 +1233,7 @@ static inline int32_t vast_function_add_reg(vast_file *file, vast_function funct
                                             vast_string name, vast_type data_type,
                                             vast_signal *made)
 {
-    vast_call_begin(file, "FunctionAddReg", 104);
+    vast_call_begin(file, "FunctionAddReg", 53);
     vast_call_handle(file, function.id);
     vast_call_text(file, name);
     vast_call_handle(file, data_type.id);
@@ -1219,7 +1246,7 @@ static inline int32_t vast_function_add_logic(vast_file *file, vast_function fun
                                               vast_string name, vast_type data_type,
                                               vast_signal *made)
 {
-    vast_call_begin(file, "FunctionAddLogic", 105);
+    vast_call_begin(file, "FunctionAddLogic", 69);
     vast_call_handle(file, function.id);
     vast_call_text(file, name);
     vast_call_handle(file, data_type.id);
@@ -1229,7 +1256,7 @@ static inline int32_t vast_function_add_logic(vast_file *file, vast_function fun
 /* The function's body, which is the file's. */
 static inline int32_t vast_function_body(vast_file *file, vast_function function, vast_block *made)
 {
-    vast_call_begin(file, "FunctionBody", 106);
+    vast_call_begin(file, "FunctionBody", 85);
     vast_call_handle(file, function.id);
     return vast_call_make(file, made == NULL ? NULL : &made->id);
 }
@@ -1239,7 +1266,7 @@ static inline int32_t vast_function_body(vast_file *file, vast_function function
 static inline int32_t vast_function_result(vast_file *file, vast_function function,
                                            vast_signal *made)
 {
-    vast_call_begin(file, "FunctionResult", 107);
+    vast_call_begin(file, "FunctionResult", 101);
     vast_call_handle(file, function.id);
     return vast_call_make(file, made == NULL ? NULL : &made->id);
 }
@@ -1251,7 +1278,7 @@ static inline int32_t vast_add_always_ff(vast_file *file, vast_module owner,
                                          const vast_expression *sensitivity_list,
                                          size_t sensitivity_list_count, vast_always *made)
 {
-    vast_call_begin(file, "AddAlwaysFf", 108);
+    vast_call_begin(file, "AddAlwaysFf", 117);
     vast_call_handle(file, owner.id);
     vast_call_expressions(file, sensitivity_list, sensitivity_list_count);
     return vast_call_make(file, made == NULL ? NULL : &made->id);
@@ -1264,7 +1291,7 @@ static inline int32_t vast_add_always_at(vast_file *file, vast_module owner,
                                          const vast_expression *sensitivity_list,
                                          size_t sensitivity_list_count, vast_always *made)
 {
-    vast_call_begin(file, "AddAlwaysAt", 109);
+    vast_call_begin(file, "AddAlwaysAt", 133);
     vast_call_handle(file, owner.id);
     vast_call_expressions(file, sensitivity_list, sensitivity_list_count);
     return vast_call_make(file, made == NULL ? NULL : &made->id);
@@ -1273,7 +1300,7 @@ static inline int32_t vast_add_always_at(vast_file *file, vast_module owner,
 /* An `always_comb` with an empty block, as the module's last member. */
 static inline int32_t vast_add_always_comb(vast_file *file, vast_module owner, vast_always *made)
 {
-    vast_call_begin(file, "AddAlwaysComb", 110);
+    vast_call_begin(file, "AddAlwaysComb", 149);
     vast_call_handle(file, owner.id);
     return vast_call_make(file, made == NULL ? NULL : &made->id);
 }
@@ -1281,7 +1308,7 @@ static inline int32_t vast_add_always_comb(vast_file *file, vast_module owner, v
 /* The block of the always block, which is the file's. */
 static inline int32_t vast_statement_block(vast_file *file, vast_always always, vast_block *made)
 {
-    vast_call_begin(file, "StatementBlock", 111);
+    vast_call_begin(file, "StatementBlock", 165);
     vast_call_handle(file, always.id);
     return vast_call_make(file, made == NULL ? NULL : &made->id);
 }
@@ -1291,7 +1318,7 @@ static inline int32_t vast_block_add_blocking_assignment(vast_file *file, vast_b
                                                          vast_expression lhs, vast_expression rhs,
                                                          vast_statement *made)
 {
-    vast_call_begin(file, "BlockAddBlockingAssignment", 112);
+    vast_call_begin(file, "BlockAddBlockingAssignment", 181);
     vast_call_handle(file, block.id);
     vast_call_handle(file, lhs.id);
     vast_call_handle(file, rhs.id);
@@ -1304,7 +1331,7 @@ static inline int32_t vast_block_add_nonblocking_assignment(vast_file *file, vas
                                                             vast_expression rhs,
                                                             vast_statement *made)
 {
-    vast_call_begin(file, "BlockAddNonblockingAssignment", 113);
+    vast_call_begin(file, "BlockAddNonblockingAssignment", 197);
     vast_call_handle(file, block.id);
     vast_call_handle(file, lhs.id);
     vast_call_handle(file, rhs.id);
@@ -1316,7 +1343,7 @@ static inline int32_t vast_block_add_continuous_assignment(vast_file *file, vast
                                                            vast_expression lhs, vast_expression rhs,
                                                            vast_statement *made)
 {
-    vast_call_begin(file, "BlockAddContinuousAssignment", 114);
+    vast_call_begin(file, "BlockAddContinuousAssignment", 213);
     vast_call_handle(file, block.id);
     vast_call_handle(file, lhs.id);
     vast_call_handle(file, rhs.id);
@@ -1327,7 +1354,7 @@ static inline int32_t vast_block_add_continuous_assignment(vast_file *file, vast
 static inline int32_t vast_block_add_comment_text(vast_file *file, vast_block block,
                                                   vast_string text)
 {
-    vast_call_begin(file, "BlockAddCommentText", 115);
+    vast_call_begin(file, "BlockAddCommentText", 229);
     vast_call_handle(file, block.id);
     vast_call_text(file, text);
     return vast_call_make(file, NULL);
@@ -1337,7 +1364,7 @@ static inline int32_t vast_block_add_comment_text(vast_file *file, vast_block bl
 static inline int32_t vast_block_add_inline_text(vast_file *file, vast_block block,
                                                  vast_string text)
 {
-    vast_call_begin(file, "BlockAddInlineText", 116);
+    vast_call_begin(file, "BlockAddInlineText", 245);
     vast_call_handle(file, block.id);
     vast_call_text(file, text);
     return vast_call_make(file, NULL);
@@ -1346,7 +1373,7 @@ static inline int32_t vast_block_add_inline_text(vast_file *file, vast_block blo
 /* A blank line, as the block's last statement. */
 static inline int32_t vast_block_add_blank_line(vast_file *file, vast_block block)
 {
-    vast_call_begin(file, "BlockAddBlankLine", 117);
+    vast_call_begin(file, "BlockAddBlankLine", 261);
     vast_call_handle(file, block.id);
     return vast_call_make(file, NULL);
 }
@@ -1355,7 +1382,7 @@ static inline int32_t vast_block_add_blank_line(vast_file *file, vast_block bloc
 static inline int32_t vast_add_conditional(vast_file *file, vast_module owner,
                                            vast_expression condition, vast_conditional *made)
 {
-    vast_call_begin(file, "AddConditional", 118);
+    vast_call_begin(file, "AddConditional", 277);
     vast_call_handle(file, owner.id);
     vast_call_handle(file, condition.id);
     return vast_call_make(file, made == NULL ? NULL : &made->id);
@@ -1365,7 +1392,7 @@ static inline int32_t vast_add_conditional(vast_file *file, vast_module owner,
 static inline int32_t vast_block_add_cond(vast_file *file, vast_block block,
                                           vast_expression condition, vast_conditional *made)
 {
-    vast_call_begin(file, "BlockAddCond", 119);
+    vast_call_begin(file, "BlockAddCond", 293);
     vast_call_handle(file, block.id);
     vast_call_handle(file, condition.id);
     return vast_call_make(file, made == NULL ? NULL : &made->id);
@@ -1375,7 +1402,7 @@ static inline int32_t vast_block_add_cond(vast_file *file, vast_block block,
 static inline int32_t vast_conditional_then_block(vast_file *file, vast_conditional conditional,
                                                   vast_block *made)
 {
-    vast_call_begin(file, "ConditionalThenBlock", 120);
+    vast_call_begin(file, "ConditionalThenBlock", 309);
     vast_call_handle(file, conditional.id);
     return vast_call_make(file, made == NULL ? NULL : &made->id);
 }
@@ -1385,7 +1412,7 @@ static inline int32_t vast_conditional_then_block(vast_file *file, vast_conditio
 static inline int32_t vast_conditional_add_else_if(vast_file *file, vast_conditional conditional,
                                                    vast_expression condition, vast_block *made)
 {
-    vast_call_begin(file, "ConditionalAddElseIf", 121);
+    vast_call_begin(file, "ConditionalAddElseIf", 325);
     vast_call_handle(file, conditional.id);
     vast_call_handle(file, condition.id);
     return vast_call_make(file, made == NULL ? NULL : &made->id);
@@ -1396,7 +1423,7 @@ static inline int32_t vast_conditional_add_else_if(vast_file *file, vast_conditi
 static inline int32_t vast_conditional_add_else(vast_file *file, vast_conditional conditional,
                                                 vast_block *made)
 {
-    vast_call_begin(file, "ConditionalAddElse", 122);
+    vast_call_begin(file, "ConditionalAddElse", 341);
     vast_call_handle(file, conditional.id);
     return vast_call_make(file, made == NULL ? NULL : &made->id);
 }
@@ -1405,7 +1432,7 @@ static inline int32_t vast_conditional_add_else(vast_file *file, vast_conditiona
 static inline int32_t vast_block_add_case(vast_file *file, vast_block block,
                                           vast_expression selector, vast_case *made)
 {
-    vast_call_begin(file, "BlockAddCase", 123);
+    vast_call_begin(file, "BlockAddCase", 357);
     vast_call_handle(file, block.id);
     vast_call_handle(file, selector.id);
     return vast_call_make(file, made == NULL ? NULL : &made->id);
@@ -1415,7 +1442,7 @@ static inline int32_t vast_block_add_case(vast_file *file, vast_block block,
 static inline int32_t vast_block_add_casez(vast_file *file, vast_block block,
                                            vast_expression selector, vast_case *made)
 {
-    vast_call_begin(file, "BlockAddCasez", 124);
+    vast_call_begin(file, "BlockAddCasez", 373);
     vast_call_handle(file, block.id);
     vast_call_handle(file, selector.id);
     return vast_call_make(file, made == NULL ? NULL : &made->id);
@@ -1425,7 +1452,7 @@ static inline int32_t vast_block_add_casez(vast_file *file, vast_block block,
 static inline int32_t vast_block_add_casex(vast_file *file, vast_block block,
                                            vast_expression selector, vast_case *made)
 {
-    vast_call_begin(file, "BlockAddCasex", 125);
+    vast_call_begin(file, "BlockAddCasex", 389);
     vast_call_handle(file, block.id);
     vast_call_handle(file, selector.id);
     return vast_call_make(file, made == NULL ? NULL : &made->id);
@@ -1435,7 +1462,7 @@ static inline int32_t vast_block_add_casex(vast_file *file, vast_block block,
 static inline int32_t vast_case_add_item(vast_file *file, vast_case case_statement,
                                          vast_expression pattern, vast_block *made)
 {
-    vast_call_begin(file, "CaseAddItem", 126);
+    vast_call_begin(file, "CaseAddItem", 405);
     vast_call_handle(file, case_statement.id);
     vast_call_handle(file, pattern.id);
     return vast_call_make(file, made == NULL ? NULL : &made->id);
@@ -1445,7 +1472,7 @@ static inline int32_t vast_case_add_item(vast_file *file, vast_case case_stateme
 static inline int32_t vast_case_add_default(vast_file *file, vast_case case_statement,
                                             vast_block *made)
 {
-    vast_call_begin(file, "CaseAddDefault", 127);
+    vast_call_begin(file, "CaseAddDefault", 421);
     vast_call_handle(file, case_statement.id);
     return vast_call_make(file, made == NULL ? NULL : &made->id);
 }
@@ -1454,7 +1481,7 @@ static inline int32_t vast_case_add_default(vast_file *file, vast_case case_stat
  * VAST_REFUSED for `true` in Verilog. */
 static inline int32_t vast_case_set_unique(vast_file *file, vast_case case_statement, bool unique)
 {
-    vast_call_begin(file, "CaseSetUnique", 128);
+    vast_call_begin(file, "CaseSetUnique", 437);
     vast_call_handle(file, case_statement.id);
     vast_call_truth(file, unique);
     return vast_call_make(file, NULL);
@@ -1466,7 +1493,7 @@ static inline int32_t vast_case_set_unique(vast_file *file, vast_case case_state
 static inline int32_t vast_make_def(vast_file *file, vast_string name, vast_data_kind kind,
                                     vast_type data_type, vast_definition *made)
 {
-    vast_call_begin(file, "MakeDef", 129);
+    vast_call_begin(file, "MakeDef", 6);
     vast_call_text(file, name);
     vast_call_variant(file, vast_data_kind_word(kind), (uint64_t)kind);
     vast_call_handle(file, data_type.id);
@@ -1476,14 +1503,14 @@ static inline int32_t vast_make_def(vast_file *file, vast_string name, vast_data
 /* A blank line. */
 static inline int32_t vast_make_blank_line(vast_file *file, vast_blank_line *made)
 {
-    vast_call_begin(file, "MakeBlankLine", 130);
+    vast_call_begin(file, "MakeBlankLine", 22);
     return vast_call_make(file, made == NULL ? NULL : &made->id);
 }
 
 /* A comment; each line of the text becomes a line `// ..`. */
 static inline int32_t vast_make_comment(vast_file *file, vast_string text, vast_comment *made)
 {
-    vast_call_begin(file, "MakeComment", 131);
+    vast_call_begin(file, "MakeComment", 38);
     vast_call_text(file, text);
     return vast_call_make(file, made == NULL ? NULL : &made->id);
 }
@@ -1492,7 +1519,7 @@ static inline int32_t vast_make_comment(vast_file *file, vast_string text, vast_
 static inline int32_t vast_make_inline_verilog_statement(vast_file *file, vast_string text,
                                                          vast_inline_statement *made)
 {
-    vast_call_begin(file, "MakeInlineVerilogStatement", 132);
+    vast_call_begin(file, "MakeInlineVerilogStatement", 54);
     vast_call_text(file, text);
     return vast_call_make(file, made == NULL ? NULL : &made->id);
 }
@@ -1501,7 +1528,7 @@ static inline int32_t vast_make_inline_verilog_statement(vast_file *file, vast_s
 static inline int32_t vast_make_macro_statement(vast_file *file, vast_macro macro_ref,
                                                 bool semicolon, vast_macro_statement *made)
 {
-    vast_call_begin(file, "MakeMacroStatement", 133);
+    vast_call_begin(file, "MakeMacroStatement", 70);
     vast_call_handle(file, macro_ref.id);
     vast_call_truth(file, semicolon);
     return vast_call_make(file, made == NULL ? NULL : &made->id);
@@ -1511,7 +1538,7 @@ static inline int32_t vast_make_macro_statement(vast_file *file, vast_macro macr
 static inline int32_t vast_make_continuous_assignment(vast_file *file, vast_expression lhs,
                                                       vast_expression rhs, vast_assignment *made)
 {
-    vast_call_begin(file, "MakeContinuousAssignment", 134);
+    vast_call_begin(file, "MakeContinuousAssignment", 86);
     vast_call_handle(file, lhs.id);
     vast_call_handle(file, rhs.id);
     return vast_call_make(file, made == NULL ? NULL : &made->id);
@@ -1521,7 +1548,7 @@ static inline int32_t vast_make_continuous_assignment(vast_file *file, vast_expr
 static inline int32_t vast_make_nonblocking_assignment(vast_file *file, vast_expression lhs,
                                                        vast_expression rhs, vast_statement *made)
 {
-    vast_call_begin(file, "MakeNonblockingAssignment", 135);
+    vast_call_begin(file, "MakeNonblockingAssignment", 102);
     vast_call_handle(file, lhs.id);
     vast_call_handle(file, rhs.id);
     return vast_call_make(file, made == NULL ? NULL : &made->id);
@@ -1531,7 +1558,7 @@ static inline int32_t vast_make_nonblocking_assignment(vast_file *file, vast_exp
 static inline int32_t vast_make_blocking_assignment(vast_file *file, vast_expression lhs,
                                                     vast_expression rhs, vast_statement *made)
 {
-    vast_call_begin(file, "MakeBlockingAssignment", 136);
+    vast_call_begin(file, "MakeBlockingAssignment", 118);
     vast_call_handle(file, lhs.id);
     vast_call_handle(file, rhs.id);
     return vast_call_make(file, made == NULL ? NULL : &made->id);
@@ -1553,7 +1580,7 @@ static inline int32_t vast_make_instantiation(vast_file *file, vast_string modul
                                               size_t connection_expressions_count,
                                               vast_instantiation *made)
 {
-    vast_call_begin(file, "MakeInstantiation", 137);
+    vast_call_begin(file, "MakeInstantiation", 134);
     vast_call_text(file, module_name);
     vast_call_text(file, instance_name);
     vast_call_texts(file, parameter_names, parameter_names_count);
@@ -1567,7 +1594,7 @@ static inline int32_t vast_make_instantiation(vast_file *file, vast_string modul
 static inline int32_t vast_add_member_instantiation(vast_file *file, vast_module owner,
                                                     vast_instantiation instantiation)
 {
-    vast_call_begin(file, "AddMemberInstantiation", 138);
+    vast_call_begin(file, "AddMemberInstantiation", 150);
     vast_call_handle(file, owner.id);
     vast_call_handle(file, instantiation.id);
     return vast_call_make(file, NULL);
@@ -1577,7 +1604,7 @@ static inline int32_t vast_add_member_instantiation(vast_file *file, vast_module
 static inline int32_t vast_add_member_continuous_assignment(vast_file *file, vast_module owner,
                                                             vast_assignment assignment)
 {
-    vast_call_begin(file, "AddMemberContinuousAssignment", 139);
+    vast_call_begin(file, "AddMemberContinuousAssignment", 166);
     vast_call_handle(file, owner.id);
     vast_call_handle(file, assignment.id);
     return vast_call_make(file, NULL);
@@ -1587,7 +1614,7 @@ static inline int32_t vast_add_member_continuous_assignment(vast_file *file, vas
 static inline int32_t vast_add_member_blank_line(vast_file *file, vast_module owner,
                                                  vast_blank_line blank)
 {
-    vast_call_begin(file, "AddMemberBlankLine", 140);
+    vast_call_begin(file, "AddMemberBlankLine", 182);
     vast_call_handle(file, owner.id);
     vast_call_handle(file, blank.id);
     return vast_call_make(file, NULL);
@@ -1597,7 +1624,7 @@ static inline int32_t vast_add_member_blank_line(vast_file *file, vast_module ow
 static inline int32_t vast_add_member_comment(vast_file *file, vast_module owner,
                                               vast_comment comment)
 {
-    vast_call_begin(file, "AddMemberComment", 141);
+    vast_call_begin(file, "AddMemberComment", 198);
     vast_call_handle(file, owner.id);
     vast_call_handle(file, comment.id);
     return vast_call_make(file, NULL);
@@ -1607,7 +1634,7 @@ static inline int32_t vast_add_member_comment(vast_file *file, vast_module owner
 static inline int32_t vast_add_member_inline_statement(vast_file *file, vast_module owner,
                                                        vast_inline_statement statement)
 {
-    vast_call_begin(file, "AddMemberInlineStatement", 142);
+    vast_call_begin(file, "AddMemberInlineStatement", 214);
     vast_call_handle(file, owner.id);
     vast_call_handle(file, statement.id);
     return vast_call_make(file, NULL);
@@ -1617,7 +1644,7 @@ static inline int32_t vast_add_member_inline_statement(vast_file *file, vast_mod
 static inline int32_t vast_add_member_macro_statement(vast_file *file, vast_module owner,
                                                       vast_macro_statement statement)
 {
-    vast_call_begin(file, "AddMemberMacroStatement", 143);
+    vast_call_begin(file, "AddMemberMacroStatement", 230);
     vast_call_handle(file, owner.id);
     vast_call_handle(file, statement.id);
     return vast_call_make(file, NULL);
@@ -1629,7 +1656,7 @@ static inline int32_t vast_add_member_macro_statement(vast_file *file, vast_modu
 static inline int32_t vast_conditional_has_else(vast_file *file, vast_conditional conditional,
                                                 bool *answer)
 {
-    vast_call_begin(file, "?ConditionalHasElse", 144);
+    vast_call_begin(file, "?ConditionalHasElse", 7);
     vast_call_handle(file, conditional.id);
     return vast_ask_truth(file, answer);
 }
@@ -1638,7 +1665,7 @@ static inline int32_t vast_conditional_has_else(vast_file *file, vast_conditiona
  * VAST_REFUSED where an index or a slice of a named scalar has a bound that is no literal 0. */
 static inline int32_t vast_emit_expression(vast_file *file, vast_expression e, vast_string *answer)
 {
-    vast_call_begin(file, "?EmitExpression", 146);
+    vast_call_begin(file, "?EmitExpression", 39);
     vast_call_handle(file, e.id);
     return vast_ask_text(file, answer);
 }
@@ -1647,7 +1674,7 @@ static inline int32_t vast_emit_expression(vast_file *file, vast_expression e, v
  * inline. */
 static inline int32_t vast_file_is_plain(vast_file *file, bool *answer)
 {
-    vast_call_begin(file, "?FileIsPlain", 147);
+    vast_call_begin(file, "?FileIsPlain", 55);
     return vast_ask_truth(file, answer);
 }
 
@@ -1655,7 +1682,7 @@ static inline int32_t vast_file_is_plain(vast_file *file, bool *answer)
 static inline int32_t vast_is_system_verilog_keyword(vast_file *file, vast_string identifier,
                                                      bool *answer)
 {
-    vast_call_begin(file, "?IsSystemVerilogKeyword", 148);
+    vast_call_begin(file, "?IsSystemVerilogKeyword", 71);
     vast_call_text(file, identifier);
     return vast_ask_truth(file, answer);
 }
@@ -1664,7 +1691,7 @@ static inline int32_t vast_is_system_verilog_keyword(vast_file *file, vast_strin
 static inline int32_t vast_logic_ref_name(vast_file *file, vast_signal logic_ref,
                                           vast_string *answer)
 {
-    vast_call_begin(file, "?LogicRefName", 149);
+    vast_call_begin(file, "?LogicRefName", 87);
     vast_call_handle(file, logic_ref.id);
     return vast_ask_text(file, answer);
 }
@@ -1673,7 +1700,7 @@ static inline int32_t vast_logic_ref_name(vast_file *file, vast_signal logic_ref
 static inline int32_t vast_module_input_ports(vast_file *file, vast_module owner,
                                               vast_ports *answer)
 {
-    vast_call_begin(file, "?ModuleInputPorts", 150);
+    vast_call_begin(file, "?ModuleInputPorts", 103);
     vast_call_handle(file, owner.id);
     return vast_ask_ports(file, answer);
 }
@@ -1681,7 +1708,7 @@ static inline int32_t vast_module_input_ports(vast_file *file, vast_module owner
 /* How many members the module has: where its next member will stand. */
 static inline int32_t vast_module_member_count(vast_file *file, vast_module owner, uint64_t *answer)
 {
-    vast_call_begin(file, "?ModuleMemberCount", 151);
+    vast_call_begin(file, "?ModuleMemberCount", 119);
     vast_call_handle(file, owner.id);
     return vast_ask_natural(file, answer);
 }
@@ -1689,7 +1716,7 @@ static inline int32_t vast_module_member_count(vast_file *file, vast_module owne
 /* The module's name. */
 static inline int32_t vast_module_name(vast_file *file, vast_module owner, vast_string *answer)
 {
-    vast_call_begin(file, "?ModuleName", 152);
+    vast_call_begin(file, "?ModuleName", 135);
     vast_call_handle(file, owner.id);
     return vast_ask_text(file, answer);
 }
@@ -1698,7 +1725,7 @@ static inline int32_t vast_module_name(vast_file *file, vast_module owner, vast_
 static inline int32_t vast_module_output_ports(vast_file *file, vast_module owner,
                                                vast_ports *answer)
 {
-    vast_call_begin(file, "?ModuleOutputPorts", 153);
+    vast_call_begin(file, "?ModuleOutputPorts", 151);
     vast_call_handle(file, owner.id);
     return vast_ask_ports(file, answer);
 }
@@ -1706,7 +1733,7 @@ static inline int32_t vast_module_output_ports(vast_file *file, vast_module owne
 /* The module's ports, in order. */
 static inline int32_t vast_module_ports(vast_file *file, vast_module owner, vast_ports *answer)
 {
-    vast_call_begin(file, "?ModulePorts", 154);
+    vast_call_begin(file, "?ModulePorts", 167);
     vast_call_handle(file, owner.id);
     return vast_ask_ports(file, answer);
 }
@@ -1715,7 +1742,7 @@ static inline int32_t vast_module_ports(vast_file *file, vast_module owner, vast
 static inline int32_t vast_name_is_free(vast_file *file, vast_module owner, vast_string name,
                                         bool *answer)
 {
-    vast_call_begin(file, "?NameIsFree", 155);
+    vast_call_begin(file, "?NameIsFree", 183);
     vast_call_handle(file, owner.id);
     vast_call_text(file, name);
     return vast_ask_truth(file, answer);
@@ -1724,7 +1751,7 @@ static inline int32_t vast_name_is_free(vast_file *file, vast_module owner, vast
 /* Whether it is no array. */
 static inline int32_t vast_type_can_be_cast(vast_file *file, vast_type data_type, bool *answer)
 {
-    vast_call_begin(file, "?TypeCanBeCast", 156);
+    vast_call_begin(file, "?TypeCanBeCast", 199);
     vast_call_handle(file, data_type.id);
     return vast_ask_truth(file, answer);
 }
@@ -1732,7 +1759,7 @@ static inline int32_t vast_type_can_be_cast(vast_file *file, vast_type data_type
 /* Whether it is no unpacked array, `integer` or `int`. */
 static inline int32_t vast_type_can_be_packed(vast_file *file, vast_type data_type, bool *answer)
 {
-    vast_call_begin(file, "?TypeCanBePacked", 157);
+    vast_call_begin(file, "?TypeCanBePacked", 215);
     vast_call_handle(file, data_type.id);
     return vast_ask_truth(file, answer);
 }
@@ -1742,7 +1769,7 @@ static inline int32_t vast_type_can_be_packed(vast_file *file, vast_type data_ty
 static inline int32_t vast_type_flat_bit_count_as_int64(vast_file *file, vast_type data_type,
                                                         int64_t *answer)
 {
-    vast_call_begin(file, "?TypeFlatBitCountAsInt64", 158);
+    vast_call_begin(file, "?TypeFlatBitCountAsInt64", 231);
     vast_call_handle(file, data_type.id);
     return vast_ask_integer(file, answer);
 }
@@ -1750,7 +1777,7 @@ static inline int32_t vast_type_flat_bit_count_as_int64(vast_file *file, vast_ty
 /* Whether the type within the arrays is signed. */
 static inline int32_t vast_type_is_signed(vast_file *file, vast_type data_type, bool *answer)
 {
-    vast_call_begin(file, "?TypeIsSigned", 159);
+    vast_call_begin(file, "?TypeIsSigned", 247);
     vast_call_handle(file, data_type.id);
     return vast_ask_truth(file, answer);
 }
@@ -1760,7 +1787,7 @@ static inline int32_t vast_type_is_signed(vast_file *file, vast_type data_type, 
 static inline int32_t vast_type_width_as_int64(vast_file *file, vast_type data_type,
                                                int64_t *answer)
 {
-    vast_call_begin(file, "?TypeWidthAsInt64", 160);
+    vast_call_begin(file, "?TypeWidthAsInt64", 263);
     vast_call_handle(file, data_type.id);
     return vast_ask_integer(file, answer);
 }
@@ -1769,7 +1796,7 @@ static inline int32_t vast_type_width_as_int64(vast_file *file, vast_type data_t
 static inline int32_t vast_type_width_expr(vast_file *file, vast_type data_type,
                                            vast_string *answer)
 {
-    vast_call_begin(file, "?TypeWidthExpr", 161);
+    vast_call_begin(file, "?TypeWidthExpr", 279);
     vast_call_handle(file, data_type.id);
     return vast_ask_optional_text(file, answer);
 }
@@ -1777,7 +1804,7 @@ static inline int32_t vast_type_width_expr(vast_file *file, vast_type data_type,
 /* Whether it is no literal with a value below 1. */
 static inline int32_t vast_width_is_usable(vast_file *file, vast_expression width, bool *answer)
 {
-    vast_call_begin(file, "?WidthIsUsable", 162);
+    vast_call_begin(file, "?WidthIsUsable", 295);
     vast_call_handle(file, width.id);
     return vast_ask_truth(file, answer);
 }
@@ -1791,7 +1818,7 @@ static inline int32_t vast_add_registers(vast_file *file, vast_expression clk,
                                          const vast_register_definition *registers,
                                          size_t registers_count, vast_scope scope)
 {
-    vast_call_begin(file, "!AddRegisters", 163);
+    vast_call_begin(file, "!AddRegisters", 8);
     vast_call_handle(file, clk.id);
     vast_call_optional_reset(file, reset);
     vast_call_register_definitions(file, registers, registers_count);
@@ -1803,7 +1830,7 @@ static inline int32_t vast_add_registers(vast_file *file, vast_expression clk,
 static inline int32_t vast_bitwise_or_reduce(vast_file *file, const vast_expression *values,
                                              size_t values_count, vast_expression *made)
 {
-    vast_call_begin(file, "!BitwiseOrReduce", 164);
+    vast_call_begin(file, "!BitwiseOrReduce", 24);
     vast_call_expressions(file, values, values_count);
     return vast_call_make(file, made == NULL ? NULL : &made->id);
 }
@@ -1817,7 +1844,7 @@ static inline int32_t vast_bitwise_or_reduce_array_elements(vast_file *file, vas
                                                             size_t dimensions_count,
                                                             vast_expression *made)
 {
-    vast_call_begin(file, "!BitwiseOrReduceArrayElements", 165);
+    vast_call_begin(file, "!BitwiseOrReduceArrayElements", 40);
     vast_call_handle(file, value.id);
     vast_call_integers(file, dimensions, dimensions_count);
     return vast_call_make(file, made == NULL ? NULL : &made->id);
@@ -1828,7 +1855,7 @@ static inline int32_t vast_logical_and_reduce(vast_file *file, const vast_expres
                                               size_t values_count, bool invert,
                                               vast_expression *made)
 {
-    vast_call_begin(file, "!LogicalAndReduce", 166);
+    vast_call_begin(file, "!LogicalAndReduce", 56);
     vast_call_expressions(file, values, values_count);
     vast_call_truth(file, invert);
     return vast_call_make(file, made == NULL ? NULL : &made->id);
@@ -1839,7 +1866,7 @@ static inline int32_t vast_logical_or_reduce(vast_file *file, const vast_express
                                              size_t values_count, bool invert,
                                              vast_expression *made)
 {
-    vast_call_begin(file, "!LogicalOrReduce", 167);
+    vast_call_begin(file, "!LogicalOrReduce", 72);
     vast_call_expressions(file, values, values_count);
     vast_call_truth(file, invert);
     return vast_call_make(file, made == NULL ? NULL : &made->id);

@@ -752,6 +752,32 @@ static inline vast_type v_make_unpacked_array_type(vast_file *file, vast_type el
     return answer;
 }
 
+/* `vast_make_packed_array_type_expr`: the packed array of elements of a type, each dimension as
+ * many as an expression says. */
+static inline vast_type v_make_packed_array_type_expr(vast_file *file, vast_type element,
+                                                      const vast_expression *dimensions,
+                                                      size_t dimensions_count)
+{
+    vast_type answer = {{0, 0}};
+    if (file->fault == VAST_OK)
+        file->fault = vast_make_packed_array_type_expr(file, element, dimensions, dimensions_count,
+                                                       &answer);
+    return answer;
+}
+
+/* `vast_make_unpacked_array_type_expr`: the unpacked array of elements of a type, each dimension
+ * as many as an expression says. */
+static inline vast_type v_make_unpacked_array_type_expr(vast_file *file, vast_type element,
+                                                        const vast_expression *dimensions,
+                                                        size_t dimensions_count)
+{
+    vast_type answer = {{0, 0}};
+    if (file->fault == VAST_OK)
+        file->fault = vast_make_unpacked_array_type_expr(file, element, dimensions,
+                                                         dimensions_count, &answer);
+    return answer;
+}
+
 /* `vast_add_include`: the inclusion of the file at this path, as the last item of the file. */
 static inline void v_add_include(vast_file *file, const char *include)
 {

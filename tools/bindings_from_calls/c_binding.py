@@ -252,7 +252,7 @@ class CBinding:
         answer, given = call.answer, parameters_of(call)
         if answer.form != "nothing":
             given.append(f"{answer_type(answer)} *{'answer' if call.is_question else 'made'}")
-        rows = [f'vast_call_begin(file, "{call.call}", {self.table.calls.index(call)});']
+        rows = [f'vast_call_begin(file, "{call.call}", {call.number});']
         for parameter in call.parameters:
             name = name_of(parameter)
             rows.append(written(parameter.type, name, f"{name}_count"))

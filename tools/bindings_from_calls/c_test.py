@@ -110,7 +110,6 @@ class Program:
 
     def __init__(self, table, kinds):
         self.takes = {kind.kind: kind.takes for kind in kinds}
-        self.places = {call.call: place for place, call in enumerate(table.calls)}
         calls = [call for call in table.calls if call.method != "emit"]
         self.left = [call for call in calls if call.method in FIRST] + [call for call in calls if call.method not in FIRST]
         self.numbers = {}  # of each field of the answers
@@ -168,7 +167,7 @@ class Program:
 
     def look(self, call, line):
         """The statement that looks at what was written."""
-        written = packed(call, self.places[call.call], line)
+        written = packed(call, line)
         return declaration("    CHECK(is_written(have, ", f"{c_string(line)}, {c_bytes(written)}, {len(written)}", "));")
 
     def keep(self, call):

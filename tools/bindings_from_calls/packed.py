@@ -50,7 +50,7 @@ def listed(type, words):
     words.pop(0)
 
 
-def packed(call, place, line):
-    """The call of this place in the table, as it stands in the line."""
+def packed(call, line):
+    """The call as it stands in the line."""
     words = WORD.findall(line)[1:]
-    return counted(number(place) + b"".join(argument(it.type, words) for it in call.parameters))
+    return counted(number(call.number) + b"".join(argument(it.type, words) for it in call.parameters))

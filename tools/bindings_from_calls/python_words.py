@@ -47,6 +47,7 @@ CONDITIONS = {
     "0 ≤ lo": "lo at least 0",
     "0 ≤ index": "index at least 0",
     "AreDimensions dimensions": "at least one dimension, each at least 1",
+    "AreSizes (trees_of (map (λ e. e) dimensions))": "at least one dimension, each with `width_is_usable`",
     "IsUsableWidth (tree_of width)": "`width_is_usable`",
     "NameIsFree owner name": "`name_is_free`",
     "has_else (slice_get nests conditional.id.index) ≡ false": "not `conditional_has_else`",

@@ -9,7 +9,7 @@ CALLS_HEAD = '''//! One arm for each call of a list.
 
 use crate::answers::{format_of, kind_of, Answer, Answers, Fault};
 use crate::form::{Argument, Line};
-use xlsynth_vast::{Expr, VastFile};
+use xlsynth_vast::{Expr, VastFile, VastFileExtension};
 
 /// Makes the call of the line.
 pub fn make(file: &mut VastFile, answers: &Answers, line: &Line) -> Result<Answer, Fault> {

@@ -18,6 +18,8 @@ CONDITIONS = {
     "add_wire": "module wires must have unique names",
     "make_bit_vector_type": "bit-vector width must be greater than zero",
     "make_bit_vector_type_expr": "bit-vector width must be greater than zero",
+    "make_packed_array_type_expr": "a packed array has elements that can be packed, and dimensions of which none is below 1",
+    "make_unpacked_array_type_expr": "an array has dimensions, of which none is below 1",
     "make_slice": "bit and part-select indices must be nonnegative",
     "make_index": "bit and part-select indices must be nonnegative",
     "make_indexed_part_select": "indexed part-select width must be positive",
@@ -70,6 +72,8 @@ WIDTHS = {
     "make_bit_vector_type_expr": "Width::Expression(width_step)",
     "make_packed_array_type": "Width::Element(element_step)",
     "make_unpacked_array_type": "Width::Element(element_step)",
+    "make_packed_array_type_expr": "Width::Element(element_step)",
+    "make_unpacked_array_type_expr": "Width::Element(element_step)",
 }
 
 # Calls that answer a handle of the block which they are given, as the original's do.
@@ -103,6 +107,25 @@ GROUPS = {
     "statements": "Calls of functions, always blocks, conditionals and statements",
     "artifacts": "Calls of parts that are made beforehand, and that add them to modules",
 }
+
+
+# Calls that the original has none of, which are those of a trait: what it has stays its own. `make_name` and
+# `block_add_casex` came before the trait.
+OWN = {"make_packed_array_type_expr", "make_unpacked_array_type_expr"}
+EXTENSION = "bindings/rust/src/extension.rs"
+TRAIT = "VastFileExtension"
+EXTENSION_HEAD = f'''//! Calls that the original has none of.
+//!
+//! Written by tools/bindings_from_calls from the table of calls; not to be edited.
+
+%s
+/// Calls that the original has none of, as methods of a [`VastFile`] where this trait is in scope.
+pub trait {TRAIT} {{
+%s}}
+
+impl {TRAIT} for VastFile {{
+%s}}
+'''
 
 
 class Method:
@@ -193,7 +216,7 @@ def comment(name, method):
 
 
 def signature(name, method, receiver, result):
-    """The method's first lines."""
+    """The method's first lines, up to the brace."""
     parameters = ", ".join([receiver] + [f"{label}: {kind}" for label, kind in method.parameters])
     arrow = "" if result == "()" else f" -> {result}"
     line = f"    pub fn {name}({parameters}){arrow} {{"
@@ -287,19 +310,36 @@ def result_of(name, method):
     return f"Result<{answer}, VastError>" if method.can_be_refused else answer
 
 
+def method_parts(entry, found):
+    """The method's comment, its first lines, and its body."""
+    name = entry.method
+    method, receiver = found[name]
+    return comment(name, method), signature(name, method, receiver, result_of(name, method)), body(entry, method)
+
+
 def text(table, group):
     """The file of a group's methods."""
     found = methods()
     parts = []
     for entry in table.calls:
-        if entry.group != group:
-            continue
-        name = entry.method
-        method, receiver = found[name]
-        parts.append("\n".join([comment(name, method), signature(name, method, receiver, result_of(name, method)),
-                                body(entry, method), "    }"]))
+        if entry.group == group and entry.method not in OWN:
+            parts.append("\n".join([*method_parts(entry, found), "    }"]))
     code = "\n\n".join(parts)
     return rustfmt(HEAD % (GROUPS[group], uses(code)) + code + "\n}\n")
+
+
+def extension_text(table):
+    """The file of the trait, with what its methods do."""
+    found = methods()
+    said, done = [], []
+    for entry in table.calls:
+        if entry.method in OWN:
+            words, head, does = method_parts(entry, found)
+            head = head.replace("pub fn", "fn")
+            said.append(f"{words}\n{head.removesuffix(' {')};\n")
+            done.append(f"{head}\n{does}\n    }}\n")
+    code = "\n".join(done)
+    return rustfmt(EXTENSION_HEAD % (uses(code), "\n".join(said), code))
 
 
 # Where what the methods name stands.
@@ -342,6 +382,7 @@ class RustBinding:
             print("bindings_from_calls: no rustfmt, Rust is left out")
             return {}
         files = {f"{METHODS}/{group}.rs": text(self.table, group) for group in GROUPS}
+        files[EXTENSION] = extension_text(self.table)
         files[CALLS] = test_text(self.table, methods())
         files.update(table_files(self.table))
         return files

@@ -9,23 +9,23 @@ CALLS = """//! The calls by their numbers in packed lists.
 
 use crate::kinds::{%s};
 
-/// A call, whose number is its place here.
+/// A call and its number.
 // Some questions are answered by this crate itself, and the names are those of lists.
 #[allow(dead_code, clippy::enum_variant_names)]
 #[derive(Clone, Copy, Debug, PartialEq, Eq)]
-#[repr(u8)]
+#[repr(u16)]
 pub(crate) enum Call {
 %s}
 """
 
-ROWS = """//! The calls in the order of their numbers, with what stands for their arguments.
+ROWS = """//! The calls, with what stands for their arguments.
 //!
 //! Written by tools/bindings_from_calls from the table of calls; not to be edited.
 
 use crate::unpacked::Form::{self, %s};
 
-/// A call's name in lists, and its arguments in order.
-pub(crate) struct Row(pub(crate) &'static str, pub(crate) &'static [Form]);
+/// A call's number, its name in lists, and its arguments in order.
+pub(crate) struct Row(pub(crate) usize, pub(crate) &'static str, pub(crate) &'static [Form]);
 
 pub(crate) static ROWS: [Row; %d] = [
 %s];
@@ -85,14 +85,14 @@ def calls_text(table):
     """The calls by their numbers."""
     words = argument_words(table)
     names = ", ".join(type.of for type in words)
-    variants = "".join(f"    {call.call.lstrip('?!')},\n" for call in table.calls)
+    variants = "".join(f"    {call.call.lstrip('?!')} = {call.number},\n" for call in table.calls)
     return rustfmt(CALLS % (names, variants) + "".join(places(type) for type in words))
 
 
 def rows_text(table):
     """What stands for their arguments."""
     rows = "".join(
-        f"    Row({quoted(call.call)}, &[{', '.join(form(it.type) for it in call.parameters)}]),\n" for call in table.calls
+        f"    Row({call.number}, {quoted(call.call)}, &[{', '.join(form(it.type) for it in call.parameters)}]),\n" for call in table.calls
     )
     return rustfmt(ROWS % ("Count, Group, List, Number, Optional, Step, Text, Word", len(table.calls), rows))
 

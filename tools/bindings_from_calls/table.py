@@ -34,6 +34,7 @@ class Call:
     """One call."""
 
     call: str  # as lists write it, its sign included
+    number: int  # in packed lists
     group: str
     method: str  # the name of the method in Rust
     parameters: tuple
@@ -128,6 +129,7 @@ def read_table(source, page):
         calls.append(
             Call(
                 each["call"],
+                each["number"],
                 each["group"],
                 method,
                 read_parameters(each["parameters"]),

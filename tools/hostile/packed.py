@@ -7,7 +7,7 @@ import os
 import re
 
 ROOT = os.path.dirname(os.path.dirname(os.path.dirname(os.path.abspath(__file__))))
-FRONT = b"\0vast\1"
+FRONT = b"\0vast\2"
 DIALECTS = ("verilog", "systemverilog")
 TRUTHS = ("false", "true")
 RESET = ("handle", "true/false")
@@ -20,20 +20,22 @@ class Fault(Exception):
 
 
 def table():
-    """The calls in the order of their numbers, each with the kinds of its arguments."""
+    """The calls by their names, each with the kinds of its arguments, and their names by their numbers."""
     with open(f"{ROOT}/docs/use/LISTS_CALLS.md", encoding="utf-8") as page:
-        rows = re.findall(r"(?m)^\| `(\S+)` \| (.*?) ?\| [^|]+ \|$", page.read().replace("\\|", "/"))
+        groups = page.read().replace("\\|", "/").split("\n## ")[1:]
     named = (("[ signal", "RESET"), ("[ reg", "REGISTER"))
-    calls = {}
-    for call, parameters in rows:
-        for begin, group in named:
-            parameters = re.sub(re.escape(begin) + r"[^\]]*\]", group, parameters)
-        calls[call] = [it.split(": ", 1)[1] for it in parameters.split(", ") if it]
-    return calls
+    calls, numbers = {}, {}
+    for group, text in enumerate(groups):
+        for place, (call, parameters) in enumerate(re.findall(r"(?m)^\| `(\S+)` \| (.*?) ?\| [^|]+ \|$", text)):
+            for begin, word in named:
+                parameters = re.sub(re.escape(begin) + r"[^\]]*\]", word, parameters)
+            calls[call] = [it.split(": ", 1)[1] for it in parameters.split(", ") if it]
+            numbers[16 * place + group] = call
+    return calls, numbers
 
 
-CALLS = table()
-NUMBERS = list(CALLS)
+CALLS, NAMES = table()
+NUMBERS = {call: number for number, call in NAMES.items()}
 
 
 def number(value):
@@ -87,7 +89,7 @@ def packed_list(text):
     for line in lines:
         name, line = re.fullmatch(r"(?:(\w+) = )?(.*)", line, re.DOTALL).groups()
         call, *words = re.findall(r'"(?:[^"\\]|\\.)*"|[^ ]+', line)
-        body = number(NUMBERS.index(call)) + b"".join(packed_item(kind, words, handles) for kind in CALLS[call])
+        body = number(NUMBERS[call]) + b"".join(packed_item(kind, words, handles) for kind in CALLS[call])
         if not call.startswith("?"):
             handles[name] = count
             count += 1
@@ -145,9 +147,9 @@ def take_call(given, at):
     if end > len(given):
         raise Fault
     which, place = take_number(call, 0)
-    if which >= len(NUMBERS):
+    if which not in NAMES:
         raise Fault
-    for kind in CALLS[NUMBERS[which]]:
+    for kind in CALLS[NAMES[which]]:
         place = take_item(kind, call, place)
     if place != length:
         raise Fault

@@ -85,17 +85,17 @@ static int part_0(answers *have)
 {
     have->expression = v_make_literal(&have->file, "bits[8]:1", VAST_LITERAL_FORMAT_UNSIZED_HEX);
     CHECK(have->file.fault == VAST_OK);
-    CHECK(is_written(have, "MakeLiteral \"bits[8]:1\" UnsizedHex", "\014\037\011bits[8]:1\006",
+    CHECK(is_written(have, "MakeLiteral \"bits[8]:1\" UnsizedHex", "\014\001\011bits[8]:1\006",
                            13));
     have->type = v_make_bit_vector_type(&have->file, 8, true);
     CHECK(have->file.fault == VAST_OK);
-    CHECK(is_written(have, "MakeBitVectorType 8 true", "\003>\020\001", 4));
+    CHECK(is_written(have, "MakeBitVectorType 8 true", "\003R\020\001", 4));
     have->module = v_add_module(&have->file, "name_2");
     CHECK(have->file.fault == VAST_OK);
-    CHECK(is_written(have, "AddModule \"name_2\"", "\010E\006name_2", 9));
+    CHECK(is_written(have, "AddModule \"name_2\"", "\0103\006name_2", 9));
     have->signal = v_add_input(&have->file, have->module, "name_3", have->type);
     CHECK(have->file.fault == VAST_OK);
-    CHECK(is_written(have, "AddInput 2 \"name_3\" 1", "\012F\002\006name_3\001", 11));
+    CHECK(is_written(have, "AddInput 2 \"name_3\" 1", "\012C\002\006name_3\001", 11));
     gather(have);
     return 0;
 }
@@ -107,31 +107,31 @@ static int part_1(answers *have)
     CHECK(is_written(have, "MakeNot 3", "\002\000\003", 3));
     v_make_bitwise_not(&have->file, have->signal);
     CHECK(have->file.fault == VAST_OK);
-    CHECK(is_written(have, "MakeBitwiseNot 3", "\002\001\003", 3));
+    CHECK(is_written(have, "MakeBitwiseNot 3", "\002\020\003", 3));
     v_make_negate(&have->file, have->signal);
     CHECK(have->file.fault == VAST_OK);
-    CHECK(is_written(have, "MakeNegate 3", "\002\002\003", 3));
+    CHECK(is_written(have, "MakeNegate 3", "\002 \003", 3));
     v_make_logical_not(&have->file, have->signal);
     CHECK(have->file.fault == VAST_OK);
-    CHECK(is_written(have, "MakeLogicalNot 3", "\002\003\003", 3));
+    CHECK(is_written(have, "MakeLogicalNot 3", "\0020\003", 3));
     v_make_and_reduce(&have->file, have->signal);
     CHECK(have->file.fault == VAST_OK);
-    CHECK(is_written(have, "MakeAndReduce 3", "\002\004\003", 3));
+    CHECK(is_written(have, "MakeAndReduce 3", "\002@\003", 3));
     v_make_or_reduce(&have->file, have->signal);
     CHECK(have->file.fault == VAST_OK);
-    CHECK(is_written(have, "MakeOrReduce 3", "\002\005\003", 3));
+    CHECK(is_written(have, "MakeOrReduce 3", "\002P\003", 3));
     v_make_xor_reduce(&have->file, have->signal);
     CHECK(have->file.fault == VAST_OK);
-    CHECK(is_written(have, "MakeXorReduce 3", "\002\006\003", 3));
+    CHECK(is_written(have, "MakeXorReduce 3", "\002`\003", 3));
     v_make_add(&have->file, have->signal, have->expression);
     CHECK(have->file.fault == VAST_OK);
-    CHECK(is_written(have, "MakeAdd 3 0", "\003\007\003\000", 4));
+    CHECK(is_written(have, "MakeAdd 3 0", "\003p\003\000", 4));
     v_make_sub(&have->file, have->signal, have->expression);
     CHECK(have->file.fault == VAST_OK);
-    CHECK(is_written(have, "MakeSub 3 0", "\003\010\003\000", 4));
+    CHECK(is_written(have, "MakeSub 3 0", "\004\200\001\003\000", 5));
     v_make_mul(&have->file, have->signal, have->expression);
     CHECK(have->file.fault == VAST_OK);
-    CHECK(is_written(have, "MakeMul 3 0", "\003\011\003\000", 4));
+    CHECK(is_written(have, "MakeMul 3 0", "\004\220\001\003\000", 5));
     return 0;
 }
 
@@ -139,34 +139,34 @@ static int part_2(answers *have)
 {
     v_make_div(&have->file, have->signal, have->expression);
     CHECK(have->file.fault == VAST_OK);
-    CHECK(is_written(have, "MakeDiv 3 0", "\003\012\003\000", 4));
+    CHECK(is_written(have, "MakeDiv 3 0", "\004\240\001\003\000", 5));
     v_make_mod(&have->file, have->signal, have->expression);
     CHECK(have->file.fault == VAST_OK);
-    CHECK(is_written(have, "MakeMod 3 0", "\003\013\003\000", 4));
+    CHECK(is_written(have, "MakeMod 3 0", "\004\260\001\003\000", 5));
     v_make_power(&have->file, have->signal, have->expression);
     CHECK(have->file.fault == VAST_OK);
-    CHECK(is_written(have, "MakePower 3 0", "\003\014\003\000", 4));
+    CHECK(is_written(have, "MakePower 3 0", "\004\300\001\003\000", 5));
     v_make_bitwise_and(&have->file, have->signal, have->expression);
     CHECK(have->file.fault == VAST_OK);
-    CHECK(is_written(have, "MakeBitwiseAnd 3 0", "\003\015\003\000", 4));
+    CHECK(is_written(have, "MakeBitwiseAnd 3 0", "\004\320\001\003\000", 5));
     v_make_bitwise_or(&have->file, have->signal, have->expression);
     CHECK(have->file.fault == VAST_OK);
-    CHECK(is_written(have, "MakeBitwiseOr 3 0", "\003\016\003\000", 4));
+    CHECK(is_written(have, "MakeBitwiseOr 3 0", "\004\340\001\003\000", 5));
     v_make_bitwise_xor(&have->file, have->signal, have->expression);
     CHECK(have->file.fault == VAST_OK);
-    CHECK(is_written(have, "MakeBitwiseXor 3 0", "\003\017\003\000", 4));
+    CHECK(is_written(have, "MakeBitwiseXor 3 0", "\004\360\001\003\000", 5));
     v_make_shll(&have->file, have->signal, have->expression);
     CHECK(have->file.fault == VAST_OK);
-    CHECK(is_written(have, "MakeShll 3 0", "\003\020\003\000", 4));
+    CHECK(is_written(have, "MakeShll 3 0", "\004\200\002\003\000", 5));
     v_make_shra(&have->file, have->signal, have->expression);
     CHECK(have->file.fault == VAST_OK);
-    CHECK(is_written(have, "MakeShra 3 0", "\003\021\003\000", 4));
+    CHECK(is_written(have, "MakeShra 3 0", "\004\220\002\003\000", 5));
     v_make_shrl(&have->file, have->signal, have->expression);
     CHECK(have->file.fault == VAST_OK);
-    CHECK(is_written(have, "MakeShrl 3 0", "\003\022\003\000", 4));
+    CHECK(is_written(have, "MakeShrl 3 0", "\004\240\002\003\000", 5));
     v_make_ne(&have->file, have->signal, have->expression);
     CHECK(have->file.fault == VAST_OK);
-    CHECK(is_written(have, "MakeNe 3 0", "\003\023\003\000", 4));
+    CHECK(is_written(have, "MakeNe 3 0", "\004\260\002\003\000", 5));
     return 0;
 }
 
@@ -174,34 +174,34 @@ static int part_3(answers *have)
 {
     v_make_case_ne(&have->file, have->signal, have->expression);
     CHECK(have->file.fault == VAST_OK);
-    CHECK(is_written(have, "MakeCaseNe 3 0", "\003\024\003\000", 4));
+    CHECK(is_written(have, "MakeCaseNe 3 0", "\004\300\002\003\000", 5));
     v_make_eq(&have->file, have->signal, have->expression);
     CHECK(have->file.fault == VAST_OK);
-    CHECK(is_written(have, "MakeEq 3 0", "\003\025\003\000", 4));
+    CHECK(is_written(have, "MakeEq 3 0", "\004\320\002\003\000", 5));
     v_make_case_eq(&have->file, have->signal, have->expression);
     CHECK(have->file.fault == VAST_OK);
-    CHECK(is_written(have, "MakeCaseEq 3 0", "\003\026\003\000", 4));
+    CHECK(is_written(have, "MakeCaseEq 3 0", "\004\340\002\003\000", 5));
     v_make_ge(&have->file, have->signal, have->expression);
     CHECK(have->file.fault == VAST_OK);
-    CHECK(is_written(have, "MakeGe 3 0", "\003\027\003\000", 4));
+    CHECK(is_written(have, "MakeGe 3 0", "\004\360\002\003\000", 5));
     v_make_gt(&have->file, have->signal, have->expression);
     CHECK(have->file.fault == VAST_OK);
-    CHECK(is_written(have, "MakeGt 3 0", "\003\030\003\000", 4));
+    CHECK(is_written(have, "MakeGt 3 0", "\004\200\003\003\000", 5));
     v_make_le(&have->file, have->signal, have->expression);
     CHECK(have->file.fault == VAST_OK);
-    CHECK(is_written(have, "MakeLe 3 0", "\003\031\003\000", 4));
+    CHECK(is_written(have, "MakeLe 3 0", "\004\220\003\003\000", 5));
     v_make_lt(&have->file, have->signal, have->expression);
     CHECK(have->file.fault == VAST_OK);
-    CHECK(is_written(have, "MakeLt 3 0", "\003\032\003\000", 4));
+    CHECK(is_written(have, "MakeLt 3 0", "\004\240\003\003\000", 5));
     v_make_logical_and(&have->file, have->signal, have->expression);
     CHECK(have->file.fault == VAST_OK);
-    CHECK(is_written(have, "MakeLogicalAnd 3 0", "\003\033\003\000", 4));
+    CHECK(is_written(have, "MakeLogicalAnd 3 0", "\004\260\003\003\000", 5));
     v_make_logical_or(&have->file, have->signal, have->expression);
     CHECK(have->file.fault == VAST_OK);
-    CHECK(is_written(have, "MakeLogicalOr 3 0", "\003\034\003\000", 4));
+    CHECK(is_written(have, "MakeLogicalOr 3 0", "\004\300\003\003\000", 5));
     v_make_ne_x(&have->file, have->signal, have->expression);
     CHECK(have->file.fault == VAST_OK);
-    CHECK(is_written(have, "MakeNeX 3 0", "\003\035\003\000", 4));
+    CHECK(is_written(have, "MakeNeX 3 0", "\004\320\003\003\000", 5));
     return 0;
 }
 
@@ -209,10 +209,10 @@ static int part_4(answers *have)
 {
     v_make_eq_x(&have->file, have->signal, have->expression);
     CHECK(have->file.fault == VAST_OK);
-    CHECK(is_written(have, "MakeEqX 3 0", "\003\036\003\000", 4));
+    CHECK(is_written(have, "MakeEqX 3 0", "\004\340\003\003\000", 5));
     v_make_binary_pattern(&have->file, "1?0");
     CHECK(have->file.fault == VAST_OK);
-    CHECK(is_written(have, "MakeBinaryPattern \"1?0\"", "\005 \0031\0770", 6));
+    CHECK(is_written(have, "MakeBinaryPattern \"1?0\"", "\005\021\0031\0770", 6));
     v_make_unsized_decimal_literal(&have->file, INT32_MIN);
     CHECK(have->file.fault == VAST_OK);
     CHECK(is_written(have, "MakeUnsizedDecimalLiteral -2147483648", "\006!\377\377\377\377\017",
@@ -220,25 +220,25 @@ static int part_4(answers *have)
     v_make_string_literal(&have->file, "\"a\\b\"\n\tc\r");
     CHECK(have->file.fault == VAST_OK);
     CHECK(is_written(have, "MakeStringLiteral \"\\\"a\\\\b\\\"\\n\tc\\r\"",
-                           "\013\042\011\042a\134b\042\012\011c\015", 12));
+                           "\0131\011\042a\134b\042\012\011c\015", 12));
     v_make_unsized_one_literal(&have->file);
     CHECK(have->file.fault == VAST_OK);
-    CHECK(is_written(have, "MakeUnsizedOneLiteral", "\001#", 2));
+    CHECK(is_written(have, "MakeUnsizedOneLiteral", "\001A", 2));
     v_make_unsized_zero_literal(&have->file);
     CHECK(have->file.fault == VAST_OK);
-    CHECK(is_written(have, "MakeUnsizedZeroLiteral", "\001$", 2));
+    CHECK(is_written(have, "MakeUnsizedZeroLiteral", "\001Q", 2));
     v_make_unsized_x_literal(&have->file);
     CHECK(have->file.fault == VAST_OK);
-    CHECK(is_written(have, "MakeUnsizedXLiteral", "\001%", 2));
+    CHECK(is_written(have, "MakeUnsizedXLiteral", "\001a", 2));
     v_make_name(&have->file, "name_41");
     CHECK(have->file.fault == VAST_OK);
-    CHECK(is_written(have, "MakeName \"name_41\"", "\011&\007name_41", 10));
+    CHECK(is_written(have, "MakeName \"name_41\"", "\011q\007name_41", 10));
     have->indexable = v_make_indexable_expression(&have->file, have->signal);
     CHECK(have->file.fault == VAST_OK);
-    CHECK(is_written(have, "MakeIndexableExpression 3", "\002'\003", 3));
+    CHECK(is_written(have, "MakeIndexableExpression 3", "\003\201\001\003", 4));
     have->slice = v_make_slice(&have->file, have->signal, 3, 2);
     CHECK(have->file.fault == VAST_OK);
-    CHECK(is_written(have, "MakeSlice 3 3 2", "\004(\003\006\004", 5));
+    CHECK(is_written(have, "MakeSlice 3 3 2", "\005\221\001\003\006\004", 6));
     return 0;
 }
 
@@ -246,35 +246,36 @@ static int part_5(answers *have)
 {
     have->index = v_make_index(&have->file, have->signal, 2);
     CHECK(have->file.fault == VAST_OK);
-    CHECK(is_written(have, "MakeIndex 3 2", "\003)\003\004", 4));
+    CHECK(is_written(have, "MakeIndex 3 2", "\004\241\001\003\004", 5));
     v_make_slice_expr(&have->file, have->signal, have->signal, have->expression);
     CHECK(have->file.fault == VAST_OK);
-    CHECK(is_written(have, "MakeSliceExpr 3 3 0", "\004*\003\003\000", 5));
+    CHECK(is_written(have, "MakeSliceExpr 3 3 0", "\005\261\001\003\003\000", 6));
     v_make_index_expr(&have->file, have->signal, have->signal);
     CHECK(have->file.fault == VAST_OK);
-    CHECK(is_written(have, "MakeIndexExpr 3 3", "\003+\003\003", 4));
+    CHECK(is_written(have, "MakeIndexExpr 3 3", "\004\301\001\003\003", 5));
     v_make_indexed_part_select(&have->file, have->signal, have->signal, 1);
     CHECK(have->file.fault == VAST_OK);
-    CHECK(is_written(have, "MakeIndexedPartSelect 3 3 1", "\004,\003\003\002", 5));
+    CHECK(is_written(have, "MakeIndexedPartSelect 3 3 1", "\005\321\001\003\003\002", 6));
     v_make_function_call(&have->file, "name_48", have->expressions, 2);
     CHECK(have->file.fault == VAST_OK);
-    CHECK(is_written(have, "MakeFunctionCall \"name_48\" [ 3 3 ]", "\014-\007name_48\002\003\003",
-                           13));
+    CHECK(is_written(have, "MakeFunctionCall \"name_48\" [ 3 3 ]",
+                           "\015\341\001\007name_48\002\003\003", 14));
     v_make_concat(&have->file, have->expressions, 2);
     CHECK(have->file.fault == VAST_OK);
-    CHECK(is_written(have, "MakeConcat [ 3 3 ]", "\004.\002\003\003", 5));
+    CHECK(is_written(have, "MakeConcat [ 3 3 ]", "\005\361\001\002\003\003", 6));
     v_make_replicated_concat(&have->file, have->signal, have->expressions, 2);
     CHECK(have->file.fault == VAST_OK);
-    CHECK(is_written(have, "MakeReplicatedConcat 3 [ 3 3 ]", "\005/\003\002\003\003", 6));
+    CHECK(is_written(have, "MakeReplicatedConcat 3 [ 3 3 ]", "\006\201\002\003\002\003\003", 7));
     v_make_replicated_concat_i64(&have->file, -2, have->expressions, 2);
     CHECK(have->file.fault == VAST_OK);
-    CHECK(is_written(have, "MakeReplicatedConcatI64 -2 [ 3 3 ]", "\0050\003\002\003\003", 6));
+    CHECK(is_written(have, "MakeReplicatedConcatI64 -2 [ 3 3 ]", "\006\221\002\003\002\003\003",
+                           7));
     v_make_array_assignment_pattern(&have->file, have->expressions, 2);
     CHECK(have->file.fault == VAST_OK);
-    CHECK(is_written(have, "MakeArrayAssignmentPattern [ 3 3 ]", "\0041\002\003\003", 5));
+    CHECK(is_written(have, "MakeArrayAssignmentPattern [ 3 3 ]", "\005\241\002\002\003\003", 6));
     v_make_ternary(&have->file, have->signal, have->expression, have->signal);
     CHECK(have->file.fault == VAST_OK);
-    CHECK(is_written(have, "MakeTernary 3 0 3", "\0042\003\000\003", 5));
+    CHECK(is_written(have, "MakeTernary 3 0 3", "\005\261\002\003\000\003", 6));
     return 0;
 }
 
@@ -282,35 +283,35 @@ static int part_6(answers *have)
 {
     v_make_width_cast(&have->file, have->signal, have->expression);
     CHECK(have->file.fault == VAST_OK);
-    CHECK(is_written(have, "MakeWidthCast 3 0", "\0033\003\000", 4));
+    CHECK(is_written(have, "MakeWidthCast 3 0", "\004\301\002\003\000", 5));
     v_make_type_cast(&have->file, have->type, have->signal);
     CHECK(have->file.fault == VAST_OK);
-    CHECK(is_written(have, "MakeTypeCast 1 3", "\0034\001\003", 4));
+    CHECK(is_written(have, "MakeTypeCast 1 3", "\004\321\002\001\003", 5));
     v_make_pos_edge(&have->file, have->signal);
     CHECK(have->file.fault == VAST_OK);
-    CHECK(is_written(have, "MakePosEdge 3", "\0025\003", 3));
+    CHECK(is_written(have, "MakePosEdge 3", "\003\341\002\003", 4));
     v_make_neg_edge(&have->file, have->signal);
     CHECK(have->file.fault == VAST_OK);
-    CHECK(is_written(have, "MakeNegEdge 3", "\0026\003", 3));
+    CHECK(is_written(have, "MakeNegEdge 3", "\003\361\002\003", 4));
     have->macro = v_make_macro_ref(&have->file, "name_58");
     CHECK(have->file.fault == VAST_OK);
-    CHECK(is_written(have, "MakeMacroRef \"name_58\"", "\0117\007name_58", 10));
+    CHECK(is_written(have, "MakeMacroRef \"name_58\"", "\012\201\003\007name_58", 11));
     v_make_macro_ref_with_args(&have->file, "name_59", have->expressions, 2);
     CHECK(have->file.fault == VAST_OK);
     CHECK(is_written(have, "MakeMacroRefWithArgs \"name_59\" [ 3 3 ]",
-                           "\0148\007name_59\002\003\003", 13));
+                           "\015\221\003\007name_59\002\003\003", 14));
     v_make_scalar_type(&have->file);
     CHECK(have->file.fault == VAST_OK);
-    CHECK(is_written(have, "MakeScalarType", "\0019", 2));
+    CHECK(is_written(have, "MakeScalarType", "\001\002", 2));
     v_make_integer_type(&have->file, true);
     CHECK(have->file.fault == VAST_OK);
-    CHECK(is_written(have, "MakeIntegerType true", "\002:\001", 3));
+    CHECK(is_written(have, "MakeIntegerType true", "\002\022\001", 3));
     v_make_int_type(&have->file, true);
     CHECK(have->file.fault == VAST_OK);
-    CHECK(is_written(have, "MakeIntType true", "\002;\001", 3));
+    CHECK(is_written(have, "MakeIntType true", "\002\042\001", 3));
     v_make_extern_type(&have->file, "name_63");
     CHECK(have->file.fault == VAST_OK);
-    CHECK(is_written(have, "MakeExternType \"name_63\"", "\011<\007name_63", 10));
+    CHECK(is_written(have, "MakeExternType \"name_63\"", "\0112\007name_63", 10));
     return 0;
 }
 
@@ -319,380 +320,388 @@ static int part_7(answers *have)
     v_make_extern_package_type(&have->file, "package_name_64", "name_64");
     CHECK(have->file.fault == VAST_OK);
     CHECK(is_written(have, "MakeExternPackageType \"package_name_64\" \"name_64\"",
-                           "\031=\017package_name_64\007name_64", 26));
+                           "\031B\017package_name_64\007name_64", 26));
     v_make_bit_vector_type_expr(&have->file, have->signal, true);
     CHECK(have->file.fault == VAST_OK);
-    CHECK(is_written(have, "MakeBitVectorTypeExpr 3 true", "\003\077\003\001", 4));
+    CHECK(is_written(have, "MakeBitVectorTypeExpr 3 true", "\003b\003\001", 4));
     have->array = v_make_packed_array_type(&have->file, have->type, have->integers, 1);
     CHECK(have->file.fault == VAST_OK);
-    CHECK(is_written(have, "MakePackedArrayType 1 [ 2 ]", "\004@\001\001\004", 5));
+    CHECK(is_written(have, "MakePackedArrayType 1 [ 2 ]", "\004r\001\001\004", 5));
     v_make_unpacked_array_type(&have->file, have->type, have->integers, 1);
     CHECK(have->file.fault == VAST_OK);
-    CHECK(is_written(have, "MakeUnpackedArrayType 1 [ 2 ]", "\004A\001\001\004", 5));
+    CHECK(is_written(have, "MakeUnpackedArrayType 1 [ 2 ]", "\005\202\001\001\001\004", 6));
+    v_make_packed_array_type_expr(&have->file, have->type, have->expressions, 2);
+    CHECK(have->file.fault == VAST_OK);
+    CHECK(is_written(have, "MakePackedArrayTypeExpr 1 [ 3 3 ]", "\006\222\001\001\002\003\003", 7));
+    v_make_unpacked_array_type_expr(&have->file, have->type, have->expressions, 2);
+    CHECK(have->file.fault == VAST_OK);
+    CHECK(is_written(have, "MakeUnpackedArrayTypeExpr 1 [ 3 3 ]", "\006\242\001\001\002\003\003",
+                           7));
     v_add_include(&have->file, "defs.svh");
     CHECK(have->file.fault == VAST_OK);
-    CHECK(is_written(have, "AddInclude \"defs.svh\"", "\012B\010defs.svh", 11));
-    v_add_comment_text(&have->file, "text_69");
+    CHECK(is_written(have, "AddInclude \"defs.svh\"", "\012\003\010defs.svh", 11));
+    v_add_comment_text(&have->file, "text_71");
     CHECK(have->file.fault == VAST_OK);
-    CHECK(is_written(have, "AddCommentText \"text_69\"", "\011D\007text_69", 10));
-    v_add_output(&have->file, have->module, "name_70", have->type);
+    CHECK(is_written(have, "AddCommentText \"text_71\"", "\011#\007text_71", 10));
+    v_add_output(&have->file, have->module, "name_72", have->type);
     CHECK(have->file.fault == VAST_OK);
-    CHECK(is_written(have, "AddOutput 2 \"name_70\" 1", "\013G\002\007name_70\001", 12));
-    v_add_inout(&have->file, have->module, "name_71", have->type);
+    CHECK(is_written(have, "AddOutput 2 \"name_72\" 1", "\013S\002\007name_72\001", 12));
+    v_add_inout(&have->file, have->module, "name_73", have->type);
     CHECK(have->file.fault == VAST_OK);
-    CHECK(is_written(have, "AddInout 2 \"name_71\" 1", "\013H\002\007name_71\001", 12));
-    v_add_logic_input(&have->file, have->module, "name_72", have->type);
-    CHECK(have->file.fault == VAST_OK);
-    CHECK(is_written(have, "AddLogicInput 2 \"name_72\" 1", "\013I\002\007name_72\001", 12));
-    v_add_logic_output(&have->file, have->module, "name_73", have->type);
-    CHECK(have->file.fault == VAST_OK);
-    CHECK(is_written(have, "AddLogicOutput 2 \"name_73\" 1", "\013J\002\007name_73\001", 12));
+    CHECK(is_written(have, "AddInout 2 \"name_73\" 1", "\013c\002\007name_73\001", 12));
     return 0;
 }
 
 static int part_8(answers *have)
 {
-    v_add_wire(&have->file, have->module, "name_74", have->type);
+    v_add_logic_input(&have->file, have->module, "name_74", have->type);
     CHECK(have->file.fault == VAST_OK);
-    CHECK(is_written(have, "AddWire 2 \"name_74\" 1", "\013K\002\007name_74\001", 12));
-    have->memory = v_add_reg(&have->file, have->module, "name_75", have->array);
+    CHECK(is_written(have, "AddLogicInput 2 \"name_74\" 1", "\013s\002\007name_74\001", 12));
+    v_add_logic_output(&have->file, have->module, "name_75", have->type);
     CHECK(have->file.fault == VAST_OK);
-    CHECK(is_written(have, "AddReg 2 \"name_75\" 66", "\013L\002\007name_75B", 12));
-    v_add_logic(&have->file, have->module, "name_76", have->type);
+    CHECK(is_written(have, "AddLogicOutput 2 \"name_75\" 1", "\014\203\001\002\007name_75\001",
+                           13));
+    v_add_wire(&have->file, have->module, "name_76", have->type);
     CHECK(have->file.fault == VAST_OK);
-    CHECK(is_written(have, "AddLogic 2 \"name_76\" 1", "\013M\002\007name_76\001", 12));
-    v_add_parameter_port(&have->file, have->module, "name_77", have->signal);
+    CHECK(is_written(have, "AddWire 2 \"name_76\" 1", "\014\223\001\002\007name_76\001", 13));
+    have->memory = v_add_reg(&have->file, have->module, "name_77", have->array);
     CHECK(have->file.fault == VAST_OK);
-    CHECK(is_written(have, "AddParameterPort 2 \"name_77\" 3", "\013N\002\007name_77\003", 12));
-    v_add_typed_parameter_port(&have->file, have->module, "name_78", have->type, have->signal);
+    CHECK(is_written(have, "AddReg 2 \"name_77\" 66", "\014\243\001\002\007name_77B", 13));
+    v_add_logic(&have->file, have->module, "name_78", have->type);
     CHECK(have->file.fault == VAST_OK);
-    CHECK(is_written(have, "AddTypedParameterPort 2 \"name_78\" 1 3",
-                           "\014O\002\007name_78\001\003", 13));
-    have->parameter = v_add_parameter(&have->file, have->module, "name_79", have->signal);
+    CHECK(is_written(have, "AddLogic 2 \"name_78\" 1", "\014\263\001\002\007name_78\001", 13));
+    v_add_parameter_port(&have->file, have->module, "name_79", have->signal);
     CHECK(have->file.fault == VAST_OK);
-    CHECK(is_written(have, "AddParameter 2 \"name_79\" 3", "\013P\002\007name_79\003", 12));
-    have->localparam = v_add_localparam(&have->file, have->module, "name_80", have->signal);
+    CHECK(is_written(have, "AddParameterPort 2 \"name_79\" 3", "\014\303\001\002\007name_79\003",
+                           13));
+    v_add_typed_parameter_port(&have->file, have->module, "name_80", have->type, have->signal);
     CHECK(have->file.fault == VAST_OK);
-    CHECK(is_written(have, "AddLocalparam 2 \"name_80\" 3", "\013R\002\007name_80\003", 12));
-    v_add_int_localparam(&have->file, have->module, "name_81", have->signal);
+    CHECK(is_written(have, "AddTypedParameterPort 2 \"name_80\" 1 3",
+                           "\015\323\001\002\007name_80\001\003", 14));
+    have->parameter = v_add_parameter(&have->file, have->module, "name_81", have->signal);
     CHECK(have->file.fault == VAST_OK);
-    CHECK(is_written(have, "AddIntLocalparam 2 \"name_81\" 3", "\013S\002\007name_81\003", 12));
-    v_hoist_module_declarations(&have->file, have->module, 0);
+    CHECK(is_written(have, "AddParameter 2 \"name_81\" 3", "\014\343\001\002\007name_81\003", 13));
+    have->localparam = v_add_localparam(&have->file, have->module, "name_82", have->signal);
     CHECK(have->file.fault == VAST_OK);
-    CHECK(is_written(have, "HoistModuleDeclarations 2 0", "\003U\002\000", 4));
-    have->loop = v_add_generate_loop(&have->file, have->module, "name_83", have->signal,
-                                     have->expression, "label");
+    CHECK(is_written(have, "AddLocalparam 2 \"name_82\" 3", "\014\203\002\002\007name_82\003", 13));
+    v_add_int_localparam(&have->file, have->module, "name_83", have->signal);
     CHECK(have->file.fault == VAST_OK);
-    CHECK(is_written(have, "AddGenerateLoop 2 \"name_83\" 3 0 + \"label\"",
-                           "\023V\002\007name_83\003\000\001\005label", 20));
+    CHECK(is_written(have, "AddIntLocalparam 2 \"name_83\" 3", "\014\223\002\002\007name_83\003",
+                           13));
     return 0;
 }
 
 static int part_9(answers *have)
 {
-    v_generate_add_generate_loop(&have->file, have->loop, "name_84", have->signal, have->expression,
+    v_hoist_module_declarations(&have->file, have->module, 0);
+    CHECK(have->file.fault == VAST_OK);
+    CHECK(is_written(have, "HoistModuleDeclarations 2 0", "\004\263\002\002\000", 5));
+    have->loop = v_add_generate_loop(&have->file, have->module, "name_85", have->signal,
+                                     have->expression, "label");
+    CHECK(have->file.fault == VAST_OK);
+    CHECK(is_written(have, "AddGenerateLoop 2 \"name_85\" 3 0 + \"label\"",
+                           "\023\004\002\007name_85\003\000\001\005label", 20));
+    v_generate_add_generate_loop(&have->file, have->loop, "name_86", have->signal, have->expression,
                                  "label");
     CHECK(have->file.fault == VAST_OK);
-    CHECK(is_written(have, "GenerateAddGenerateLoop 83 \"name_84\" 3 0 + \"label\"",
-                           "\023WS\007name_84\003\000\001\005label", 20));
+    CHECK(is_written(have, "GenerateAddGenerateLoop 85 \"name_86\" 3 0 + \"label\"",
+                           "\023\024U\007name_86\003\000\001\005label", 20));
     v_generate_genvar(&have->file, have->loop);
     CHECK(have->file.fault == VAST_OK);
-    CHECK(is_written(have, "GenerateGenvar 83", "\002XS", 3));
+    CHECK(is_written(have, "GenerateGenvar 85", "\002$U", 3));
     have->always = v_generate_add_always_comb(&have->file, have->loop);
     CHECK(have->file.fault == VAST_OK);
-    CHECK(is_written(have, "GenerateAddAlwaysComb 83", "\002YS", 3));
+    CHECK(is_written(have, "GenerateAddAlwaysComb 85", "\0024U", 3));
     v_generate_add_always_ff(&have->file, have->loop, have->expressions, 2);
     CHECK(have->file.fault == VAST_OK);
-    CHECK(is_written(have, "GenerateAddAlwaysFf 83 [ 3 3 ]", "\005ZS\002\003\003", 6));
+    CHECK(is_written(have, "GenerateAddAlwaysFf 85 [ 3 3 ]", "\005DU\002\003\003", 6));
     v_generate_add_always_at(&have->file, have->loop, have->expressions, 2);
     CHECK(have->file.fault == VAST_OK);
-    CHECK(is_written(have, "GenerateAddAlwaysAt 83 [ 3 3 ]", "\005[S\002\003\003", 6));
-    v_generate_add_localparam(&have->file, have->loop, "name_89", have->signal);
+    CHECK(is_written(have, "GenerateAddAlwaysAt 85 [ 3 3 ]", "\005TU\002\003\003", 6));
+    v_generate_add_localparam(&have->file, have->loop, "name_91", have->signal);
     CHECK(have->file.fault == VAST_OK);
-    CHECK(is_written(have, "GenerateAddLocalparam 83 \"name_89\" 3", "\013\134S\007name_89\003",
-                           12));
+    CHECK(is_written(have, "GenerateAddLocalparam 85 \"name_91\" 3", "\013dU\007name_91\003", 12));
     have->statement = v_generate_add_continuous_assignment(&have->file, have->loop, have->signal,
                                                            have->expression);
     CHECK(have->file.fault == VAST_OK);
-    CHECK(is_written(have, "GenerateAddContinuousAssignment 83 3 0", "\004^S\003\000", 5));
+    CHECK(is_written(have, "GenerateAddContinuousAssignment 85 3 0", "\005\204\001U\003\000", 6));
     have->conditional = v_generate_add_conditional(&have->file, have->loop, have->signal);
     CHECK(have->file.fault == VAST_OK);
-    CHECK(is_written(have, "GenerateAddConditional 83 3", "\003_S\003", 4));
-    v_generate_add_blank_line(&have->file, have->loop);
-    CHECK(have->file.fault == VAST_OK);
-    CHECK(is_written(have, "GenerateAddBlankLine 83", "\002`S", 3));
-    have->function = v_add_function(&have->file, have->module, "name_93", have->type);
-    CHECK(have->file.fault == VAST_OK);
-    CHECK(is_written(have, "AddFunction 2 \"name_93\" 1", "\013e\002\007name_93\001", 12));
+    CHECK(is_written(have, "GenerateAddConditional 85 3", "\004\224\001U\003", 5));
     return 0;
 }
 
 static int part_10(answers *have)
 {
-    v_function_add_input(&have->file, have->function, "name_94", have->type);
+    v_generate_add_blank_line(&have->file, have->loop);
     CHECK(have->file.fault == VAST_OK);
-    CHECK(is_written(have, "FunctionAddInput 93 \"name_94\" 1", "\013f]\007name_94\001", 12));
-    v_function_add_logic_input(&have->file, have->function, "name_95", have->type);
+    CHECK(is_written(have, "GenerateAddBlankLine 85", "\003\244\001U", 4));
+    have->function = v_add_function(&have->file, have->module, "name_95", have->type);
     CHECK(have->file.fault == VAST_OK);
-    CHECK(is_written(have, "FunctionAddLogicInput 93 \"name_95\" 1", "\013g]\007name_95\001", 12));
-    v_function_add_reg(&have->file, have->function, "name_96", have->type);
+    CHECK(is_written(have, "AddFunction 2 \"name_95\" 1", "\013\005\002\007name_95\001", 12));
+    v_function_add_input(&have->file, have->function, "name_96", have->type);
     CHECK(have->file.fault == VAST_OK);
-    CHECK(is_written(have, "FunctionAddReg 93 \"name_96\" 1", "\013h]\007name_96\001", 12));
-    v_function_add_logic(&have->file, have->function, "name_97", have->type);
+    CHECK(is_written(have, "FunctionAddInput 95 \"name_96\" 1", "\013\025_\007name_96\001", 12));
+    v_function_add_logic_input(&have->file, have->function, "name_97", have->type);
     CHECK(have->file.fault == VAST_OK);
-    CHECK(is_written(have, "FunctionAddLogic 93 \"name_97\" 1", "\013i]\007name_97\001", 12));
+    CHECK(is_written(have, "FunctionAddLogicInput 95 \"name_97\" 1", "\013%_\007name_97\001", 12));
+    v_function_add_reg(&have->file, have->function, "name_98", have->type);
+    CHECK(have->file.fault == VAST_OK);
+    CHECK(is_written(have, "FunctionAddReg 95 \"name_98\" 1", "\0135_\007name_98\001", 12));
+    v_function_add_logic(&have->file, have->function, "name_99", have->type);
+    CHECK(have->file.fault == VAST_OK);
+    CHECK(is_written(have, "FunctionAddLogic 95 \"name_99\" 1", "\013E_\007name_99\001", 12));
     have->block = v_function_body(&have->file, have->function);
     CHECK(have->file.fault == VAST_OK);
-    CHECK(is_written(have, "FunctionBody 93", "\002j]", 3));
+    CHECK(is_written(have, "FunctionBody 95", "\002U_", 3));
     v_function_result(&have->file, have->function);
     CHECK(have->file.fault == VAST_OK);
-    CHECK(is_written(have, "FunctionResult 93", "\002k]", 3));
+    CHECK(is_written(have, "FunctionResult 95", "\002e_", 3));
     v_add_always_ff(&have->file, have->module, have->expressions, 2);
     CHECK(have->file.fault == VAST_OK);
-    CHECK(is_written(have, "AddAlwaysFf 2 [ 3 3 ]", "\005l\002\002\003\003", 6));
+    CHECK(is_written(have, "AddAlwaysFf 2 [ 3 3 ]", "\005u\002\002\003\003", 6));
     v_add_always_at(&have->file, have->module, have->expressions, 2);
     CHECK(have->file.fault == VAST_OK);
-    CHECK(is_written(have, "AddAlwaysAt 2 [ 3 3 ]", "\005m\002\002\003\003", 6));
-    v_add_always_comb(&have->file, have->module);
-    CHECK(have->file.fault == VAST_OK);
-    CHECK(is_written(have, "AddAlwaysComb 2", "\002n\002", 3));
-    v_statement_block(&have->file, have->always);
-    CHECK(have->file.fault == VAST_OK);
-    CHECK(is_written(have, "StatementBlock 86", "\002oV", 3));
+    CHECK(is_written(have, "AddAlwaysAt 2 [ 3 3 ]", "\006\205\001\002\002\003\003", 7));
     return 0;
 }
 
 static int part_11(answers *have)
 {
+    v_add_always_comb(&have->file, have->module);
+    CHECK(have->file.fault == VAST_OK);
+    CHECK(is_written(have, "AddAlwaysComb 2", "\003\225\001\002", 4));
+    v_statement_block(&have->file, have->always);
+    CHECK(have->file.fault == VAST_OK);
+    CHECK(is_written(have, "StatementBlock 88", "\003\245\001X", 4));
     v_block_add_blocking_assignment(&have->file, have->block, have->signal, have->expression);
     CHECK(have->file.fault == VAST_OK);
-    CHECK(is_written(have, "BlockAddBlockingAssignment 98 3 0", "\004pb\003\000", 5));
+    CHECK(is_written(have, "BlockAddBlockingAssignment 100 3 0", "\005\265\001d\003\000", 6));
     v_block_add_nonblocking_assignment(&have->file, have->block, have->signal, have->expression);
     CHECK(have->file.fault == VAST_OK);
-    CHECK(is_written(have, "BlockAddNonblockingAssignment 98 3 0", "\004qb\003\000", 5));
+    CHECK(is_written(have, "BlockAddNonblockingAssignment 100 3 0", "\005\305\001d\003\000", 6));
     v_block_add_continuous_assignment(&have->file, have->block, have->signal, have->expression);
     CHECK(have->file.fault == VAST_OK);
-    CHECK(is_written(have, "BlockAddContinuousAssignment 98 3 0", "\004rb\003\000", 5));
-    v_block_add_comment_text(&have->file, have->block, "text_107");
+    CHECK(is_written(have, "BlockAddContinuousAssignment 100 3 0", "\005\325\001d\003\000", 6));
+    v_block_add_comment_text(&have->file, have->block, "text_109");
     CHECK(have->file.fault == VAST_OK);
-    CHECK(is_written(have, "BlockAddCommentText 98 \"text_107\"", "\013sb\010text_107", 12));
-    v_block_add_inline_text(&have->file, have->block, "text_108");
+    CHECK(is_written(have, "BlockAddCommentText 100 \"text_109\"", "\014\345\001d\010text_109",
+                           13));
+    v_block_add_inline_text(&have->file, have->block, "text_110");
     CHECK(have->file.fault == VAST_OK);
-    CHECK(is_written(have, "BlockAddInlineText 98 \"text_108\"", "\013tb\010text_108", 12));
+    CHECK(is_written(have, "BlockAddInlineText 100 \"text_110\"", "\014\365\001d\010text_110", 13));
     v_block_add_blank_line(&have->file, have->block);
     CHECK(have->file.fault == VAST_OK);
-    CHECK(is_written(have, "BlockAddBlankLine 98", "\002ub", 3));
+    CHECK(is_written(have, "BlockAddBlankLine 100", "\003\205\002d", 4));
     v_add_conditional(&have->file, have->module, have->signal);
     CHECK(have->file.fault == VAST_OK);
-    CHECK(is_written(have, "AddConditional 2 3", "\003v\002\003", 4));
+    CHECK(is_written(have, "AddConditional 2 3", "\004\225\002\002\003", 5));
     v_block_add_cond(&have->file, have->block, have->signal);
     CHECK(have->file.fault == VAST_OK);
-    CHECK(is_written(have, "BlockAddCond 98 3", "\003wb\003", 4));
-    v_conditional_then_block(&have->file, have->conditional);
-    CHECK(have->file.fault == VAST_OK);
-    CHECK(is_written(have, "ConditionalThenBlock 91", "\002x[", 3));
-    v_conditional_add_else_if(&have->file, have->conditional, have->signal);
-    CHECK(have->file.fault == VAST_OK);
-    CHECK(is_written(have, "ConditionalAddElseIf 91 3", "\003y[\003", 4));
+    CHECK(is_written(have, "BlockAddCond 100 3", "\004\245\002d\003", 5));
     return 0;
 }
 
 static int part_12(answers *have)
 {
+    v_conditional_then_block(&have->file, have->conditional);
+    CHECK(have->file.fault == VAST_OK);
+    CHECK(is_written(have, "ConditionalThenBlock 93", "\003\265\002]", 4));
+    v_conditional_add_else_if(&have->file, have->conditional, have->signal);
+    CHECK(have->file.fault == VAST_OK);
+    CHECK(is_written(have, "ConditionalAddElseIf 93 3", "\004\305\002]\003", 5));
     v_conditional_add_else(&have->file, have->conditional);
     CHECK(have->file.fault == VAST_OK);
-    CHECK(is_written(have, "ConditionalAddElse 91", "\002z[", 3));
+    CHECK(is_written(have, "ConditionalAddElse 93", "\003\325\002]", 4));
     have->cases = v_block_add_case(&have->file, have->block, have->signal);
     CHECK(have->file.fault == VAST_OK);
-    CHECK(is_written(have, "BlockAddCase 98 3", "\003{b\003", 4));
+    CHECK(is_written(have, "BlockAddCase 100 3", "\004\345\002d\003", 5));
     v_block_add_casez(&have->file, have->block, have->signal);
     CHECK(have->file.fault == VAST_OK);
-    CHECK(is_written(have, "BlockAddCasez 98 3", "\003|b\003", 4));
+    CHECK(is_written(have, "BlockAddCasez 100 3", "\004\365\002d\003", 5));
     v_block_add_casex(&have->file, have->block, have->signal);
     CHECK(have->file.fault == VAST_OK);
-    CHECK(is_written(have, "BlockAddCasex 98 3", "\003}b\003", 4));
+    CHECK(is_written(have, "BlockAddCasex 100 3", "\004\205\003d\003", 5));
     v_case_add_item(&have->file, have->cases, have->signal);
     CHECK(have->file.fault == VAST_OK);
-    CHECK(is_written(have, "CaseAddItem 115 3", "\003~s\003", 4));
+    CHECK(is_written(have, "CaseAddItem 117 3", "\004\225\003u\003", 5));
     v_case_add_default(&have->file, have->cases);
     CHECK(have->file.fault == VAST_OK);
-    CHECK(is_written(have, "CaseAddDefault 115", "\002\177s", 3));
+    CHECK(is_written(have, "CaseAddDefault 117", "\003\245\003u", 4));
     v_case_set_unique(&have->file, have->cases, true);
     CHECK(have->file.fault == VAST_OK);
-    CHECK(is_written(have, "CaseSetUnique 115 true", "\004\200\001s\001", 5));
-    have->definition = v_make_def(&have->file, "name_121", VAST_DATA_KIND_GENVAR, have->type);
+    CHECK(is_written(have, "CaseSetUnique 117 true", "\004\265\003u\001", 5));
+    have->definition = v_make_def(&have->file, "name_123", VAST_DATA_KIND_GENVAR, have->type);
     CHECK(have->file.fault == VAST_OK);
-    CHECK(is_written(have, "MakeDef \"name_121\" Genvar 1", "\015\201\001\010name_121\007\001",
-                           14));
-    v_add_parameter_with_def(&have->file, have->module, have->definition, have->signal);
-    CHECK(have->file.fault == VAST_OK);
-    CHECK(is_written(have, "AddParameterWithDef 2 121 3", "\004Q\002y\003", 5));
-    v_add_typed_localparam(&have->file, have->module, have->definition, have->signal);
-    CHECK(have->file.fault == VAST_OK);
-    CHECK(is_written(have, "AddTypedLocalparam 2 121 3", "\004T\002y\003", 5));
+    CHECK(is_written(have, "MakeDef \"name_123\" Genvar 1", "\014\006\010name_123\007\001", 13));
     return 0;
 }
 
 static int part_13(answers *have)
 {
+    v_add_parameter_with_def(&have->file, have->module, have->definition, have->signal);
+    CHECK(have->file.fault == VAST_OK);
+    CHECK(is_written(have, "AddParameterWithDef 2 123 3", "\005\363\001\002{\003", 6));
+    v_add_typed_localparam(&have->file, have->module, have->definition, have->signal);
+    CHECK(have->file.fault == VAST_OK);
+    CHECK(is_written(have, "AddTypedLocalparam 2 123 3", "\005\243\002\002{\003", 6));
     v_generate_add_typed_localparam(&have->file, have->loop, have->definition, have->signal);
     CHECK(have->file.fault == VAST_OK);
-    CHECK(is_written(have, "GenerateAddTypedLocalparam 83 121 3", "\004]Sy\003", 5));
+    CHECK(is_written(have, "GenerateAddTypedLocalparam 85 123 3", "\004tU{\003", 5));
     have->blank_line = v_make_blank_line(&have->file);
     CHECK(have->file.fault == VAST_OK);
-    CHECK(is_written(have, "MakeBlankLine", "\002\202\001", 3));
+    CHECK(is_written(have, "MakeBlankLine", "\001\026", 2));
     v_add_blank_line(&have->file, have->blank_line);
     CHECK(have->file.fault == VAST_OK);
-    CHECK(is_written(have, "AddBlankLine 125", "\002C}", 3));
-    have->comment = v_make_comment(&have->file, "text_127");
+    CHECK(is_written(have, "AddBlankLine 127", "\002\023\177", 3));
+    have->comment = v_make_comment(&have->file, "text_129");
     CHECK(have->file.fault == VAST_OK);
-    CHECK(is_written(have, "MakeComment \"text_127\"", "\013\203\001\010text_127", 12));
+    CHECK(is_written(have, "MakeComment \"text_129\"", "\012&\010text_129", 11));
     v_generate_add_comment(&have->file, have->loop, have->comment);
     CHECK(have->file.fault == VAST_OK);
-    CHECK(is_written(have, "GenerateAddComment 83 127", "\003aS\177", 4));
-    have->inline_statement = v_make_inline_verilog_statement(&have->file, "text_129");
+    CHECK(is_written(have, "GenerateAddComment 85 129", "\005\264\001U\201\001", 6));
+    have->inline_statement = v_make_inline_verilog_statement(&have->file, "text_131");
     CHECK(have->file.fault == VAST_OK);
-    CHECK(is_written(have, "MakeInlineVerilogStatement \"text_129\"", "\013\204\001\010text_129",
-                           12));
+    CHECK(is_written(have, "MakeInlineVerilogStatement \"text_131\"", "\0126\010text_131", 11));
     v_generate_add_inline_statement(&have->file, have->loop, have->inline_statement);
     CHECK(have->file.fault == VAST_OK);
-    CHECK(is_written(have, "GenerateAddInlineStatement 83 129", "\004cS\201\001", 5));
+    CHECK(is_written(have, "GenerateAddInlineStatement 85 131", "\005\324\001U\203\001", 6));
     have->macro_statement = v_make_macro_statement(&have->file, have->macro, true);
     CHECK(have->file.fault == VAST_OK);
-    CHECK(is_written(have, "MakeMacroStatement 58 true", "\004\205\001:\001", 5));
-    v_generate_add_macro_statement(&have->file, have->loop, have->macro_statement);
-    CHECK(have->file.fault == VAST_OK);
-    CHECK(is_written(have, "GenerateAddMacroStatement 83 131", "\004dS\203\001", 5));
-    have->assignment = v_make_continuous_assignment(&have->file, have->signal, have->expression);
-    CHECK(have->file.fault == VAST_OK);
-    CHECK(is_written(have, "MakeContinuousAssignment 3 0", "\004\206\001\003\000", 5));
+    CHECK(is_written(have, "MakeMacroStatement 58 true", "\003F:\001", 4));
     return 0;
 }
 
 static int part_14(answers *have)
 {
+    v_generate_add_macro_statement(&have->file, have->loop, have->macro_statement);
+    CHECK(have->file.fault == VAST_OK);
+    CHECK(is_written(have, "GenerateAddMacroStatement 85 133", "\005\344\001U\205\001", 6));
+    have->assignment = v_make_continuous_assignment(&have->file, have->signal, have->expression);
+    CHECK(have->file.fault == VAST_OK);
+    CHECK(is_written(have, "MakeContinuousAssignment 3 0", "\003V\003\000", 4));
     v_make_nonblocking_assignment(&have->file, have->signal, have->expression);
     CHECK(have->file.fault == VAST_OK);
-    CHECK(is_written(have, "MakeNonblockingAssignment 3 0", "\004\207\001\003\000", 5));
+    CHECK(is_written(have, "MakeNonblockingAssignment 3 0", "\003f\003\000", 4));
     v_make_blocking_assignment(&have->file, have->signal, have->expression);
     CHECK(have->file.fault == VAST_OK);
-    CHECK(is_written(have, "MakeBlockingAssignment 3 0", "\004\210\001\003\000", 5));
-    have->instantiation = v_make_instantiation(&have->file, "module_name_136", "instance_name_136",
+    CHECK(is_written(have, "MakeBlockingAssignment 3 0", "\003v\003\000", 4));
+    have->instantiation = v_make_instantiation(&have->file, "module_name_138", "instance_name_138",
                                                have->strings, 2, have->expressions, 2,
                                                have->strings, 2, have->options, 2);
     CHECK(have->file.fault == VAST_OK);
     CHECK(is_written(have,
-                           "MakeInstantiation \"module_name_136\" \"instance_name_136\" [ \"first\" \"second\" ] [ 3 3 ] [ \"first\" \"second\" ] [ + 3 - ]",
-                           "G\211\001\017module_name_136\021instance_name_136\002\005first\006second\002\003\003\002\005first\006second\002\001\003\000",
+                           "MakeInstantiation \"module_name_138\" \"instance_name_138\" [ \"first\" \"second\" ] [ 3 3 ] [ \"first\" \"second\" ] [ + 3 - ]",
+                           "G\206\001\017module_name_138\021instance_name_138\002\005first\006second\002\003\003\002\005first\006second\002\001\003\000",
                            72));
     v_generate_add_instantiation(&have->file, have->loop, have->instantiation);
     CHECK(have->file.fault == VAST_OK);
-    CHECK(is_written(have, "GenerateAddInstantiation 83 136", "\004bS\210\001", 5));
+    CHECK(is_written(have, "GenerateAddInstantiation 85 138", "\005\304\001U\212\001", 6));
     v_add_member_instantiation(&have->file, have->module, have->instantiation);
     CHECK(have->file.fault == VAST_OK);
-    CHECK(is_written(have, "AddMemberInstantiation 2 136", "\005\212\001\002\210\001", 6));
+    CHECK(is_written(have, "AddMemberInstantiation 2 138", "\005\226\001\002\212\001", 6));
     v_add_member_continuous_assignment(&have->file, have->module, have->assignment);
     CHECK(have->file.fault == VAST_OK);
-    CHECK(is_written(have, "AddMemberContinuousAssignment 2 133", "\005\213\001\002\205\001", 6));
+    CHECK(is_written(have, "AddMemberContinuousAssignment 2 135", "\005\246\001\002\207\001", 6));
     v_add_member_blank_line(&have->file, have->module, have->blank_line);
     CHECK(have->file.fault == VAST_OK);
-    CHECK(is_written(have, "AddMemberBlankLine 2 125", "\004\214\001\002}", 5));
+    CHECK(is_written(have, "AddMemberBlankLine 2 127", "\004\266\001\002\177", 5));
     v_add_member_comment(&have->file, have->module, have->comment);
     CHECK(have->file.fault == VAST_OK);
-    CHECK(is_written(have, "AddMemberComment 2 127", "\004\215\001\002\177", 5));
-    v_add_member_inline_statement(&have->file, have->module, have->inline_statement);
-    CHECK(have->file.fault == VAST_OK);
-    CHECK(is_written(have, "AddMemberInlineStatement 2 129", "\005\216\001\002\201\001", 6));
-    v_add_member_macro_statement(&have->file, have->module, have->macro_statement);
-    CHECK(have->file.fault == VAST_OK);
-    CHECK(is_written(have, "AddMemberMacroStatement 2 131", "\005\217\001\002\203\001", 6));
+    CHECK(is_written(have, "AddMemberComment 2 129", "\005\306\001\002\201\001", 6));
     return 0;
 }
 
 static int part_15(answers *have)
 {
+    v_add_member_inline_statement(&have->file, have->module, have->inline_statement);
+    CHECK(have->file.fault == VAST_OK);
+    CHECK(is_written(have, "AddMemberInlineStatement 2 131", "\005\326\001\002\203\001", 6));
+    v_add_member_macro_statement(&have->file, have->module, have->macro_statement);
+    CHECK(have->file.fault == VAST_OK);
+    CHECK(is_written(have, "AddMemberMacroStatement 2 133", "\005\346\001\002\205\001", 6));
     have->truth = v_conditional_has_else(&have->file, have->conditional);
     CHECK(have->file.fault == VAST_OK);
-    CHECK(is_written(have, "?ConditionalHasElse 91", "\003\220\001[", 4));
+    CHECK(is_written(have, "?ConditionalHasElse 93", "\002\007]", 3));
     have->text = v_emit_expression(&have->file, have->signal);
     CHECK(have->file.fault == VAST_OK);
-    CHECK(is_written(have, "?EmitExpression 3", "\003\222\001\003", 4));
+    CHECK(is_written(have, "?EmitExpression 3", "\002'\003", 3));
     have->truth = v_file_is_plain(&have->file);
     CHECK(have->file.fault == VAST_OK);
-    CHECK(is_written(have, "?FileIsPlain", "\002\223\001", 3));
-    have->truth = v_is_system_verilog_keyword(&have->file, "identifier_147");
+    CHECK(is_written(have, "?FileIsPlain", "\0017", 2));
+    have->truth = v_is_system_verilog_keyword(&have->file, "identifier_149");
     CHECK(have->file.fault == VAST_OK);
-    CHECK(is_written(have, "?IsSystemVerilogKeyword \"identifier_147\"",
-                           "\021\224\001\016identifier_147", 18));
+    CHECK(is_written(have, "?IsSystemVerilogKeyword \"identifier_149\"", "\020G\016identifier_149",
+                           17));
     have->text = v_logic_ref_name(&have->file, have->signal);
     CHECK(have->file.fault == VAST_OK);
-    CHECK(is_written(have, "?LogicRefName 3", "\003\225\001\003", 4));
+    CHECK(is_written(have, "?LogicRefName 3", "\002W\003", 3));
     have->ports = v_module_input_ports(&have->file, have->module);
     CHECK(have->file.fault == VAST_OK);
-    CHECK(is_written(have, "?ModuleInputPorts 2", "\003\226\001\002", 4));
+    CHECK(is_written(have, "?ModuleInputPorts 2", "\002g\002", 3));
     have->natural = v_module_member_count(&have->file, have->module);
     CHECK(have->file.fault == VAST_OK);
-    CHECK(is_written(have, "?ModuleMemberCount 2", "\003\227\001\002", 4));
+    CHECK(is_written(have, "?ModuleMemberCount 2", "\002w\002", 3));
     have->text = v_module_name(&have->file, have->module);
     CHECK(have->file.fault == VAST_OK);
-    CHECK(is_written(have, "?ModuleName 2", "\003\230\001\002", 4));
-    have->ports = v_module_output_ports(&have->file, have->module);
-    CHECK(have->file.fault == VAST_OK);
-    CHECK(is_written(have, "?ModuleOutputPorts 2", "\003\231\001\002", 4));
-    have->ports = v_module_ports(&have->file, have->module);
-    CHECK(have->file.fault == VAST_OK);
-    CHECK(is_written(have, "?ModulePorts 2", "\003\232\001\002", 4));
+    CHECK(is_written(have, "?ModuleName 2", "\003\207\001\002", 4));
     return 0;
 }
 
 static int part_16(answers *have)
 {
-    have->truth = v_name_is_free(&have->file, have->module, "name_154");
+    have->ports = v_module_output_ports(&have->file, have->module);
     CHECK(have->file.fault == VAST_OK);
-    CHECK(is_written(have, "?NameIsFree 2 \"name_154\"", "\014\233\001\002\010name_154", 13));
+    CHECK(is_written(have, "?ModuleOutputPorts 2", "\003\227\001\002", 4));
+    have->ports = v_module_ports(&have->file, have->module);
+    CHECK(have->file.fault == VAST_OK);
+    CHECK(is_written(have, "?ModulePorts 2", "\003\247\001\002", 4));
+    have->truth = v_name_is_free(&have->file, have->module, "name_156");
+    CHECK(have->file.fault == VAST_OK);
+    CHECK(is_written(have, "?NameIsFree 2 \"name_156\"", "\014\267\001\002\010name_156", 13));
     have->truth = v_type_can_be_cast(&have->file, have->type);
     CHECK(have->file.fault == VAST_OK);
-    CHECK(is_written(have, "?TypeCanBeCast 1", "\003\234\001\001", 4));
+    CHECK(is_written(have, "?TypeCanBeCast 1", "\003\307\001\001", 4));
     have->truth = v_type_can_be_packed(&have->file, have->type);
     CHECK(have->file.fault == VAST_OK);
-    CHECK(is_written(have, "?TypeCanBePacked 1", "\003\235\001\001", 4));
+    CHECK(is_written(have, "?TypeCanBePacked 1", "\003\327\001\001", 4));
     have->integer = v_type_flat_bit_count_as_int64(&have->file, have->type);
     CHECK(have->file.fault == VAST_OK);
-    CHECK(is_written(have, "?TypeFlatBitCountAsInt64 1", "\003\236\001\001", 4));
+    CHECK(is_written(have, "?TypeFlatBitCountAsInt64 1", "\003\347\001\001", 4));
     have->truth = v_type_is_signed(&have->file, have->type);
     CHECK(have->file.fault == VAST_OK);
-    CHECK(is_written(have, "?TypeIsSigned 1", "\003\237\001\001", 4));
+    CHECK(is_written(have, "?TypeIsSigned 1", "\003\367\001\001", 4));
     have->integer = v_type_width_as_int64(&have->file, have->type);
     CHECK(have->file.fault == VAST_OK);
-    CHECK(is_written(have, "?TypeWidthAsInt64 1", "\003\240\001\001", 4));
+    CHECK(is_written(have, "?TypeWidthAsInt64 1", "\003\207\002\001", 4));
     have->text = v_type_width_expr(&have->file, have->type);
     CHECK(have->file.fault == VAST_OK);
-    CHECK(is_written(have, "?TypeWidthExpr 1", "\003\241\001\001", 4));
+    CHECK(is_written(have, "?TypeWidthExpr 1", "\003\227\002\001", 4));
     have->truth = v_width_is_usable(&have->file, have->signal);
     CHECK(have->file.fault == VAST_OK);
-    CHECK(is_written(have, "?WidthIsUsable 3", "\003\242\001\003", 4));
-    v_add_registers(&have->file, have->signal, &have->reset, have->definitions, 2, have->loop);
-    CHECK(have->file.fault == VAST_OK);
-    CHECK(is_written(have, "!AddRegisters 3 + [ 3 true ] [ [ 3 0 + 3 - ] [ 3 0 - + 3 ] ] 83",
-                           "\022\243\001\003\001\003\001\002\003\000\001\003\000\003\000\000\001\003S",
-                           19));
-    v_bitwise_or_reduce(&have->file, have->expressions, 2);
-    CHECK(have->file.fault == VAST_OK);
-    CHECK(is_written(have, "!BitwiseOrReduce [ 3 3 ]", "\005\244\001\002\003\003", 6));
+    CHECK(is_written(have, "?WidthIsUsable 3", "\003\247\002\003", 4));
     return 0;
 }
 
 static int part_17(answers *have)
 {
+    v_add_registers(&have->file, have->signal, &have->reset, have->definitions, 2, have->loop);
+    CHECK(have->file.fault == VAST_OK);
+    CHECK(is_written(have, "!AddRegisters 3 + [ 3 true ] [ [ 3 0 + 3 - ] [ 3 0 - + 3 ] ] 85",
+                           "\021\010\003\001\003\001\002\003\000\001\003\000\003\000\000\001\003U",
+                           18));
+    v_bitwise_or_reduce(&have->file, have->expressions, 2);
+    CHECK(have->file.fault == VAST_OK);
+    CHECK(is_written(have, "!BitwiseOrReduce [ 3 3 ]", "\004\030\002\003\003", 5));
     v_bitwise_or_reduce_array_elements(&have->file, have->memory, have->integers, 1);
     CHECK(have->file.fault == VAST_OK);
-    CHECK(is_written(have, "!BitwiseOrReduceArrayElements 75 [ 2 ]", "\005\245\001K\001\004", 6));
+    CHECK(is_written(have, "!BitwiseOrReduceArrayElements 77 [ 2 ]", "\004(M\001\004", 5));
     v_logical_and_reduce(&have->file, have->expressions, 2, true);
     CHECK(have->file.fault == VAST_OK);
-    CHECK(is_written(have, "!LogicalAndReduce [ 3 3 ] true", "\006\246\001\002\003\003\001", 7));
+    CHECK(is_written(have, "!LogicalAndReduce [ 3 3 ] true", "\0058\002\003\003\001", 6));
     v_logical_or_reduce(&have->file, have->expressions, 2, true);
     CHECK(have->file.fault == VAST_OK);
-    CHECK(is_written(have, "!LogicalOrReduce [ 3 3 ] true", "\006\247\001\002\003\003\001", 7));
+    CHECK(is_written(have, "!LogicalOrReduce [ 3 3 ] true", "\005H\002\003\003\001", 6));
     return 0;
 }
 
@@ -709,7 +718,7 @@ int main(void)
         for (size_t part = 0; part < sizeof parts / sizeof parts[0]; part++)
             if (parts[part](&have))
                 return 1;
-        CHECK(have.file.count == 149 && vast_emit(&have.file, &text) == VAST_OK);
+        CHECK(have.file.count == 151 && vast_emit(&have.file, &text) == VAST_OK);
         vast_file_close(&have.file);
     }
     return 0;

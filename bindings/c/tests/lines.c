@@ -121,8 +121,9 @@ static int warnings(void)
 /* Packed calls beside lines: made, asked, refused, cut off, and with a byte too many. */
 static int packed(void)
 {
-    const uint8_t calls[] = {3, 69, 1, 'm', 1, 57, 5, 75, 0, 1, 'a', 1, 3, 0x98, 1, 0}, again[] = {5, 75, 0, 1, 'a', 1};
-    const uint8_t cut[] = {1, 57, 9, 57}, many[] = {2, 57, 0};
+    const uint8_t calls[] = {3, 51, 1, 'm', 1, 2, 6, 0x93, 1, 0, 1, 'a', 1, 3, 0x87, 1, 0};
+    const uint8_t again[] = {6, 0x93, 1, 0, 1, 'a', 1};
+    const uint8_t cut[] = {1, 2, 9, 2}, many[] = {2, 2, 0};
     vast_session s = NULL;
     size_t taken = 7;
     CHECK(vast_packed(&s, calls, sizeof calls, &taken) == VAST_NOT_OPEN && taken == 0);

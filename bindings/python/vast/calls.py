@@ -566,6 +566,41 @@ class Calls(Core):
             DataType,
         )
 
+    def make_packed_array_type_expr(
+        self,
+        element: TypeLike,
+        dimensions: Sequence[Operand],
+    ) -> DataType:
+        """The packed array of elements of a type, each dimension as many as an expression says.
+
+        `dimensions`: numbers of elements, the outermost dimension first.
+        Raises `Condition` unless: `type_can_be_packed`, at least one dimension, each with
+        `width_is_usable`.
+        """
+        if not (isinstance(element, DataType) and element.file is self):
+            element = self._type(element)
+        return self._now(
+            f"MakePackedArrayTypeExpr {element.step} {listed(self._value_step, dimensions)}",
+            DataType,
+        )
+
+    def make_unpacked_array_type_expr(
+        self,
+        element: TypeLike,
+        dimensions: Sequence[Operand],
+    ) -> DataType:
+        """The unpacked array of elements of a type, each dimension as many as an expression says.
+
+        `dimensions`: numbers of elements, the outermost dimension first.
+        Raises `Condition` unless: at least one dimension, each with `width_is_usable`.
+        """
+        if not (isinstance(element, DataType) and element.file is self):
+            element = self._type(element)
+        return self._now(
+            f"MakeUnpackedArrayTypeExpr {element.step} {listed(self._value_step, dimensions)}",
+            DataType,
+        )
+
     def add_include(self, include: str) -> None:
         """The inclusion of the file at this path, as the last item of the file."""
         self._later(f"AddInclude {quoted(include)}")

@@ -520,6 +520,18 @@ class DataType(TypeWords):
         """
         return self.file.make_unpacked_array_type(self, dimensions)
 
+    def packed_array_type_expr(self, dimensions: Sequence[Operand]) -> DataType:
+        """`File.make_packed_array_type_expr`: the packed array of elements of a type, each
+        dimension as many as an expression says.
+        """
+        return self.file.make_packed_array_type_expr(self, dimensions)
+
+    def unpacked_array_type_expr(self, dimensions: Sequence[Operand]) -> DataType:
+        """`File.make_unpacked_array_type_expr`: the unpacked array of elements of a type, each
+        dimension as many as an expression says.
+        """
+        return self.file.make_unpacked_array_type_expr(self, dimensions)
+
     def can_be_cast(self) -> bool:
         """`File.type_can_be_cast`: whether an expression may be cast to the type: it is no array."""
         return self.file.type_can_be_cast(self)

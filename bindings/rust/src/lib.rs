@@ -25,6 +25,7 @@
 mod calls;
 mod conditions;
 mod error;
+mod extension;
 mod file;
 mod handles;
 pub mod helpers;
@@ -42,6 +43,7 @@ mod unpacked;
 mod warning;
 
 pub use error::VastError;
+pub use extension::VastFileExtension;
 pub use file::{is_system_verilog_keyword, VastFile};
 pub use handles::{
     BlankLine, CaseStatement, Comment, Conditional, ContinuousAssignment, Def, Expr, GenerateLoop,

@@ -26,7 +26,9 @@ pub(crate) fn lines_of(calls: &[u8]) -> String {
     while !left.is_empty() {
         let length = take_number(&mut left);
         let (mut call, behind) = left.split_at(length);
-        let Row(name, arguments) = &ROWS[take_number(&mut call)];
+        let number = take_number(&mut call);
+        let row = ROWS.iter().find(|row| row.0 == number);
+        let Row(_, name, arguments) = row.expect("each call that is packed has a row");
         lines.push_str(name);
         for form in *arguments {
             push_argument(&mut lines, form, &mut call);

@@ -3,11 +3,13 @@ use Rattle.std.proofs.Common.{zero, suc, get_or, ◌≡◌, ℕ, ◌+◌, ◌<�
 use Rattle.std.proofs.lemmas.Option.{IfSome_then, slice_get_within, slice_get_past, slice_get_read}
 use Rattle.std.specs.Prelude.{IfSome}
 use Rattle.vast_literal.specs.Tree.{ExprTree, TypeTree, Typed, SomeExpr}
+use Rattle.vast_literal.proofs.NumberLaws.{signed_text}
 use Rattle.vast_core.specs.Handles.{Expr, VastDataType, rank, type_rank}
 use Rattle.vast_core.specs.declared.node.ExprNode.TheVariants.{Name, Literal, StringText, Unary, Binary, Ternary, Index, Slice, PartSelect, Concat, Pattern, WidthCast, TypeCast, PosEdge, NegEdge, Macro, MacroCall, Call, DataType}
 use Rattle.vast_core.specs.declared.node.TypeNode.{TypeNode}
 use Rattle.vast_core.specs.declared.node.TypeNode.TheVariants.{Vector, Packed, Unpacked}
-use Rattle.vast_core.specs.Nodes.{ExprNode, Root, ExprRoot, TypeRoot, Nodes, no_nodes, with_node, is_expr_root, is_type_root, is_root_of, expr_of_root, type_of_root, expr_in, type_in, maybe_type_in, maybe_expr_in, exprs_in, expr_tree, type_tree, term_root, ExprChildrenHold, TypeChildrenHold, built}
+use Rattle.vast_core.specs.declared.node.Dimension.TheVariants.{Count, Size}
+use Rattle.vast_core.specs.Nodes.{ExprNode, Root, ExprRoot, TypeRoot, Nodes, no_nodes, with_node, is_expr_root, is_type_root, is_root_of, expr_of_root, type_of_root, expr_in, type_in, maybe_type_in, maybe_expr_in, exprs_in, Dimension, size_in, sizes_in, SizeHolds, expr_tree, type_tree, term_root, ExprChildrenHold, TypeChildrenHold, built}
 use Rattle.vast_core.specs.Internal.Nodes.{HasExpr, HasType, ChildrenHold, RootFits, RootWellFormed, TermsSound, IsNodeAt}
 use Rattle.vast_core.specs.Types.{ExprFits, TypeFits, ExprWellFormed, TypeWellFormed, MaybeTypeWellFormed, MaybeExprWellFormed, ExprsWellFormed}
 use Rattle.vast_core.specs.Sound.{Each}
@@ -146,6 +148,10 @@ expr_children-map f g (Call name arguments) h = All-implies f arguments.items h
 expr_children-map f g (DataType n) h = h
 expr_children-map f g _ h = tt
 
+size_holds-map : {P P2 : Expr → Type 0} → ((e : Expr) → P e → P2 e) → (d : Dimension) → SizeHolds P d → SizeHolds P2 d
+size_holds-map f (Count count) h = tt
+size_holds-map f (Size size) h = f size h
+
 type_children-map :
     {P P2 : Expr → Type 0} {Q Q2 : VastDataType → Type 0} →
     ((e : Expr) → P e → P2 e) →
@@ -154,8 +160,8 @@ type_children-map :
     TypeChildrenHold P Q n →
     TypeChildrenHold P2 Q2 n
 type_children-map f g (Vector width value signed) h = f width h
-type_children-map f g (Packed element dimensions) h = g element h
-type_children-map f g (Unpacked element dimensions) h = g element h
+type_children-map f g (Packed element dimensions) h = (g element h.0, All-implies (size_holds-map f) dimensions.items h.1)
+type_children-map f g (Unpacked element dimensions) h = (g element h.0, All-implies (size_holds-map f) dimensions.items h.1)
 type_children-map f g _ h = tt
 
 children-map :
@@ -180,6 +186,14 @@ pub exprs-kept : (b c : Nodes) → Extends b c → (es : List Expr) → All (Has
 exprs-kept b c x [] h = refl
 exprs-kept b c x (e ∷ es) h = cc (expr_in-kept b c x e (All-head (HasExpr b) e es h), exprs-kept b c x es (All-tail (HasExpr b) e es h))
 
+size-kept : (b c : Nodes) → Extends b c → (d : Dimension) → SizeHolds (HasExpr b) d → size_in c d ≡ size_in b d
+size-kept b c x (Count count) h = refl
+size-kept b c x (Size size) h = expr_in-kept b c x size h
+
+sizes-kept : (b c : Nodes) → Extends b c → (ds : List Dimension) → All (SizeHolds (HasExpr b)) ds → sizes_in c ds ≡ sizes_in b ds
+sizes-kept b c x [] h = refl
+sizes-kept b c x (d ∷ ds) h = cc (size-kept b c x d (All-head (SizeHolds (HasExpr b)) d ds h), sizes-kept b c x ds (All-tail (SizeHolds (HasExpr b)) d ds h))
+
 expr_tree-kept : (b c : Nodes) → Extends b c → (n : ExprNode) → ExprChildrenHold (HasExpr b) (HasType b) n → expr_tree c n ≡ expr_tree b n
 expr_tree-kept b c x (Name name type) h = cc (maybe_type-kept b c x type h)
 expr_tree-kept b c x (Unary operator operand) h = cc (expr_in-kept b c x operand h)
@@ -200,8 +214,8 @@ expr_tree-kept b c x _ h = refl
 
 type_tree-kept : (b c : Nodes) → Extends b c → (n : TypeNode) → TypeChildrenHold (HasExpr b) (HasType b) n → type_tree c n ≡ type_tree b n
 type_tree-kept b c x (Vector width value signed) h = cc (expr_in-kept b c x width h)
-type_tree-kept b c x (Packed element dimensions) h = cc (type_in-kept b c x element h)
-type_tree-kept b c x (Unpacked element dimensions) h = cc (type_in-kept b c x element h)
+type_tree-kept b c x (Packed element dimensions) h = cc (type_in-kept b c x element h.0, sizes-kept b c x dimensions.items h.1)
+type_tree-kept b c x (Unpacked element dimensions) h = cc (type_in-kept b c x element h.0, sizes-kept b c x dimensions.items h.1)
 type_tree-kept b c x _ h = refl
 
 term_root-kept : (b c : Nodes) → Extends b c → (t : ExprNode) → ChildrenHold (HasExpr b) (HasType b) t → term_root c t ≡ term_root b t
@@ -249,10 +263,20 @@ expr_node-well_formed b (MacroCall name arguments) h f = exprs-well_formed b arg
 expr_node-well_formed b (Call name arguments) h f = exprs-well_formed b arguments.items h
 expr_node-well_formed b _ h f = h
 
+size-well_formed : (b : Nodes) (d : Dimension) → SizeHolds (λ e. ExprWellFormed (expr_in b e)) d → ExprWellFormed (size_in b d)
+size-well_formed b (Count count) h = signed_text count
+size-well_formed b (Size size) h = h
+
+sizes-well_formed : (b : Nodes) (ds : List Dimension) → All (SizeHolds (λ e. ExprWellFormed (expr_in b e))) ds → ExprsWellFormed (sizes_in b ds)
+sizes-well_formed b [] h = tt
+sizes-well_formed b (d ∷ ds) h =
+    let P : Dimension → Type 0 = SizeHolds (λ e. ExprWellFormed (expr_in b e))
+    in (size-well_formed b d (All-head P d ds h), sizes-well_formed b ds (All-tail P d ds h))
+
 type_node-well_formed : (b : Nodes) (n : TypeNode) → TypeChildrenHold (λ e. ExprWellFormed (expr_in b e)) (λ t. TypeWellFormed (type_in b t)) n → TypeFits (type_tree b n) → TypeWellFormed (type_tree b n)
 type_node-well_formed b (Vector width value signed) h f = (f, h)
-type_node-well_formed b (Packed element dimensions) h f = (f, h)
-type_node-well_formed b (Unpacked element dimensions) h f = (f, h)
+type_node-well_formed b (Packed element dimensions) h f = (f, h.0, sizes-well_formed b dimensions.items h.1)
+type_node-well_formed b (Unpacked element dimensions) h f = (f, h.0, sizes-well_formed b dimensions.items h.1)
 type_node-well_formed b _ h f = tt
 
 node-well_formed : (b : Nodes) (t : ExprNode) → Each RootWellFormed b.roots → ChildrenHold (HasExpr b) (HasType b) t → RootFits (term_root b t) → RootWellFormed (term_root b t)

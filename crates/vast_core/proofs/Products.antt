@@ -3,9 +3,12 @@ use Rattle.std.proofs.Common.{◌≡◌, zero, suc, ℕ, ◌+◌, ◌*◌, ◌<�
 use Rattle.std.proofs.lemmas.Int.{ints, by_lt_z, fits_signed_from_abs}
 use Rattle.std.proofs.Math.IntN.{pos-*ℤ-pos, *ℤ_comm}
 use Rattle.std.proofs.Math.Nat.{mul_assoc, mul_comm, suc-mul}
-use Rattle.vast_literal.specs.Tree.{TypeTree, PackedTree, UnpackedTree}
-use Rattle.vast_core.specs.Types.{TypeWellFormed}
-use Rattle.vast_core.specs.BitCount.{product, dimensions_of}
+use Rattle.std.specs.Prelude.{Option, Some, None, IfSome}
+use Rattle.vast_literal.specs.Tree.{TypeTree, PackedTree, UnpackedTree, Exprs, NoExprs, MoreExprs}
+use Rattle.vast_literal.specs.Shape.{literal_value}
+use Rattle.vast_core.specs.Types.{EachUsable, AreSizes, TypeWellFormed}
+use Rattle.vast_core.specs.Nodes.{Nodes, Dimension, size_in, sizes_in}
+use Rattle.vast_core.specs.BitCount.{product, value_or_one, size_values, dimensions_of}
 use Rattle.vast_core.proofs.Lists.{All-head, All-tail, All-cons}
 
 pub ≤ℤ_trans : (a b c : ℤ) → a ≤ℤ b → b ≤ℤ c → a ≤ℤ c
@@ -76,9 +79,31 @@ pub All-append : {A : Type 0} (P : A → Type 0) (xs ys : List A) → All P xs �
 All-append P [] ys h k = k
 All-append P (x ∷ xs) ys h k = All-cons P x (xs ++ ys) (All-head P x xs h) (All-append P xs ys (All-tail P x xs h) k)
 
+value-positive : (value : Option ℤ) → IfSome value (λ v. pos 1 ≤ℤ v) → pos 1 ≤ℤ value_or_one value
+value-positive None h = omega (arith, ints)
+value-positive (Some v) h = h
+
+values-positive : (sizes : Exprs) → EachUsable sizes → All (λ d. pos 1 ≤ℤ d) (size_values sizes)
+values-positive NoExprs h = λ k d below. absurd (omega arith)
+values-positive (MoreExprs size sizes) h = All-cons (λ d. pos 1 ≤ℤ d) (value_or_one (literal_value size)) (size_values sizes) (value-positive (literal_value size) h.0) (values-positive sizes h.1)
+
+pub sizes-positive : (sizes : Exprs) → AreSizes sizes → All (λ d. pos 1 ≤ℤ d) (size_values sizes)
+sizes-positive NoExprs h = absurd h
+sizes-positive (MoreExprs size sizes) h = values-positive (MoreExprs size sizes) h
+
+-- The values of an array's dimensions, one by one.
+pub values-length : (b : Nodes) (ds : List Dimension) → length (size_values (sizes_in b ds)) ≡ length ds
+values-length b [] = refl
+values-length b (d ∷ ds) = ap suc (values-length b ds)
+
+pub value-at : (b : Nodes) (ds : List Dimension) (i : ℕ) (d : Dimension) → i < length ds → value_or_one (literal_value (size_in b (get_or ds i d))) ≡ get_or (size_values (sizes_in b ds)) i (pos 0)
+value-at b [] i d below = absurd (omega arith)
+value-at b (x ∷ ds) zero d below = refl
+value-at b (x ∷ ds) (suc i) d below = value-at b ds i d (omega arith)
+
 pub dimensions-positive : (t : TypeTree) → TypeWellFormed t → All (λ d. pos 1 ≤ℤ d) (dimensions_of t)
-dimensions-positive (PackedTree element ds) h = All-append (λ d. pos 1 ≤ℤ d) ds (dimensions_of element) h.0.1.each (dimensions-positive element h.1)
-dimensions-positive (UnpackedTree element ds) h = All-append (λ d. pos 1 ≤ℤ d) ds (dimensions_of element) h.0.each (dimensions-positive element h.1)
+dimensions-positive (PackedTree element ds) h = All-append (λ d. pos 1 ≤ℤ d) (size_values ds) (dimensions_of element) (sizes-positive ds h.0.1) (dimensions-positive element h.1)
+dimensions-positive (UnpackedTree element ds) h = All-append (λ d. pos 1 ≤ℤ d) (size_values ds) (dimensions_of element) (sizes-positive ds h.0) (dimensions-positive element h.1)
 dimensions-positive _ h = λ k d below. absurd (omega arith)
 
 -- A product of all numbers of two lists.

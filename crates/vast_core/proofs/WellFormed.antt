@@ -42,8 +42,8 @@ mutual
 
   pub type_well_formed : (t : TypeTree) → TypeWellFormed t → is_well_formed_type t ≡ true
   type_well_formed (VectorTree width value signed) h = well_formed width h.1
-  type_well_formed (PackedTree element dimensions) h = type_well_formed element h.1
-  type_well_formed (UnpackedTree element dimensions) h = type_well_formed element h.1
+  type_well_formed (PackedTree element dimensions) h = both_true (type_well_formed element h.1) (each_well_formed dimensions h.2)
+  type_well_formed (UnpackedTree element dimensions) h = both_true (type_well_formed element h.1) (each_well_formed dimensions h.2)
   type_well_formed MissingType h = absurd h
   type_well_formed _ h = refl
 

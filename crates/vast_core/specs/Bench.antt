@@ -3,7 +3,7 @@ use Rattle.std.specs.Prelude.{ℕ, Bool, true, false, List, [], length, nat_lt, 
 use Rattle.vast_literal.specs.Tree.{ExprTree, TypeTree, MaybeExpr, Exprs}
 use Rattle.vast_core.specs.Handles.{Expr, IndexableExpr, Index, Slice, LogicRef, ParameterRef, LocalparamRef, MacroRef, VastDataType, VastModule, VastFunction, ModulePort, Instantiation, Def, BlankLine, Comment, InlineVerilogStatement, MacroStatement, ContinuousAssignment, VastStatement, VastAlwaysBase, VastStatementBlock, Conditional, CaseStatement, GenerateLoop}
 use Rattle.vast_literal.specs.declared.kind.VastFileType.{VastFileType}
-use Rattle.vast_core.specs.Nodes.{Nodes, no_nodes, IsOwned, is_expr_root, is_type_root, is_root_of, is_name, is_index, is_slice, is_macro, expr_in, type_in, maybe_expr_in, exprs_in}
+use Rattle.vast_core.specs.Nodes.{Nodes, no_nodes, IsOwned, is_expr_root, is_type_root, is_root_of, is_name, is_index, is_slice, is_macro, expr_in, type_in, maybe_expr_in, exprs_in, Dimension, size_in, SizeHolds}
 use Rattle.vast_core.specs.Types.{ExprWellFormed, TypeWellFormed}
 use Rattle.vast_core.specs.Records.{Assignment, Port, ModuleRecord, Definition, Artifact, BlankArtifact, CommentArtifact, InlineArtifact, MacroArtifact, InstanceRecord, FileItem, IsFree}
 use Rattle.vast_core.specs.Nests.{NestRecord, FunctionRecord, AlwaysRecord, nest_kind, is_kind, BlockKind, ConditionalKind, CaseStatementKind, LoopKind}
@@ -43,6 +43,9 @@ maybe_tree_of b e = maybe_expr_in b.nodes e
 abbrev pub trees_of : Bench → List Expr → Exprs
 trees_of b es = exprs_in b.nodes es
 
+abbrev pub size_of : Bench → Dimension → ExprTree
+size_of b d = size_in b.nodes d
+
 -- Which handles are the file's: the id is the file's, and the index names a node of the handle's kind.
 
 -- Expressions of a shape.
@@ -52,6 +55,10 @@ has_root shape b i = is_root_of shape (slice_get b.nodes.roots i)
 -- The handle is the file's, and its index names an expression; so it is of each kind of handle below.
 abbrev pub OwnsExpr : Bench → Expr → Type 0
 OwnsExpr b e = IsOwned b.nodes.id e.id (is_expr_root (slice_get b.nodes.roots e.id.index))
+
+-- A dimension's expression is the file's, where it has one.
+abbrev pub OwnsDimension : Bench → Dimension → Type 0
+OwnsDimension b d = SizeHolds (OwnsExpr b) d
 
 abbrev pub OwnsIndexable : Bench → IndexableExpr → Type 0
 OwnsIndexable b e = IsOwned b.nodes.id e.id (is_expr_root (slice_get b.nodes.roots e.id.index))

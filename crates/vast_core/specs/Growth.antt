@@ -2,7 +2,7 @@
 use Rattle.std.specs.Prelude.{◌≡◌, ℕ, ℤ, Bool, List, [], ◌∷◌, ◌++◌, length, Some, Result, Ok, Err}
 use Rattle.std.specs.Fmt.{signed_decimal}
 use Rattle.std.specs.declared.alloc.AllocError.{AllocError}
-use Rattle.vast_literal.specs.Tree.{ExprTree, NameTree, LiteralTree, IndexTree, SliceTree, ConcatTree, SomeExpr, TypeTree, VectorTree, Typed}
+use Rattle.vast_literal.specs.Tree.{ExprTree, NameTree, LiteralTree, IndexTree, SliceTree, ConcatTree, SomeExpr, Exprs, NoExprs, MoreExprs, TypeTree, VectorTree, Typed}
 use Rattle.vast_core.specs.Handles.{Id, Expr, LogicRef, IndexableExpr, Index, Slice, VastDataType, VastModule, ModulePort, ContinuousAssignment}
 use Rattle.vast_literal.specs.declared.kind.ModulePortDirection.{ModulePortDirection}
 use Rattle.vast_literal.specs.declared.kind.DataKind.{DataKind}
@@ -70,6 +70,11 @@ known_literal text value = LiteralTree text (Some value)
 
 abbrev pub decimal_literal : ℤ → ExprTree
 decimal_literal value = known_literal (signed_decimal value) value
+
+-- The sizes of dimensions that are numbers.
+abbrev pub counts : List ℤ → Exprs
+counts [] = NoExprs
+counts (d ∷ ds) = MoreExprs (decimal_literal d) (counts ds)
 
 -- A bit select by a number: a literal of the index, and the select.
 abbrev pub with_fixed_index : IndexableExpr → List ℕ → ℤ → Bench → Bench

@@ -1,5 +1,6 @@
 -- The arena of expressions and types: nodes, and the trees that they stand for.
 use Rattle.std.specs.Prelude.{◌≡◌, ℕ, Bool, true, false, IsTrue, List, [], ◌∷◌, ◌++◌, Option, Some, None, slice_get, string_bytes, All, Vec, IfSome}
+use Rattle.std.specs.Fmt.{signed_decimal}
 use Rattle.std.specs.declared.alloc.Global.{Global}
 use Rattle.vast_literal.specs.Tree.{ExprTree, NameTree, LiteralTree, StringTree, UnaryTree, BinaryTree, TernaryTree, IndexTree, SliceTree, PartSelectTree, ConcatTree, PatternTree, WidthCastTree, TypeCastTree, PosEdgeTree, NegEdgeTree, MacroTree, CallTree, MissingExpr, TypeTree, ScalarTree, VectorTree, IntegerTree, IntTree, ExternalTree, PackageTree, PackedTree, UnpackedTree, MissingType, MaybeType, Untyped, Typed, MaybeExpr, NoExpr, SomeExpr, Exprs, NoExprs, MoreExprs, MaybeExprs, NoArguments, SomeArguments}
 use Rattle.vast_core.specs.Handles.{Id, Expr, VastDataType}
@@ -7,6 +8,8 @@ pub use Rattle.vast_core.specs.declared.node.ExprNode.{ExprNode}
 use Rattle.vast_core.specs.declared.node.ExprNode.TheVariants.{Name, Literal, StringText, Unary, Binary, Ternary, Index, Slice, PartSelect, Concat, Pattern, WidthCast, TypeCast, PosEdge, NegEdge, Macro, MacroCall, Call, DataType}
 use Rattle.vast_core.specs.declared.node.TypeNode.{TypeNode}
 use Rattle.vast_core.specs.declared.node.TypeNode.TheVariants.{Scalar, Vector, Integer, Int, External, Package, Packed, Unpacked}
+pub use Rattle.vast_core.specs.declared.node.Dimension.{Dimension}
+use Rattle.vast_core.specs.declared.node.Dimension.TheVariants.{Count, Size}
 
 -- What a node of the arena stands for.
 pub data Root : Type 0 where
@@ -113,6 +116,15 @@ expr_tree b (MacroCall name arguments) = MacroTree (string_bytes name) (SomeArgu
 expr_tree b (Call name arguments) = CallTree (string_bytes name) (exprs_in b arguments.items)
 expr_tree b (DataType n) = MissingExpr
 
+-- The size of a dimension: a number is its plain literal.
+abbrev pub size_in : Nodes → Dimension → ExprTree
+size_in b (Count count) = LiteralTree (signed_decimal count) (Some count)
+size_in b (Size size) = expr_in b size
+
+abbrev pub sizes_in : Nodes → List Dimension → Exprs
+sizes_in b [] = NoExprs
+sizes_in b (d ∷ ds) = MoreExprs (size_in b d) (sizes_in b ds)
+
 abbrev pub type_tree : Nodes → TypeNode → TypeTree
 type_tree b (Scalar signed) = ScalarTree signed
 type_tree b (Vector width value signed) = VectorTree (expr_in b width) value signed
@@ -120,8 +132,8 @@ type_tree b (Integer signed) = IntegerTree signed
 type_tree b (Int signed) = IntTree signed
 type_tree b (External name) = ExternalTree (string_bytes name)
 type_tree b (Package p) = PackageTree (string_bytes p.value.package_name) (string_bytes p.value.name)
-type_tree b (Packed element dimensions) = PackedTree (type_in b element) dimensions.items
-type_tree b (Unpacked element dimensions) = UnpackedTree (type_in b element) dimensions.items
+type_tree b (Packed element dimensions) = PackedTree (type_in b element) (sizes_in b dimensions.items)
+type_tree b (Unpacked element dimensions) = UnpackedTree (type_in b element) (sizes_in b dimensions.items)
 
 -- What a node stands for: a type, or an expression.
 abbrev pub term_root : Nodes → ExprNode → Root
@@ -150,6 +162,11 @@ ExprChildrenHold P Q (MacroCall name arguments) = All P arguments.items
 ExprChildrenHold P Q (Call name arguments) = All P arguments.items
 ExprChildrenHold P Q (DataType n) = ⊥
 
+-- P holds of a dimension's expression, where it has one.
+abbrev pub SizeHolds : (P : Expr → Type 0) → Dimension → Type 0
+SizeHolds P (Count count) = Unit {0}
+SizeHolds P (Size size) = P size
+
 abbrev pub TypeChildrenHold : (P : Expr → Type 0) (Q : VastDataType → Type 0) → TypeNode → Type 0
 TypeChildrenHold P Q (Scalar signed) = Unit {0}
 TypeChildrenHold P Q (Vector width value signed) = P width
@@ -157,8 +174,8 @@ TypeChildrenHold P Q (Integer signed) = Unit {0}
 TypeChildrenHold P Q (Int signed) = Unit {0}
 TypeChildrenHold P Q (External name) = Unit {0}
 TypeChildrenHold P Q (Package p) = Unit {0}
-TypeChildrenHold P Q (Packed element dimensions) = Q element
-TypeChildrenHold P Q (Unpacked element dimensions) = Q element
+TypeChildrenHold P Q (Packed element dimensions) = Q element × All (SizeHolds P) dimensions.items
+TypeChildrenHold P Q (Unpacked element dimensions) = Q element × All (SizeHolds P) dimensions.items
 
 -- The nodes after these terms, each made of older ones.
 abbrev pub built : Nodes → List ExprNode → Nodes

@@ -1,13 +1,8 @@
 -- What types and widths are, read off their trees, and what is kept of every tree.
-use Rattle.std.specs.Prelude.{◌≡◌, ℤ, ◌<◌, ◌≤ℤ◌, pos, Bool, true, false, IsTrue, List, length, Option, None, IfSome, All}
+use Rattle.std.specs.Prelude.{◌≡◌, ℤ, ◌<◌, ◌≤ℤ◌, pos, Bool, true, false, IsTrue, List, length, IfSome, All}
 use Rattle.vast_literal.specs.LiteralToken.{is_literal_text, is_string_text}
-use Rattle.vast_literal.specs.Shape.{base_of}
+use Rattle.vast_literal.specs.Shape.{literal_value, base_of}
 use Rattle.vast_literal.specs.Tree.{ExprTree, NameTree, LiteralTree, StringTree, UnaryTree, BinaryTree, TernaryTree, IndexTree, SliceTree, PartSelectTree, ConcatTree, PatternTree, WidthCastTree, TypeCastTree, PosEdgeTree, NegEdgeTree, MacroTree, CallTree, MissingExpr, TypeTree, ScalarTree, VectorTree, IntegerTree, IntTree, PackedTree, UnpackedTree, MissingType, MaybeType, Untyped, Typed, MaybeExpr, NoExpr, SomeExpr, Exprs, NoExprs, MoreExprs, MaybeExprs, NoArguments, SomeArguments}
-
--- A literal's value, where that is known.
-abbrev pub literal_value : ExprTree → Option ℤ
-literal_value (LiteralTree text value) = value
-literal_value _ = None
 
 -- Not a literal with a value below 1.
 abbrev pub IsUsableWidth : ExprTree → Type 0
@@ -30,6 +25,15 @@ is_castable _ = true
 pub record AreDimensions (dimensions : List ℤ) : Type 0 where
   pub any : 0 < length dimensions
   pub each : All (λ d. pos 1 ≤ℤ d) dimensions
+
+-- The same of the sizes that expressions are: each is a usable width.
+abbrev pub EachUsable : Exprs → Type 0
+EachUsable NoExprs = Unit {0}
+EachUsable (MoreExprs size sizes) = IsUsableWidth size × EachUsable sizes
+
+abbrev pub AreSizes : Exprs → Type 0
+AreSizes NoExprs = ⊥
+AreSizes (MoreExprs size sizes) = IsUsableWidth size × EachUsable sizes
 
 -- A vector's width.
 abbrev pub vector_width : TypeTree → MaybeExpr
@@ -62,11 +66,11 @@ ExprFits (TypeCastTree type operand) = IsTrue (is_castable type)
 ExprFits _ = Unit {0}
 
 -- What a type keeps of itself: a vector's width is usable, and its value is that of its literal; an array has
--- dimensions, and a packed one is made of what can be packed.
+-- dimensions, which are usable, and a packed one is made of what can be packed.
 abbrev pub TypeFits : TypeTree → Type 0
 TypeFits (VectorTree width value signed) = IsUsableWidth width × (value ≡ literal_value width)
-TypeFits (PackedTree element dimensions) = IsTrue (is_packable element) × AreDimensions dimensions
-TypeFits (UnpackedTree element dimensions) = AreDimensions dimensions
+TypeFits (PackedTree element dimensions) = IsTrue (is_packable element) × AreSizes dimensions
+TypeFits (UnpackedTree element dimensions) = AreSizes dimensions
 TypeFits _ = Unit {0}
 
 -- Each expression and each type in the tree is there and fits.
@@ -91,11 +95,11 @@ abbrev mutual
   ExprWellFormed (CallTree name arguments) = ExprsWellFormed arguments
   ExprWellFormed MissingExpr = ⊥
 
-  -- The same of a type: its width is usable, its dimensions are such, what is packed may be.
+  -- The same of a type: its width and its dimensions are usable, what is packed may be.
   pub TypeWellFormed : TypeTree → Type 0
   TypeWellFormed (VectorTree width value signed) = (IsUsableWidth width × (value ≡ literal_value width)) × ExprWellFormed width
-  TypeWellFormed (PackedTree element dimensions) = (IsTrue (is_packable element) × AreDimensions dimensions) × TypeWellFormed element
-  TypeWellFormed (UnpackedTree element dimensions) = AreDimensions dimensions × TypeWellFormed element
+  TypeWellFormed (PackedTree element dimensions) = (IsTrue (is_packable element) × AreSizes dimensions) × TypeWellFormed element × ExprsWellFormed dimensions
+  TypeWellFormed (UnpackedTree element dimensions) = AreSizes dimensions × TypeWellFormed element × ExprsWellFormed dimensions
   TypeWellFormed MissingType = ⊥
   TypeWellFormed _ = Unit {0}
 

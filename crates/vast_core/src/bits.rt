@@ -11,6 +11,8 @@ pub enum BitCountFault {
     Symbolic(Expr),
     /// The type within the arrays is this one, which is declared elsewhere.
     External(VastDataType),
+    /// A dimension of the arrays is this size, which is no literal with a value.
+    Dimension(Expr),
 }
 
 /// Why a type has no width.

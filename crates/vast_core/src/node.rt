@@ -68,9 +68,18 @@ pub enum TypeNode {
     /// A type that is declared in a package.
     Package(Box<PackageName>),
     /// A packed array: its elements' type, and its dimensions from the outermost.
-    Packed(VastDataType, Vec<i64>),
+    Packed(VastDataType, Vec<Dimension>),
     /// An unpacked array: its elements' type, and its dimensions from the outermost.
-    Unpacked(VastDataType, Vec<i64>),
+    Unpacked(VastDataType, Vec<Dimension>),
+}
+
+/// A dimension of an array.
+#[derive(Clone, Copy)]
+pub enum Dimension {
+    /// This many elements.
+    Count(i64),
+    /// As many elements as the expression says.
+    Size(Expr),
 }
 
 /// A package, and the name of a type of it.

@@ -2,7 +2,7 @@
 
 ghost use Rattle.std.specs.Prelude.{◌≡◌, Some};
 ghost use Rattle.vast_core.specs.Nodes.{Nodes, expr_tree, term_root, is_root_of, is_name, is_index, is_slice, is_macro};
-ghost use Rattle.vast_core.specs.Types.{literal_value};
+ghost use Rattle.vast_literal.specs.Shape.{literal_value};
 
 use crate::node::ExprNode;
 

@@ -1,6 +1,6 @@
 //! Calls that make a type.
 
-use crate::expressions::{MOST_BITS, operand};
+use crate::expressions::{MOST_BITS, operand, operands};
 use crate::facts::{Fact, Known};
 use crate::forms::{Base, TypeForm};
 use crate::rule::Rule;
@@ -38,6 +38,14 @@ pub(crate) fn data_type(
             Ok(array(known, *element, dimensions.len(), 0))
         }
         TypeStep::MakeUnpackedArrayType(element, dimensions) => {
+            Ok(array(known, *element, 0, dimensions.len()))
+        }
+        TypeStep::MakePackedArrayTypeExpr(element, dimensions) => {
+            operands(known, dimensions, told)?;
+            Ok(array(known, *element, dimensions.len(), 0))
+        }
+        TypeStep::MakeUnpackedArrayTypeExpr(element, dimensions) => {
+            operands(known, dimensions, told)?;
             Ok(array(known, *element, 0, dimensions.len()))
         }
     }

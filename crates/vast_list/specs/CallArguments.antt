@@ -13,7 +13,7 @@ use Rattle.vast_script.specs.Operators.{Operation, Before, Between, operation}
 use Rattle.vast_script.specs.declared.step.ExpressionStep.{ExpressionStep}
 use Rattle.vast_script.specs.declared.step.ExpressionStep.TheVariants.{MakeLiteral, MakeBinaryPattern, MakeUnsizedDecimalLiteral, MakeStringLiteral, MakeUnsizedOneLiteral, MakeUnsizedZeroLiteral, MakeUnsizedXLiteral, MakeName, MakeIndexableExpression, MakeSlice, MakeIndex, MakeSliceExpr, MakeIndexExpr, MakeIndexedPartSelect, MakeFunctionCall, MakeConcat, MakeReplicatedConcat, MakeReplicatedConcatI64, MakeArrayAssignmentPattern, MakeTernary, MakeWidthCast, MakeTypeCast, MakePosEdge, MakeNegEdge, MakeMacroRef, MakeMacroRefWithArgs}
 use Rattle.vast_script.specs.declared.step.TypeStep.{TypeStep}
-use Rattle.vast_script.specs.declared.step.TypeStep.TheVariants.{MakeScalarType, MakeIntegerType, MakeIntType, MakeExternType, MakeExternPackageType, MakeBitVectorType, MakeBitVectorTypeExpr, MakePackedArrayType, MakeUnpackedArrayType}
+use Rattle.vast_script.specs.declared.step.TypeStep.TheVariants.{MakeScalarType, MakeIntegerType, MakeIntType, MakeExternType, MakeExternPackageType, MakeBitVectorType, MakeBitVectorTypeExpr, MakePackedArrayType, MakeUnpackedArrayType, MakePackedArrayTypeExpr, MakeUnpackedArrayTypeExpr}
 use Rattle.vast_script.specs.declared.step.ModuleStep.{ModuleStep}
 use Rattle.vast_script.specs.declared.step.ModuleStep.TheVariants.{AddInclude, AddBlankLine, AddCommentText, AddModule, AddInput, AddOutput, AddInout, AddLogicInput, AddLogicOutput, AddWire, AddReg, AddLogic, AddParameterPort, AddTypedParameterPort, AddParameter, AddParameterWithDef, AddLocalparam, AddIntLocalparam, AddTypedLocalparam, HoistModuleDeclarations}
 use Rattle.vast_script.specs.declared.step.LoopStep.{LoopStep}
@@ -140,6 +140,8 @@ type_pieces (MakeBitVectorType a b) = number a ++ truth b
 type_pieces (MakeBitVectorTypeExpr a b) = place a ++ truth b
 type_pieces (MakePackedArrayType a b) = place a ++ listed number b.items
 type_pieces (MakeUnpackedArrayType a b) = place a ++ listed number b.items
+type_pieces (MakePackedArrayTypeExpr a b) = place a ++ listed place b.items
+type_pieces (MakeUnpackedArrayTypeExpr a b) = place a ++ listed place b.items
 
 abbrev pub module_pieces : ModuleStep → List Piece
 module_pieces (AddInclude a) = text a

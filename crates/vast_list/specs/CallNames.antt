@@ -7,7 +7,7 @@ use Rattle.vast_script.specs.declared.step.OperatorStep.TheVariants.{MakeNot, Ma
 use Rattle.vast_script.specs.declared.step.ExpressionStep.{ExpressionStep}
 use Rattle.vast_script.specs.declared.step.ExpressionStep.TheVariants.{MakeLiteral, MakeBinaryPattern, MakeUnsizedDecimalLiteral, MakeStringLiteral, MakeUnsizedOneLiteral, MakeUnsizedZeroLiteral, MakeUnsizedXLiteral, MakeName, MakeIndexableExpression, MakeSlice, MakeIndex, MakeSliceExpr, MakeIndexExpr, MakeIndexedPartSelect, MakeFunctionCall, MakeConcat, MakeReplicatedConcat, MakeReplicatedConcatI64, MakeArrayAssignmentPattern, MakeTernary, MakeWidthCast, MakeTypeCast, MakePosEdge, MakeNegEdge, MakeMacroRef, MakeMacroRefWithArgs}
 use Rattle.vast_script.specs.declared.step.TypeStep.{TypeStep}
-use Rattle.vast_script.specs.declared.step.TypeStep.TheVariants.{MakeScalarType, MakeIntegerType, MakeIntType, MakeExternType, MakeExternPackageType, MakeBitVectorType, MakeBitVectorTypeExpr, MakePackedArrayType, MakeUnpackedArrayType}
+use Rattle.vast_script.specs.declared.step.TypeStep.TheVariants.{MakeScalarType, MakeIntegerType, MakeIntType, MakeExternType, MakeExternPackageType, MakeBitVectorType, MakeBitVectorTypeExpr, MakePackedArrayType, MakeUnpackedArrayType, MakePackedArrayTypeExpr, MakeUnpackedArrayTypeExpr}
 use Rattle.vast_script.specs.declared.step.ModuleStep.{ModuleStep}
 use Rattle.vast_script.specs.declared.step.ModuleStep.TheVariants.{AddInclude, AddBlankLine, AddCommentText, AddModule, AddInput, AddOutput, AddInout, AddLogicInput, AddLogicOutput, AddWire, AddReg, AddLogic, AddParameterPort, AddTypedParameterPort, AddParameter, AddParameterWithDef, AddLocalparam, AddIntLocalparam, AddTypedLocalparam, HoistModuleDeclarations}
 use Rattle.vast_script.specs.declared.step.LoopStep.{LoopStep}
@@ -92,6 +92,8 @@ type_name (MakeBitVectorType a b) = codes "MakeBitVectorType"
 type_name (MakeBitVectorTypeExpr a b) = codes "MakeBitVectorTypeExpr"
 type_name (MakePackedArrayType a b) = codes "MakePackedArrayType"
 type_name (MakeUnpackedArrayType a b) = codes "MakeUnpackedArrayType"
+type_name (MakePackedArrayTypeExpr a b) = codes "MakePackedArrayTypeExpr"
+type_name (MakeUnpackedArrayTypeExpr a b) = codes "MakeUnpackedArrayTypeExpr"
 
 abbrev pub module_name : ModuleStep → List ℕ
 module_name (AddInclude a) = codes "AddInclude"

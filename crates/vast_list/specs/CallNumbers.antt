@@ -1,5 +1,5 @@
 -- The names of calls by their groups, signs included, in the order of `src/table`, and the numbers of calls in packed lists.
-use Rattle.std.specs.Prelude.{◌≡◌, ℕ, List, [], ◌∷◌, ◌++◌, Some, slice_get, codes}
+use Rattle.std.specs.Prelude.{◌≡◌, ℕ, ◌%◌, ◌/◌, List, [], ◌∷◌, Option, Some, slice_get, get_or, codes}
 
 abbrev pub operator_names : List (List ℕ)
 operator_names =
@@ -21,7 +21,8 @@ expression_names =
 abbrev pub type_names : List (List ℕ)
 type_names =
     codes "MakeScalarType" ∷ codes "MakeIntegerType" ∷ codes "MakeIntType" ∷ codes "MakeExternType" ∷ codes "MakeExternPackageType" ∷
-    codes "MakeBitVectorType" ∷ codes "MakeBitVectorTypeExpr" ∷ codes "MakePackedArrayType" ∷ codes "MakeUnpackedArrayType" ∷ []
+    codes "MakeBitVectorType" ∷ codes "MakeBitVectorTypeExpr" ∷ codes "MakePackedArrayType" ∷ codes "MakeUnpackedArrayType" ∷
+    codes "MakePackedArrayTypeExpr" ∷ codes "MakeUnpackedArrayTypeExpr" ∷ []
 
 abbrev pub module_names : List (List ℕ)
 module_names =
@@ -65,11 +66,15 @@ helper_names =
     codes "!AddRegisters" ∷ codes "!BitwiseOrReduce" ∷ codes "!BitwiseOrReduceArrayElements" ∷ codes "!LogicalAndReduce" ∷ codes "!LogicalOrReduce" ∷
     []
 
--- The names of all calls in the order of their numbers: group after group.
-abbrev pub call_names : List (List ℕ)
-call_names =
-    operator_names ++ (expression_names ++ (type_names ++ (module_names ++ (loop_names ++ (statement_names ++ (artifact_names ++ (question_names ++ helper_names)))))))
+-- The groups in order.
+abbrev pub group_names : List (List (List ℕ))
+group_names =
+    operator_names ∷ expression_names ∷ type_names ∷ module_names ∷ loop_names ∷ statement_names ∷ artifact_names ∷ question_names ∷ helper_names ∷ []
 
--- The call of this number, from 0, has this name.
+-- A call's number is 16 times its place in its group, and the place of the group, both from 0.
+abbrev pub name_numbered : ℕ → Option (List ℕ)
+name_numbered number = slice_get (get_or group_names (number % 16) []) (number / 16)
+
+-- The call of this number has this name.
 abbrev pub IsNumberOf : ℕ → (name : List ℕ) → Type 0
-IsNumberOf number name = slice_get call_names number ≡ Some name
+IsNumberOf number name = name_numbered number ≡ Some name

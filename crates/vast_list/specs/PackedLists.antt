@@ -41,10 +41,10 @@ packed_sign = 0 ∷ codes "vast"
 abbrev pub is_packed_list : (input : List ℕ) → Bool
 is_packed_list input = starts_with (λ b c. b == c) input packed_sign
 
--- After the sign the version, which is 1, and the dialect.
+-- After the sign the version, which is 2, and the dialect.
 abbrev pub packed_front : VastFileType → List ℕ
-packed_front Verilog = packed_sign ++ 1 ∷ 0 ∷ []
-packed_front SystemVerilog = packed_sign ++ 1 ∷ 1 ∷ []
+packed_front Verilog = packed_sign ++ 2 ∷ 0 ∷ []
+packed_front SystemVerilog = packed_sign ++ 2 ∷ 1 ∷ []
 
 -- The text is the printed layout of the tree that the list's calls build, from a file of its dialect on.
 abbrev pub IsPackedText : (input text : List ℕ) → Type 0

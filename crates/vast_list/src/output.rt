@@ -1,6 +1,6 @@
 //! What is printed of a list.
 
-ghost use Rattle.std.specs.Prelude.{◌≡◌, ◌≤◌, ◌++◌, IfOk, IfSome, IsTrue, None, OnOk, false, is_some, length, take, string_bytes, All};
+ghost use Rattle.std.specs.Prelude.{◌≡◌, ◌≤◌, ◌++◌, IfOk, IfSome, IsTrue, None, OnOk, Some, false, is_some, length, take, string_bytes, All};
 ghost use Rattle.vast_core.specs.FileTree.{tree};
 ghost use Rattle.vast_list.specs.Lines.{BeginsWithDialect, Passed, line_kind, line_texts};
 ghost use Rattle.vast_list.specs.Output.{header_line, is_again, is_made, IsOutput, IsPrinted};
@@ -53,7 +53,6 @@ pub const MOST_FAULTS: usize = 20;
 ///
 /// With `Tries::Again` what was refused memory is made once more, and a refused call must have left the file as it was:
 /// where one request is refused, the output is that of a run without.
-#[tactic(auto, using(crate::proofs::Outputs::outputs))]
 pub fn list_output(
     alloc: Global,
     tries: Tries,
@@ -64,10 +63,26 @@ pub fn list_output(
         made.verdict output.items)) }
     ensures printed { IfOk result IsPrinted }
 {
+    titled_output(alloc, tries, list.title, list)
+}
+
+/// The same under this title in place of the list's own, or under none.
+#[tactic(auto, using(crate::proofs::Outputs::outputs))]
+pub(crate) fn titled_output(
+    alloc: Global,
+    tries: Tries,
+    title: Option<&[u8]>,
+    list: &ListLines<'_>,
+) -> Result<ListOutput, AllocError>
+    ensures text { IfOk result (λ made. IfSome made.output
+        (λ output. IsOutput tries title.entry (line_texts list.now.lines.items)
+        made.verdict output.items)) }
+    ensures printed { IfOk result IsPrinted }
+{
     match dialect_again(alloc, tries, list) {
         Ok((dialect, lines)) => {
-            let answering = answered(alloc, tries, list.title, dialect, lines)?;
-            finished(alloc, tries, list.title, answering)
+            let answering = answered(alloc, tries, title, dialect, lines)?;
+            finished(alloc, tries, title, answering)
         }
         Err(Fault::Memory) => Err(AllocError),
         Err(Fault::Line(fault)) => at_fault(alloc, tries, fault),
@@ -172,7 +187,9 @@ pub(crate) fn at_fault(
 }
 
 /// A list in packed form.
-pub(crate) fn packed_bytes(alloc: Global, bytes: Vec<u8>) -> ListOutput {
+pub(crate) fn packed_bytes(alloc: Global, bytes: Vec<u8>) -> ListOutput
+    ensures { result.output ≡ Some bytes }
+{
     output_of(Some(bytes), ListReport::new(alloc))
 }
 

@@ -28,8 +28,8 @@ pub(crate) fn packed_front(dialect: VastFileType) -> [u8; 7]
     ensures { result ≡ packed_front dialect }
 {
     match dialect {
-        VastFileType::Verilog => *b"\0vast\x01\x00",
-        VastFileType::SystemVerilog => *b"\0vast\x01\x01",
+        VastFileType::Verilog => *b"\0vast\x02\x00",
+        VastFileType::SystemVerilog => *b"\0vast\x02\x01",
     }
 }
 

@@ -13,6 +13,7 @@ pub(crate) enum Problem {
     NoCall,
     NoLength,
     NoVersion,
+    OtherFile,
     NotAName,
     NameTaken,
     NameUnknown,
@@ -51,7 +52,8 @@ impl Problem {
             Problem::UnknownCall => "unknown call",
             Problem::NoCall => "the number of a call expected",
             Problem::NoLength => "a call expected, after how many bytes it has",
-            Problem::NoVersion => "a packed list expected, of version 1 and of a dialect",
+            Problem::NoVersion => "a packed list expected, of version 2 and of a dialect",
+            Problem::OtherFile => "the packed list would build another file",
             Problem::NotAName =>
                 "a name expected before `=`: letters, digits and `_`, no digit first",
             Problem::NameTaken => "an earlier line has the name",

@@ -18,6 +18,8 @@ pub(crate) mod statements;
 pub(crate) mod text;
 pub(crate) mod types;
 
+use crate::packed::Choice;
+
 /// A call as lists name it: a row of the table, with its name, its parameters in order, and what it returns.
 #[derive(Clone, Copy)]
 pub(crate) struct CallRow(&'static str, &'static [Parameter], Kind);
@@ -166,6 +168,16 @@ pub(crate) enum Words {
     Format,
     /// Those of `DataKind`.
     DataKind,
+}
+
+impl Words {
+    /// These, among all words that may stand in one place.
+    pub(crate) fn choice(self) -> Choice {
+        match self {
+            Words::Format => Choice::Format,
+            Words::DataKind => Choice::Kind,
+        }
+    }
 }
 
 /// Calls of one group.

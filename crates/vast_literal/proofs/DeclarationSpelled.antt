@@ -1,16 +1,17 @@
 -- The tokens of a declaration's text spell its normal form.
-use Rattle.std.proofs.Common.{◌≡◌, ℕ, ℤ, pos, ◌-ℤ◌, List, [], ◌∷◌, ◌++◌, map, Bool, true, false, ◌&&◌, codes, Option, Some, None, refl, subst, append_assoc, append-nil, arith}
+use Rattle.std.proofs.Common.{◌≡◌, ℕ, ℤ, pos, ◌-ℤ◌, List, [], ◌∷◌, ◌++◌, Bool, true, false, ◌&&◌, codes, Option, Some, None, refl, subst, append_assoc, append-nil, arith}
+use Rattle.std.proofs.lemmas.Bool.{and_from}
 use Rattle.std.specs.Fmt.{signed_decimal}
 use Rattle.vast_literal.specs.Tokens.{Minus, level, WireKey, RegKey, LogicKey, IntegerKey, IntKey, GenvarKey, SignedKey, UnsignedKey, Token}
-use Rattle.vast_literal.specs.Tree.{Dialect, VerilogDialect, SystemVerilogDialect, ExprTree, NameTree, IndexTree, SliceTree, PartSelectTree, ConcatTree, TypeTree, ScalarTree, VectorTree, IntegerTree, IntTree, ExternalTree, PackageTree, PackedTree, UnpackedTree, Kind, RegKind, WireKind, LogicKind, IntegerKind, IntKind, UserKind, UntypedEnumKind, GenvarKind, Declaration}
+use Rattle.vast_literal.specs.Tree.{Dialect, VerilogDialect, SystemVerilogDialect, ExprTree, Exprs, NoExprs, MoreExprs, NameTree, IndexTree, SliceTree, PartSelectTree, ConcatTree, TypeTree, ScalarTree, VectorTree, IntegerTree, IntTree, ExternalTree, PackageTree, PackedTree, UnpackedTree, Kind, RegKind, WireKind, LogicKind, IntegerKind, IntKind, UserKind, UntypedEnumKind, GenvarKind, Declaration}
 use Rattle.vast_literal.specs.NormalExpr.{scalar_sign, integer_sign, normal}
 use Rattle.vast_literal.specs.Grammar.{Spells, binary, number}
 use Rattle.vast_literal.specs.FileGrammar.{IsMany, no_items, more_items, is_kind, is_sign, IsGroup, one, range, IsMaybe, absent, present, IsTypeName, no_type, own_type, packaged, IsDeclaration, declares}
-use Rattle.vast_literal.specs.Plain.{is_plain_name, is_plain, is_plain_type}
-use Rattle.vast_literal.specs.Shape.{starts_with_minus, highest_index_wraps, base_of, packed_dimensions, unpacked_dimensions, port_kind}
+use Rattle.vast_literal.specs.Plain.{is_plain_name, is_plain, is_plain_type, are_plain}
+use Rattle.vast_literal.specs.Shape.{starts_with_minus, literal_value, highest_index_wraps, joined, base_of, packed_dimensions, unpacked_dimensions, port_kind}
 use Rattle.vast_literal.proofs.ExprTokens.{expr_tokens}
-use Rattle.vast_literal.specs.WellFormed.{is_well_formed, is_well_formed_type}
-use Rattle.vast_literal.specs.NormalTree.{kind_key, package_of, type_name_of, sign_of, number_expr, zero_expr, highest_index_expr, vector_groups, packed_groups, unpacked_group, normal_declaration, normal_declared, normal_port_declaration}
+use Rattle.vast_literal.specs.WellFormed.{is_well_formed, is_well_formed_type, are_well_formed}
+use Rattle.vast_literal.specs.NormalTree.{kind_key, package_of, type_name_of, sign_of, number_expr, zero_expr, highest_index_expr, vector_groups, packed_groups, unpacked_group, unpacked_groups, normal_declaration, normal_declared, normal_port_declaration}
 use Rattle.vast_literal.proofs.FileTokens.{maybe_tokens, type_name_tokens, number_tokens, zero_tokens, highest_index_tokens, vector_tokens, packed_tokens, unpacked_dimension_tokens, unpacked_tokens, declaration_tokens, declared_tokens, port_declaration_tokens}
 use Rattle.vast_literal.specs.PlainFile.{is_left_side, is_plain_declaration, is_plain_declared}
 use Rattle.vast_literal.proofs.ScanLaws.{and_left, and_right}
@@ -62,32 +63,63 @@ unfolding vector_tokens vector_groups
 vector_spelled (VectorTree w v signed) l f = many_one (range (highest_index_spelled w v l f) zero_spelled)
 vector_spelled _ l f = no_items
 
-packed_spelled : (ds : List ℤ) → IsMany IsGroup (packed_tokens ds) (packed_groups ds)
+top_spelled : (d : ExprTree) → is_plain d ≡ true → is_well_formed d ≡ true → Spells 0 (highest_index_tokens d (literal_value d)) (highest_index_expr d (literal_value d))
+top_spelled d p w = highest_index_spelled d (literal_value d) p w
+
+packed_spelled : (ds : Exprs) → are_plain ds ≡ true → are_well_formed ds ≡ true → IsMany IsGroup (packed_tokens ds) (packed_groups ds)
 unfolding packed_tokens packed_groups
-packed_spelled [] = no_items
-packed_spelled (d ∷ ds) = more_items (range (number_spelled (d -ℤ pos 1)) zero_spelled) (packed_spelled ds)
+packed_spelled NoExprs p w = no_items
+packed_spelled (MoreExprs d ds) p w = more_items (range (top_spelled d (and_left _ _ p) (and_left _ _ w)) zero_spelled) (packed_spelled ds (and_right (is_plain d) _ p) (and_right (is_well_formed d) _ w))
 
-dimension_spelled : (dialect : Dialect) (d : ℤ) → IsGroup (unpacked_dimension_tokens dialect d) (unpacked_group dialect d)
+dimension_spelled : (dialect : Dialect) (d : ExprTree) → is_plain d ≡ true → is_well_formed d ≡ true → IsGroup (unpacked_dimension_tokens dialect d) (unpacked_group dialect d)
 unfolding unpacked_dimension_tokens unpacked_group
-dimension_spelled SystemVerilogDialect d = one (number_spelled d)
-dimension_spelled VerilogDialect d = range zero_spelled (number_spelled (d -ℤ pos 1))
+dimension_spelled SystemVerilogDialect d p w = one (value_spelled d p w)
+dimension_spelled VerilogDialect d p w = range zero_spelled (top_spelled d p w)
 
-unpacked_spelled : (dialect : Dialect) (ds : List ℤ) → IsMany IsGroup (unpacked_tokens dialect ds) (map (unpacked_group dialect) ds)
-unfolding unpacked_tokens
-unpacked_spelled dialect [] = no_items
-unpacked_spelled dialect (d ∷ ds) = more_items (dimension_spelled dialect d) (unpacked_spelled dialect ds)
+unpacked_spelled : (dialect : Dialect) (ds : Exprs) → are_plain ds ≡ true → are_well_formed ds ≡ true → IsMany IsGroup (unpacked_tokens dialect ds) (unpacked_groups dialect ds)
+unfolding unpacked_tokens unpacked_groups
+unpacked_spelled dialect NoExprs p w = no_items
+unpacked_spelled dialect (MoreExprs d ds) p w = more_items (dimension_spelled dialect d (and_left _ _ p) (and_left _ _ w)) (unpacked_spelled dialect ds (and_right (is_plain d) _ p) (and_right (is_well_formed d) _ w))
 
 -- declarations
 
 pub base_plain : (t : TypeTree) → is_plain_type t ≡ true → is_plain_type (base_of t) ≡ true
-base_plain (PackedTree t ds) h = base_plain t h
-base_plain (UnpackedTree t ds) h = base_plain t h
+base_plain (PackedTree t ds) h = base_plain t (and_left (is_plain_type t) (are_plain ds) h)
+base_plain (UnpackedTree t ds) h = base_plain t (and_left (is_plain_type t) (are_plain ds) h)
 base_plain _ h = h
 
 pub base_formed : (t : TypeTree) → is_well_formed_type t ≡ true → is_well_formed_type (base_of t) ≡ true
-base_formed (PackedTree t ds) h = base_formed t h
-base_formed (UnpackedTree t ds) h = base_formed t h
+base_formed (PackedTree t ds) h = base_formed t (and_left (is_well_formed_type t) (are_well_formed ds) h)
+base_formed (UnpackedTree t ds) h = base_formed t (and_left (is_well_formed_type t) (are_well_formed ds) h)
 base_formed _ h = h
+
+joined_plain : (ds es : Exprs) → are_plain ds ≡ true → are_plain es ≡ true → are_plain (joined ds es) ≡ true
+joined_plain NoExprs es p q = q
+joined_plain (MoreExprs d ds) es p q = and_from _ _ (and_left (is_plain d) (are_plain ds) p) (joined_plain ds es (and_right (is_plain d) (are_plain ds) p) q)
+
+joined_formed : (ds es : Exprs) → are_well_formed ds ≡ true → are_well_formed es ≡ true → are_well_formed (joined ds es) ≡ true
+joined_formed NoExprs es p q = q
+joined_formed (MoreExprs d ds) es p q = and_from _ _ (and_left (is_well_formed d) (are_well_formed ds) p) (joined_formed ds es (and_right (is_well_formed d) (are_well_formed ds) p) q)
+
+pub packed_plain : (t : TypeTree) → is_plain_type t ≡ true → are_plain (packed_dimensions t) ≡ true
+packed_plain (PackedTree t ds) h = joined_plain ds (packed_dimensions t) (and_right (is_plain_type t) (are_plain ds) h) (packed_plain t (and_left (is_plain_type t) (are_plain ds) h))
+packed_plain (UnpackedTree t ds) h = packed_plain t (and_left (is_plain_type t) (are_plain ds) h)
+packed_plain _ h = refl
+
+pub packed_formed : (t : TypeTree) → is_well_formed_type t ≡ true → are_well_formed (packed_dimensions t) ≡ true
+packed_formed (PackedTree t ds) h = joined_formed ds (packed_dimensions t) (and_right (is_well_formed_type t) (are_well_formed ds) h) (packed_formed t (and_left (is_well_formed_type t) (are_well_formed ds) h))
+packed_formed (UnpackedTree t ds) h = packed_formed t (and_left (is_well_formed_type t) (are_well_formed ds) h)
+packed_formed _ h = refl
+
+pub unpacked_plain : (t : TypeTree) → is_plain_type t ≡ true → are_plain (unpacked_dimensions t) ≡ true
+unpacked_plain (UnpackedTree t ds) h = joined_plain ds (unpacked_dimensions t) (and_right (is_plain_type t) (are_plain ds) h) (unpacked_plain t (and_left (is_plain_type t) (are_plain ds) h))
+unpacked_plain (PackedTree t ds) h = unpacked_plain t (and_left (is_plain_type t) (are_plain ds) h)
+unpacked_plain _ h = refl
+
+pub unpacked_formed : (t : TypeTree) → is_well_formed_type t ≡ true → are_well_formed (unpacked_dimensions t) ≡ true
+unpacked_formed (UnpackedTree t ds) h = joined_formed ds (unpacked_dimensions t) (and_right (is_well_formed_type t) (are_well_formed ds) h) (unpacked_formed t (and_left (is_well_formed_type t) (are_well_formed ds) h))
+unpacked_formed (PackedTree t ds) h = unpacked_formed t (and_left (is_well_formed_type t) (are_well_formed ds) h)
+unpacked_formed _ h = refl
 
 kind_spelled : (kind : Kind) → IsMaybe is_kind (maybe_tokens (kind_key kind)) (kind_key kind)
 unfolding kind_key is_kind
@@ -127,7 +159,7 @@ sign_spelled _ = absent
 -- The tokens of a declaration spell its written parts.
 pub declaration_spelled : (dialect : Dialect) (kind : Kind) (t : TypeTree) (n : List ℕ) → is_plain_type t ≡ true → is_well_formed_type t ≡ true → IsDeclaration (declaration_tokens dialect kind t n) (normal_declaration dialect kind t n)
 unfolding declaration_tokens normal_declaration
-declaration_spelled dialect kind t n l f = declares n (kind_spelled kind) (type_spelled (base_of t)) (sign_spelled (base_of t)) (many_append (packed_spelled (packed_dimensions t)) (vector_spelled (base_of t) (base_plain t l) (base_formed t f))) (unpacked_spelled dialect (unpacked_dimensions t))
+declaration_spelled dialect kind t n l f = declares n (kind_spelled kind) (type_spelled (base_of t)) (sign_spelled (base_of t)) (many_append (packed_spelled (packed_dimensions t) (packed_plain t l) (packed_formed t f)) (vector_spelled (base_of t) (base_plain t l) (base_formed t f))) (unpacked_spelled dialect (unpacked_dimensions t) (unpacked_plain t l) (unpacked_formed t f))
 
 declared_type : (t : TypeTree) (n : List ℕ) → is_plain_declaration t n ≡ true → is_plain_type t ≡ true
 declared_type t n p = and_right (is_plain_name n) (is_plain_type t) p

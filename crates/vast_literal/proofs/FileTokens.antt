@@ -10,7 +10,7 @@ use Rattle.vast_literal.specs.Tree.{AlwaysWord, AlwaysFFWord, AlwaysAtWord, Alwa
 use Rattle.vast_literal.specs.Tree.{MemberTree, DeclarationMember, AssignMember, ParameterMember, CommentMember, BlankMember, InlineMember, MacroMember, InstanceMember, AlwaysMember, ConditionalMember, FunctionMember, LoopMember, Members, NoMembers, MoreMembers}
 use Rattle.vast_literal.specs.Tree.{PortTree, ParameterPortTree, ModuleTree, FileItemTree, ModuleItem, IncludeItem, CommentItem, BlankItem, FileTree}
 use Rattle.vast_literal.proofs.LiteralToken.{literal_tokens}
-use Rattle.vast_literal.specs.Shape.{right_child_wraps, highest_index_wraps, base_of, packed_dimensions, unpacked_dimensions, port_kind, base_kind, result_kind, is_bare_arm, is_one_casez}
+use Rattle.vast_literal.specs.Shape.{right_child_wraps, highest_index_wraps, literal_value, base_of, packed_dimensions, unpacked_dimensions, port_kind, base_kind, result_kind, is_bare_arm, is_one_casez}
 use Rattle.vast_literal.proofs.ExprTokens.{wrapped_tokens, expr_tokens}
 use Rattle.vast_literal.specs.NormalTree.{kind_key, sign_of, case_key, parameter_key, direction_key}
 
@@ -47,17 +47,17 @@ unfoldable pub vector_tokens : (base : TypeTree) → List Token
 vector_tokens (VectorTree width value signed) = range_tokens (highest_index_tokens width value) zero_tokens
 vector_tokens _ = []
 
-unfoldable pub packed_tokens : List ℤ → List Token
-packed_tokens [] = []
-packed_tokens (d ∷ ds) = range_tokens (number_tokens (d -ℤ pos 1)) zero_tokens ++ packed_tokens ds
+unfoldable pub packed_tokens : Exprs → List Token
+packed_tokens NoExprs = []
+packed_tokens (MoreExprs d ds) = range_tokens (highest_index_tokens d (literal_value d)) zero_tokens ++ packed_tokens ds
 
-unfoldable pub unpacked_dimension_tokens : Dialect → ℤ → List Token
-unpacked_dimension_tokens SystemVerilogDialect d = one_tokens (number_tokens d)
-unpacked_dimension_tokens VerilogDialect d = range_tokens zero_tokens (number_tokens (d -ℤ pos 1))
+unfoldable pub unpacked_dimension_tokens : Dialect → ExprTree → List Token
+unpacked_dimension_tokens SystemVerilogDialect d = one_tokens (expr_tokens d)
+unpacked_dimension_tokens VerilogDialect d = range_tokens zero_tokens (highest_index_tokens d (literal_value d))
 
-unfoldable pub unpacked_tokens : Dialect → List ℤ → List Token
-unpacked_tokens dialect [] = []
-unpacked_tokens dialect (d ∷ ds) = unpacked_dimension_tokens dialect d ++ unpacked_tokens dialect ds
+unfoldable pub unpacked_tokens : Dialect → Exprs → List Token
+unpacked_tokens dialect NoExprs = []
+unpacked_tokens dialect (MoreExprs d ds) = unpacked_dimension_tokens dialect d ++ unpacked_tokens dialect ds
 
 unfoldable pub declaration_tokens : Dialect → Kind → TypeTree → (name : List ℕ) → List Token
 declaration_tokens dialect kind type name =

@@ -10,7 +10,7 @@ use Rattle.vast_literal.specs.Tree.{AssignForm, Blocking, Nonblocking, Continuou
 use Rattle.vast_literal.specs.Tree.{AlwaysWord, AlwaysFFWord, AlwaysAtWord, AlwaysCombWord, ParameterName, PlainParameter, IntParameter, DefinedParameter, Connection, FunctionTree}
 use Rattle.vast_literal.specs.Tree.{MemberTree, DeclarationMember, AssignMember, ParameterMember, MacroMember, InstanceMember, AlwaysMember, ConditionalMember, FunctionMember, LoopMember, Members, NoMembers, MoreMembers}
 use Rattle.vast_literal.specs.Tree.{PortDirection, InputDirection, OutputDirection, InOutDirection, PortTree, ParameterPortTree, ModuleTree, FileItemTree, ModuleItem, IncludeItem, FileTree}
-use Rattle.vast_literal.specs.Shape.{base_of, packed_dimensions, unpacked_dimensions, port_kind, base_kind, result_kind}
+use Rattle.vast_literal.specs.Shape.{literal_value, base_of, packed_dimensions, unpacked_dimensions, port_kind, base_kind, result_kind}
 use Rattle.vast_literal.specs.NormalExpr.{NormalExpr, Literal, Binary, NormalExprs, normal_literal, scalar_sign, integer_sign, normal, normals}
 use Rattle.vast_literal.specs.NormalFile.{NormalStatement, BlockingStatement, NonblockingStatement, AssignStatement, ChoiceStatement, CaseStatement, NormalStatements, Done, Then, Arms, Only, Otherwise, Or, Labels, NoLabels, Label, Group, One, Range, NormalDeclaration, Event, EdgeEvent, NameEvent, NormalConnection, NormalMember, DeclarationPart, AssignPart, ParameterPart, MacroPart, InstancePart, AlwaysPart, ConditionalPart, FunctionPart, LoopPart, NormalMembers, NoParts, MoreParts, NormalParameter, NormalPort, NormalModule, NormalItem, ModulePart, IncludePart, NormalFile}
 
@@ -60,13 +60,18 @@ vector_groups (VectorTree width value signed) = Range (highest_index_expr width 
 vector_groups _ = []
 
 -- [d-1:0] for each dimension
-unfoldable pub packed_groups : List ℤ → List Group
-packed_groups dimensions = map (λ d. Range (number_expr (d -ℤ pos 1)) zero_expr) dimensions
+unfoldable pub packed_groups : Exprs → List Group
+packed_groups NoExprs = []
+packed_groups (MoreExprs d ds) = Range (highest_index_expr d (literal_value d)) zero_expr ∷ packed_groups ds
 
 -- [d] in SystemVerilog, [0:d-1] in Verilog
-unfoldable pub unpacked_group : Dialect → ℤ → Group
-unpacked_group SystemVerilogDialect d = One (number_expr d)
-unpacked_group VerilogDialect d = Range zero_expr (number_expr (d -ℤ pos 1))
+unfoldable pub unpacked_group : Dialect → ExprTree → Group
+unpacked_group SystemVerilogDialect d = One (normal d)
+unpacked_group VerilogDialect d = Range zero_expr (highest_index_expr d (literal_value d))
+
+unfoldable pub unpacked_groups : Dialect → Exprs → List Group
+unpacked_groups dialect NoExprs = []
+unpacked_groups dialect (MoreExprs d ds) = unpacked_group dialect d ∷ unpacked_groups dialect ds
 
 unfoldable pub normal_declaration : Dialect → Kind → TypeTree → (name : List ℕ) → NormalDeclaration
 normal_declaration dialect kind type name = record {
@@ -76,7 +81,7 @@ normal_declaration dialect kind type name = record {
   sign = sign_of (base_of type);
   groups = packed_groups (packed_dimensions type) ++ vector_groups (base_of type);
   name = name;
-  behind = map (unpacked_group dialect) (unpacked_dimensions type);
+  behind = unpacked_groups dialect (unpacked_dimensions type);
 }
 
 -- A name and nothing else.

@@ -49,8 +49,8 @@ abbrev mutual
   is_plain_type (VectorTree width value signed) = is_plain width
   is_plain_type (ExternalTree name) = is_plain_name name
   is_plain_type (PackageTree package_name name) = is_plain_name package_name && is_plain_name name
-  is_plain_type (PackedTree element dimensions) = is_plain_type element
-  is_plain_type (UnpackedTree element dimensions) = is_plain_type element
+  is_plain_type (PackedTree element dimensions) = is_plain_type element && are_plain dimensions
+  is_plain_type (UnpackedTree element dimensions) = is_plain_type element && are_plain dimensions
   is_plain_type MissingType = false
   is_plain_type _ = true
 

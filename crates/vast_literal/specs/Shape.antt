@@ -1,11 +1,11 @@
 -- What the shape of a tree decides: where parentheses stand, which selects are left out, which dimensions an
 -- array has, with which kind something is declared, and which arms stand bare. The layout, the tokens of its text and the normal form go by these.
-use Rattle.std.specs.Prelude.{ℕ, ℤ, pos, Bool, true, false, cond, ◌&&◌, ◌||◌, ◌==◌, List, [], ◌∷◌, ◌++◌, Option, Some, None, nat_lt, nat_le}
+use Rattle.std.specs.Prelude.{ℕ, ℤ, pos, Bool, true, false, cond, ◌&&◌, ◌||◌, ◌==◌, List, [], ◌∷◌, Option, Some, None, nat_lt, nat_le}
 use Rattle.vast_literal.specs.Tokens.{Op, LogicOr, LogicAnd, BitOr, BitXor, BitAnd, NotEqual, CaseNotEqual, Equal, CaseEqual, GreaterEqual, Greater, LessEqual, Less, ShiftLeft, ShiftRightSigned, ShiftRight, Plus, Minus, Times, Divide, Modulo, Power}
 use Rattle.vast_literal.specs.Tree.{UnaryOp, NegateOp, BitwiseNotOp, LogicalNotOp}
 use Rattle.vast_literal.specs.Tree.{BinaryOp, AddOp, SubOp, MulOp, DivOp, ModOp, PowerOp, BitwiseAndOp, BitwiseOrOp, BitwiseXorOp, ShllOp, ShraOp, ShrlOp, NeOp, CaseNeOp, EqOp, CaseEqOp, GeOp, GtOp, LeOp, LtOp, LogicalAndOp, LogicalOrOp, NeXOp, EqXOp}
 use Rattle.vast_literal.specs.Tree.{ExprTree, NameTree, LiteralTree, UnaryTree, BinaryTree, TernaryTree, WidthCastTree}
-use Rattle.vast_literal.specs.Tree.{TypeTree, ScalarTree, VectorTree, IntegerTree, IntTree, ExternalTree, PackageTree, PackedTree, UnpackedTree, MaybeType, Untyped, Typed}
+use Rattle.vast_literal.specs.Tree.{TypeTree, ScalarTree, VectorTree, IntegerTree, IntTree, ExternalTree, PackageTree, PackedTree, UnpackedTree, MaybeType, Untyped, Typed, Exprs, NoExprs, MoreExprs}
 use Rattle.vast_literal.specs.Tree.{Dialect, VerilogDialect, SystemVerilogDialect, Kind, LogicKind, IntegerKind, IntKind, UserKind}
 use Rattle.vast_literal.specs.Tree.{StatementTree, AssignTree, CaseTree, Statements, NoStatements, MoreStatements, Blocking, Nonblocking, CaseWord, CaseZ}
 
@@ -79,6 +79,11 @@ abbrev pub is_scalar_name : ExprTree → Bool
 is_scalar_name (NameTree name type) = is_typed_scalar type
 is_scalar_name _ = false
 
+-- A literal's value, where that is known.
+abbrev pub literal_value : ExprTree → Option ℤ
+literal_value (LiteralTree text value) = value
+literal_value _ = None
+
 abbrev pub is_zero_number : ℤ → Bool
 is_zero_number (pos n) = n == 0
 is_zero_number _ = false
@@ -131,16 +136,21 @@ base_of (PackedTree element dimensions) = base_of element
 base_of (UnpackedTree element dimensions) = base_of element
 base_of base = base
 
--- The dimensions of the arrays around it, packed and unpacked, the outermost array's first.
-abbrev pub packed_dimensions : TypeTree → List ℤ
-packed_dimensions (PackedTree element dimensions) = dimensions ++ packed_dimensions element
-packed_dimensions (UnpackedTree element dimensions) = packed_dimensions element
-packed_dimensions _ = []
+-- Expressions before others.
+abbrev pub joined : (before after : Exprs) → Exprs
+joined NoExprs after = after
+joined (MoreExprs e es) after = MoreExprs e (joined es after)
 
-abbrev pub unpacked_dimensions : TypeTree → List ℤ
-unpacked_dimensions (UnpackedTree element dimensions) = dimensions ++ unpacked_dimensions element
+-- The dimensions of the arrays around it, packed and unpacked, the outermost array's first.
+abbrev pub packed_dimensions : TypeTree → Exprs
+packed_dimensions (PackedTree element dimensions) = joined dimensions (packed_dimensions element)
+packed_dimensions (UnpackedTree element dimensions) = packed_dimensions element
+packed_dimensions _ = NoExprs
+
+abbrev pub unpacked_dimensions : TypeTree → Exprs
+unpacked_dimensions (UnpackedTree element dimensions) = joined dimensions (unpacked_dimensions element)
 unpacked_dimensions (PackedTree element dimensions) = unpacked_dimensions element
-unpacked_dimensions _ = []
+unpacked_dimensions _ = NoExprs
 
 -- A type that is declared elsewhere.
 abbrev pub is_external : TypeTree → Bool

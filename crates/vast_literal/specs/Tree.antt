@@ -46,7 +46,8 @@ mutual
     VectorTree : (width : ExprTree) (value : Option ℤ) (signed : Bool) → TypeTree
     ExternalTree : (name : List ℕ) → TypeTree
     PackageTree : (package_name name : List ℕ) → TypeTree
-    PackedTree UnpackedTree : (element : TypeTree) (dimensions : List ℤ) → TypeTree
+    -- The size of each dimension, from the outermost; a number is its plain literal.
+    PackedTree UnpackedTree : (element : TypeTree) (dimensions : Exprs) → TypeTree
     -- What a handle that belongs to no type stands for.
     MissingType : TypeTree
 

@@ -42,11 +42,11 @@ abbrev mutual
   is_well_formed (CallTree name arguments) = are_well_formed arguments
   is_well_formed MissingExpr = false
 
-  -- The widths of the type are well formed.
+  -- The widths and the dimensions of the type are well formed.
   pub is_well_formed_type : TypeTree → Bool
   is_well_formed_type (VectorTree width value signed) = is_well_formed width
-  is_well_formed_type (PackedTree element dimensions) = is_well_formed_type element
-  is_well_formed_type (UnpackedTree element dimensions) = is_well_formed_type element
+  is_well_formed_type (PackedTree element dimensions) = is_well_formed_type element && are_well_formed dimensions
+  is_well_formed_type (UnpackedTree element dimensions) = is_well_formed_type element && are_well_formed dimensions
   is_well_formed_type MissingType = false
   is_well_formed_type _ = true
 

@@ -1,6 +1,7 @@
 -- Laws of expressions that wait to be looked at.
-use Rattle.std.proofs.Common.{◌≡◌, ◌+◌, List, [], ◌∷◌, ◌++◌, sym, ◌∙◌, ap, arith}
+use Rattle.std.proofs.Common.{◌≡◌, ◌+◌, List, [], ◌∷◌, ◌++◌, Bool, true, false, refl, sym, ◌∙◌, ap, arith}
 use Rattle.std.specs.Prelude.{◌&&◌}
+use Rattle.std.proofs.lemmas.List.{drop_more, drop_all}
 use Rattle.vast_literal.specs.Plain.{is_plain, are_plain}
 use Rattle.vast_core.specs.declared.handle.Expr.{Expr}
 use Rattle.vast_core.specs.Bench.{Bench, tree_of, trees_of}
@@ -20,6 +21,14 @@ values-append b (x ∷ xs) ys =
 pub weight-append : (b : Bench) (xs ys : List Expr) → exprs_weight (trees_of b (xs ++ ys)) ≡ exprs_weight (trees_of b ys) + exprs_weight (trees_of b xs)
 weight-append b [] ys = omega arith
 weight-append b (x ∷ xs) ys = omega (arith, weight-append b xs ys)
+
+-- a dimension that begins to wait
+pub dimension-waits : (d rest waiting : Bool) → ((d && rest) && waiting) ≡ (rest && (d && waiting))
+dimension-waits true rest waiting = refl
+dimension-waits false true waiting = refl
+dimension-waits false false waiting = refl
+
+pub ruleset dimensions = (dimension-waits, drop_more, drop_all)
 
 pub ruleset waits = (values-append, weight-append)
 

@@ -1,18 +1,72 @@
 //! Types and declarations. Arrays of arrays are walked to what they are made of.
 
-ghost use Rattle.std.specs.Prelude.{◌+◌, All};
-ghost use Rattle.vast_literal.specs.Plain.{is_plain_type};
+ghost use Rattle.std.specs.Prelude.{◌≡◌, ◌+◌, ◌≤◌, ◌&&◌, All, OnOk};
+ghost use Rattle.vast_literal.specs.Plain.{are_plain, is_plain, is_plain_type};
 ghost use Rattle.vast_literal.specs.PlainFile.{is_plain_declaration};
-ghost use Rattle.vast_core.specs.Bench.{OwnsExpr, OwnsType, type_of};
+ghost use Rattle.vast_core.specs.Bench.{OwnsExpr, OwnsType, OwnsDimension, trees_of, type_of, size_of};
+ghost use Rattle.vast_core.specs.Internal.BitCount.{sizes_of};
 ghost use Rattle.vast_core.specs.View.{bench};
-ghost use Rattle.vast_plain.specs.Internal.Values.{Answers, Begins, type_weight};
+ghost use Rattle.vast_plain.specs.Internal.Values.{Answers, Begins, expr_weight, exprs_weight, type_weight};
 
 use crate::expression::{are_plain_values, wait};
 use crate::names::is_plain_name;
 use std::alloc::AllocError;
-use vast_core::{Ast, Expr, TypeNode, VastDataType};
+use vast_core::{Ast, Dimension, Expr, TypeNode, VastDataType};
 
-/// Looks at what a type is made of, and lets its width wait; `false` where a name of it isn't plain.
+/// Lets a dimension wait. A number is always plain.
+#[tactic(auto, using(crate::proofs::Values::heads))]
+fn wait_dimension(
+    ast: &Ast,
+    dimension: Dimension,
+    waiting: &mut Vec<Expr>,
+) -> Result<(), AllocError>
+    requires dimension { OwnsDimension (bench ast.now) dimension }
+    requires owned { All (OwnsExpr (bench ast.now)) waiting.old.items }
+    ensures plain { OnOk result
+        (are_plain (trees_of (bench ast.now) waiting.new.items)
+        ≡ (is_plain (size_of (bench ast.now) dimension)
+        && are_plain (trees_of (bench ast.now) waiting.old.items))) }
+    ensures weight { OnOk result
+        (exprs_weight (trees_of (bench ast.now) waiting.new.items)
+        ≤ exprs_weight (trees_of (bench ast.now) waiting.old.items)
+        + expr_weight (size_of (bench ast.now) dimension)) }
+    ensures owned { OnOk result (All (OwnsExpr (bench ast.now)) waiting.new.items) }
+{
+    match dimension {
+        Dimension::Count(_) => Ok(()),
+        Dimension::Size(size) => {
+            waiting.push(size)?;
+            Ok(())
+        }
+    }
+}
+
+/// Lets dimensions wait.
+#[tactic(auto, using(crate::proofs::Values::dimensions))]
+fn wait_dimensions(
+    ast: &Ast,
+    dimensions: &[Dimension],
+    waiting: &mut Vec<Expr>,
+) -> Result<(), AllocError>
+    requires dimensions { All (OwnsDimension (bench ast.now)) dimensions.now }
+    requires owned { All (OwnsExpr (bench ast.now)) waiting.old.items }
+    ensures plain { OnOk result
+        (are_plain (trees_of (bench ast.now) waiting.new.items)
+        ≡ (are_plain (sizes_of (bench ast.now) dimensions.now)
+        && are_plain (trees_of (bench ast.now) waiting.old.items))) }
+    ensures weight { OnOk result
+        (exprs_weight (trees_of (bench ast.now) waiting.new.items)
+        ≤ exprs_weight (trees_of (bench ast.now) waiting.old.items)
+        + exprs_weight (sizes_of (bench ast.now) dimensions.now)) }
+    ensures owned { OnOk result (All (OwnsExpr (bench ast.now)) waiting.new.items) }
+{
+    for dimension in dimensions {
+        wait_dimension(ast, *dimension, waiting)?;
+    }
+    Ok(())
+}
+
+/// Looks at what a type is made of, and lets its width and dimensions wait; `false` where a name of it isn't plain.
 #[tactic(auto, using(crate::proofs::Values::heads))]
 pub(crate) fn begin_type(
     ast: &Ast,
@@ -28,8 +82,14 @@ pub(crate) fn begin_type(
     let mut inner = t;
     loop {
         match ast.data_type(inner) {
-            TypeNode::Packed(element, _) => inner = *element,
-            TypeNode::Unpacked(element, _) => inner = *element,
+            TypeNode::Packed(element, dimensions) => {
+                wait_dimensions(ast, dimensions, waiting)?;
+                inner = *element;
+            }
+            TypeNode::Unpacked(element, dimensions) => {
+                wait_dimensions(ast, dimensions, waiting)?;
+                inner = *element;
+            }
             TypeNode::Vector(width, _, _) => return wait(ast, &[*width], waiting),
             TypeNode::External(name) => return Ok(is_plain_name(name)),
             TypeNode::Package(package) => {
@@ -40,7 +100,7 @@ pub(crate) fn begin_type(
     }
 }
 
-/// Whether each name that the type prints is plain, and no edge stands in its width.
+/// Whether each name that the type prints is plain, and no edge stands in its width and dimensions.
 #[tactic(auto, using(crate::proofs::Values::wholes))]
 fn is_plain_type(ast: &Ast, t: VastDataType) -> Result<bool, AllocError>
     requires { OwnsType (bench ast.now) t }

@@ -2,7 +2,7 @@
 use Rattle.std.proofs.Common.{◌≡◌, ℕ, ℤ, pos, Bool, true, false, List, [], ◌∷◌, ◌++◌, Some, None, refl, sym, ◌∙◌, ap, codes}
 use Rattle.std.specs.Prelude.{◌-ℤ◌}
 use Rattle.std.specs.Fmt.{signed_decimal}
-use Rattle.vast_literal.specs.Tree.{ExprTree, TypeTree, PortTree, Untyped, Typed}
+use Rattle.vast_literal.specs.Tree.{ExprTree, Exprs, NoExprs, MoreExprs, TypeTree, PortTree, Untyped, Typed}
 use Rattle.vast_literal.specs.declared.kind.VastFileType.{VastFileType as Dialect}
 use Rattle.vast_literal.specs.declared.kind.DataKind.{DataKind as Kind}
 use Rattle.vast_literal.specs.declared.kind.DataKind.TheVariants.{Reg as RegKind}
@@ -13,14 +13,11 @@ use Rattle.vast_print.specs.Printed.{Printed, plain_text, ◌⊕◌, gapped, spa
 use Rattle.vast_print.specs.Page.{written, written_lines, beside_lines}
 use Rattle.vast_print.specs.Output.{Output, word, inline, inline_lines, indented_lines, stop}
 use Rattle.vast_print.specs.Text.{expr_text, package_text}
-use Rattle.vast_print.specs.Declaration.{unpacked_text, highest_index_text, signed_word, unsigned_word, with_dimensions, type_text, name_text, kind_word, declaration_text, port_declaration_text}
+use Rattle.vast_print.specs.Declaration.{packed_text, unpacked_text, highest_index_text, signed_word, unsigned_word, with_dimensions, type_text, name_text, kind_word, declaration_text, port_declaration_text}
 use Rattle.vast_print.specs.Layout.{port_text, parameter_port_text, direction_word}
-use Rattle.vast_print.specs.Internal.Words.{has_text, kind_opening, signed_opening, unsigned_opening}
+use Rattle.vast_print.specs.Internal.Words.{has_dimension, kind_opening, signed_opening, unsigned_opening}
+use Rattle.vast_print.proofs.NumberLaws.{has_text}
 use Rattle.vast_print.proofs.OutputLaws.{inline-then, inline-empty, inline-word}
-
-pub plain-append : (a b : List ℕ) → plain_text (a ++ b) ≡ plain_text a ⊕ plain_text b
-unfolding plain_text ◌⊕◌
-plain-append a b = refl
 
 -- the kind word, the type and the name
 
@@ -31,7 +28,7 @@ inline-kind d k _ = refl
 
 pub inline-declaration : (d : ℕ) (k : Output) (dialect : Dialect) (kind : Kind) (t : TypeTree) (name : List ℕ) →
     inline d k (written (declaration_text dialect kind t name))
-    ≡ inline d (inline d (inline d (word k (kind_opening kind)) (written (spaced (type_text t)))) (written (plain_text name))) (written (plain_text (unpacked_text dialect (unpacked_dimensions t))))
+    ≡ inline d (inline d (inline d (word k (kind_opening kind)) (written (spaced (type_text t)))) (written (plain_text name))) (written (unpacked_text dialect (unpacked_dimensions t)))
 unfolding declaration_text name_text
 inline-declaration d k dialect kind t name = simp (inline-then, inline-kind)
 
@@ -97,16 +94,42 @@ unfolding inline written spaced plain_text ◌⊕◌ written_lines beside_lines 
 inline-unsigned-word d k true = refl
 inline-unsigned-word d k false = refl
 
+-- packed dimensions begin with a bracket, so a space follows them
+spaced-none : spaced (packed_text NoExprs) ≡ plain_text []
+unfolding spaced packed_text plain_text
+spaced-none = refl
+
+spaced-packed : (x : ExprTree) (xs : Exprs) → spaced (packed_text (MoreExprs x xs)) ≡ packed_text (MoreExprs x xs) ⊕ plain_text (codes " ")
+unfolding spaced packed_text plain_text ◌⊕◌
+spaced-packed x xs = refl
+
+packed-spaced-then : (p : Printed) (x : ExprTree) (xs : Exprs) → spaced (p ⊕ packed_text (MoreExprs x xs)) ≡ p ⊕ packed_text (MoreExprs x xs) ⊕ plain_text (codes " ")
+unfolding spaced packed_text plain_text ◌⊕◌
+packed-spaced-then p x xs = go p.text
+  where
+    go : (t : List ℕ) → gapped (t ++ (packed_text (MoreExprs x xs)).text) (p ⊕ packed_text (MoreExprs x xs)) ≡ p ⊕ packed_text (MoreExprs x xs) ⊕ plain_text (codes " ")
+    go [] = refl
+    go (c ∷ t) = refl
+
 -- a base type, and its packed dimensions after it
-pub inline-with-dimensions : (d : ℕ) (k : Output) (p : Printed) (ds : List ℕ) →
-    inline d k (written (spaced (with_dimensions p ds))) ≡ inline d (inline d k (written (spaced p))) (written (spaced (plain_text ds)))
+pub inline-with-dimensions : (d : ℕ) (k : Output) (p : Printed) (ds : Exprs) →
+    inline d k (written (spaced (with_dimensions p ds))) ≡ inline d (inline d k (written (spaced p))) (written (spaced (packed_text ds)))
 unfolding with_dimensions
-inline-with-dimensions d k p [] = sym (ap (λ x. inline d (inline d k (written (spaced p))) (written x)) spaced-empty ∙ inline-empty d (inline d k (written (spaced p))))
-inline-with-dimensions d k p (c ∷ ds) =
-    let a : inline d k (written (spaced p ⊕ plain_text (c ∷ ds) ⊕ plain_text (codes " "))) ≡ inline d (inline d (inline d k (written (spaced p))) (written (plain_text (c ∷ ds)))) (written (plain_text (codes " "))) = simp inline-then in
-    let b : inline d (inline d k (written (spaced p))) (written (plain_text (c ∷ ds) ⊕ plain_text (codes " "))) ≡ inline d (inline d (inline d k (written (spaced p))) (written (plain_text (c ∷ ds)))) (written (plain_text (codes " "))) = simp inline-then in
-    ap (λ x. inline d k (written x)) (spaced-then (spaced p) c ds)
-    ∙ (a ∙ sym (ap (λ x. inline d (inline d k (written (spaced p))) (written x)) (spaced-plain c ds) ∙ b))
+inline-with-dimensions d k p NoExprs = sym (ap (λ x. inline d (inline d k (written (spaced p))) (written x)) spaced-none ∙ inline-empty d (inline d k (written (spaced p))))
+inline-with-dimensions d k p (MoreExprs x xs) =
+    let ds : Printed = packed_text (MoreExprs x xs) in
+    let a : inline d k (written (spaced p ⊕ ds ⊕ plain_text (codes " "))) ≡ inline d (inline d (inline d k (written (spaced p))) (written ds)) (written (plain_text (codes " "))) = simp inline-then in
+    let b : inline d (inline d k (written (spaced p))) (written (ds ⊕ plain_text (codes " "))) ≡ inline d (inline d (inline d k (written (spaced p))) (written ds)) (written (plain_text (codes " "))) = simp inline-then in
+    ap (λ x. inline d k (written x)) (packed-spaced-then (spaced p) x xs)
+    ∙ (a ∙ sym (ap (λ x. inline d (inline d k (written (spaced p))) (written x)) (spaced-packed x xs) ∙ b))
+
+pub inline-spaced-packed : (d : ℕ) (k : Output) (ds : Exprs) → has_dimension ds ≡ true → inline d k (written (spaced (packed_text ds))) ≡ word (inline d k (written (packed_text ds))) (codes " ")
+inline-spaced-packed d k NoExprs h = absurd (cc h)
+inline-spaced-packed d k (MoreExprs x xs) h = ap (λ x. inline d k (written x)) (spaced-packed x xs) ∙ simp (inline-then, inline-word)
+
+pub inline-spaced-unpacked : (d : ℕ) (k : Output) (ds : Exprs) → has_dimension ds ≡ false → inline d k (written (spaced (packed_text ds))) ≡ k
+inline-spaced-unpacked d k NoExprs h = ap (λ x. inline d k (written x)) spaced-none ∙ inline-empty d k
+inline-spaced-unpacked d k (MoreExprs x xs) h = absurd (cc h)
 
 -- a part with the space after it, where it isn't empty
 pub inline-spaced : (d : ℕ) (k : Output) (w : List ℕ) → has_text w ≡ true → inline d k (written (spaced (plain_text w))) ≡ word (inline d k (written (plain_text w))) (codes " ")

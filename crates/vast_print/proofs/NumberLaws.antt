@@ -1,12 +1,11 @@
 -- A written number has no line break, and one of two digits is written digit by digit.
-use Rattle.std.proofs.Common.{◌≡◌, ℕ, suc, ◌+◌, ◌/◌, ◌%◌, ◌<◌, ◌≤◌, ℤ, pos, negsuc, true, false, eqb, sym, append_assoc, append-nil, List, [], ◌∷◌, ◌++◌, refl, ◌∙◌, ap, arith}
+use Rattle.std.proofs.Common.{Bool, ◌≡◌, ℕ, suc, ◌+◌, ◌/◌, ◌%◌, ◌<◌, ◌≤◌, ℤ, pos, negsuc, true, false, eqb, sym, append_assoc, append-nil, List, [], ◌∷◌, ◌++◌, refl, ◌∙◌, ap, arith}
 use Rattle.std.specs.Fmt.{decimal, signed_decimal}
 use Rattle.std.proofs.lemmas.Fmt.{decimal_digit, decimal_step}
 use Rattle.vast_print.specs.Printed.{plain_text}
 use Rattle.vast_print.specs.Page.{written}
 use Rattle.vast_print.specs.Draft.{Draft}
 use Rattle.vast_print.specs.Output.{Output, Unstopped, word, inline, append_word, margin}
-use Rattle.vast_print.specs.Internal.Words.{has_text}
 use Rattle.vast_print.proofs.Lines.{unbroken}
 use Rattle.vast_print.proofs.OutputLaws.{inline-word}
 use Rattle.vast_literal.proofs.NumberLaws.{decimal_number, every_number}
@@ -14,6 +13,11 @@ use Rattle.vast_literal.proofs.ScanLaws.{and_left, and_right}
 use Rattle.vast_literal.specs.LiteralToken.{every, is_number}
 use Rattle.vast_literal.specs.Scan.{is_digit}
 use Rattle.std.proofs.lemmas.Bool.Decides.{nat_tests}
+
+-- Whether a text isn't empty.
+abbrev pub has_text : List ℕ → Bool
+has_text [] = false
+has_text (c ∷ w) = true
 
 digits-unbroken : (w : List ℕ) → every is_digit w ≡ true → unbroken w ≡ true
 digits-unbroken [] h = refl

@@ -28,6 +28,10 @@ worked_pages =
     record {
       packed_declaration = refl;
       verilog_array = refl;
+      packed_by_expression = refl;
+      verilog_memory = refl;
+      memory = refl;
+      grouped_dimension = refl;
       symbolic_highest_index = refl;
       nameless = refl;
       no_items = refl;

@@ -3,7 +3,7 @@ use Rattle.std.proofs.Common.{◌≡◌, ◌<◌, ◌≤◌, ℕ, zero, suc, ◌
 use Rattle.std.specs.Prelude.{◌&&◌}
 use Rattle.std.specs.Fmt.{signed_decimal}
 use Rattle.std.proofs.lemmas.List.{drop_all}
-use Rattle.vast_literal.specs.Tree.{ExprTree, SliceTree, PartSelectTree, TypeTree, ExternalTree, PackedTree, UnpackedTree}
+use Rattle.vast_literal.specs.Tree.{ExprTree, Exprs, SliceTree, PartSelectTree, TypeTree, ExternalTree, PackedTree, UnpackedTree}
 use Rattle.vast_literal.specs.Shape.{is_scalar_name, is_zero, select_wraps}
 use Rattle.vast_core.specs.declared.handle.Expr.{Expr}
 use Rattle.vast_core.specs.Bench.{Bench, tree_of, trees_of}
@@ -96,11 +96,11 @@ inline-number-closing d k true = inline-word d k (codes ")") refl
 inline-number-closing d k false = inline-word d k (codes "))") refl
 
 -- a cast to an array has no head
-pub inline-packed-cast : (d : ℕ) (k : Output) (t : TypeTree) (ds : List ℤ) (p : Printed) → inline d k (written (type_cast (PackedTree t ds) p)) ≡ inline d k (written (type_cast (ExternalTree []) p))
+pub inline-packed-cast : (d : ℕ) (k : Output) (t : TypeTree) (ds : Exprs) (p : Printed) → inline d k (written (type_cast (PackedTree t ds) p)) ≡ inline d k (written (type_cast (ExternalTree []) p))
 unfolding type_cast
 inline-packed-cast d k t ds p = refl
 
-pub inline-unpacked-cast : (d : ℕ) (k : Output) (t : TypeTree) (ds : List ℤ) (p : Printed) → inline d k (written (type_cast (UnpackedTree t ds) p)) ≡ inline d k (written (type_cast (ExternalTree []) p))
+pub inline-unpacked-cast : (d : ℕ) (k : Output) (t : TypeTree) (ds : Exprs) (p : Printed) → inline d k (written (type_cast (UnpackedTree t ds) p)) ≡ inline d k (written (type_cast (ExternalTree []) p))
 unfolding type_cast
 inline-unpacked-cast d k t ds p = refl
 

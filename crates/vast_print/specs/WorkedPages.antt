@@ -4,14 +4,15 @@ use Rattle.vast_literal.specs.Tree.{LiteralTree, BinaryTree}
 use Rattle.vast_literal.specs.declared.kind.VastFileType.TheVariants.{Verilog as VerilogDialect, SystemVerilog as SystemVerilogDialect}
 use Rattle.vast_literal.specs.declared.operator.BinaryOperator.TheVariants.{LogicalOr as LogicalOrOp}
 use Rattle.vast_literal.specs.Tree.{TypeTree, ScalarTree, VectorTree, PackedTree, UnpackedTree}
-use Rattle.vast_literal.specs.declared.kind.DataKind.TheVariants.{Wire as WireKind, Reg as RegKind}
+use Rattle.vast_literal.specs.declared.kind.DataKind.TheVariants.{Wire as WireKind, Reg as RegKind, Logic as LogicKind}
 use Rattle.vast_literal.specs.Tree.{AssignTree, CommentTree, ConditionalTree, CaseTree, Statements, NoStatements, MoreStatements, ElseIf, Else, NoCaseArms, CaseArm, NoExpr, SomeExpr}
 use Rattle.vast_literal.specs.declared.kind.AssignmentForm.TheVariants.{Blocking}
 use Rattle.vast_literal.specs.declared.kind.CaseKind.TheVariants.{CaseZ}
-use Rattle.vast_literal.specs.Tree.{DeclarationMember, BlankMember, InstanceMember, AlwaysMember, FunctionMember, LoopMember, NoExprs, Members, NoMembers, MoreMembers, PortTree, ModuleItem, IncludeItem, BlankItem, CommentItem, FileTree}
+use Rattle.vast_literal.specs.Tree.{DeclarationMember, BlankMember, InstanceMember, AlwaysMember, FunctionMember, LoopMember, NoExprs, MoreExprs, Members, NoMembers, MoreMembers, PortTree, ModuleItem, IncludeItem, BlankItem, CommentItem, FileTree}
 use Rattle.vast_literal.specs.declared.kind.AlwaysKind.TheVariants.{AlwaysComb as AlwaysCombWord}
 use Rattle.vast_literal.specs.declared.kind.ModulePortDirection.TheVariants.{Input as InputDirection}
 use Rattle.vast_literal.specs.WorkedTexts.{passthrough_file}
+use Rattle.vast_core.specs.Growth.{counts}
 use Rattle.vast_print.specs.Printed.{plain_text}
 use Rattle.vast_print.specs.Declaration.{declaration_text}
 use Rattle.vast_print.specs.Page.{print}
@@ -36,10 +37,19 @@ assigned l r = MoreStatements (AssignTree Blocking (name l) (name r)) NoStatemen
 pub record WorkedPages : Type 0 where
   -- Packed dimensions stand before the base's own bits, outermost first.
   pub packed_declaration :
-      declaration_text SystemVerilogDialect WireKind (PackedTree (bits 8 true (codes "8")) (pos 2 ∷ pos 3 ∷ [])) (codes "p") ≡ plain_text (codes "wire signed [1:0][2:0][7:0] p")
+      declaration_text SystemVerilogDialect WireKind (PackedTree (bits 8 true (codes "8")) (counts (pos 2 ∷ pos 3 ∷ []))) (codes "p") ≡ plain_text (codes "wire signed [1:0][2:0][7:0] p")
   -- In Verilog an array of four has the range from 0 to 3.
   pub verilog_array :
-      declaration_text VerilogDialect RegKind (UnpackedTree (bits 8 false (codes "8")) (pos 4 ∷ [])) (codes "m") ≡ plain_text (codes "reg [7:0] m[0:3]")
+      declaration_text VerilogDialect RegKind (UnpackedTree (bits 8 false (codes "8")) (counts (pos 4 ∷ []))) (codes "m") ≡ plain_text (codes "reg [7:0] m[0:3]")
+  -- A dimension is an expression too, written as a vector's width is, and in SystemVerilog as it stands after a name.
+  pub packed_by_expression :
+      declaration_text SystemVerilogDialect LogicKind (PackedTree (bits 8 false (codes "8")) (MoreExprs (name (codes "N")) (counts (pos 3 ∷ [])))) (codes "p") ≡ plain_text (codes "logic [N - 1:0][2:0][7:0] p")
+  pub verilog_memory :
+      declaration_text VerilogDialect RegKind (UnpackedTree (VectorTree (name (codes "W")) None false) (MoreExprs (name (codes "DEPTH")) NoExprs)) (codes "mem") ≡ plain_text (codes "reg [W - 1:0] mem[0:DEPTH - 1]")
+  pub memory :
+      declaration_text SystemVerilogDialect LogicKind (UnpackedTree (VectorTree (name (codes "W")) None false) (MoreExprs (name (codes "DEPTH")) NoExprs)) (codes "mem") ≡ plain_text (codes "logic [W - 1:0] mem[DEPTH]")
+  pub grouped_dimension :
+      declaration_text VerilogDialect RegKind (UnpackedTree (ScalarTree false) (MoreExprs (BinaryTree LogicalOrOp (name (codes "a")) (name (codes "b"))) NoExprs)) (codes "m") ≡ plain_text (codes "reg m[0:(a || b) - 1]")
   -- A width without a value is written less one, in parentheses where its operator is weaker.
   pub symbolic_highest_index :
       declaration_text SystemVerilogDialect WireKind (VectorTree (BinaryTree LogicalOrOp (name (codes "a")) (name (codes "b"))) None false) (codes "v") ≡ plain_text (codes "wire [(a || b) - 1:0] v")

@@ -1,22 +1,24 @@
 //! Types, as they stand before and after a declared name. Arrays of arrays are walked to what they are made of.
 
-ghost use Rattle.std.specs.Prelude.{◌≡◌, ◌-ℤ◌, pos};
+ghost use Rattle.std.specs.Prelude.{◌≡◌, ◌-ℤ◌, pos, All};
 ghost use Rattle.std.specs.Fmt.{signed_decimal};
-ghost use Rattle.vast_literal.specs.Shape.{base_of, packed_dimensions, unpacked_dimensions, is_external};
-ghost use Rattle.vast_core.specs.Bench.{OwnsExpr, OwnsType, tree_of, type_of};
+ghost use Rattle.vast_literal.specs.Shape.{literal_value, base_of, packed_dimensions, unpacked_dimensions, is_external};
+ghost use Rattle.vast_core.specs.Bench.{OwnsExpr, OwnsType, OwnsDimension, tree_of, type_of, size_of};
+ghost use Rattle.vast_core.specs.Internal.BitCount.{sizes_of};
 ghost use Rattle.vast_core.specs.View.{bench};
 ghost use Rattle.vast_print.specs.Output.{Unstopped, word};
 ghost use Rattle.vast_print.specs.Internal.Output.{Writes, WritesText};
 ghost use Rattle.vast_print.specs.Printed.{plain_text, spaced};
 ghost use Rattle.vast_print.specs.Declaration.{packed_text, unpacked_range, unpacked_text, type_text, highest_index_text};
-ghost use Rattle.vast_print.specs.Internal.Words.{has_text};
+ghost use Rattle.vast_print.specs.Internal.Words.{has_dimension};
+ghost use Rattle.vast_print.specs.Text.{expr_text};
 
-use crate::expression::print_wrapped;
+use crate::expression::{print_expression, print_wrapped};
 use crate::levels::highest_index_wraps;
 use crate::refusal::PrintFault;
 use crate::words;
 use crate::writer::Writer;
-use vast_core::{Ast, Expr, TypeNode, VastDataType, VastFileType};
+use vast_core::{Ast, Dimension, Expr, TypeNode, VastDataType, VastFileType};
 
 /// Whether a type is declared elsewhere, through arrays.
 pub(crate) fn is_external(ast: &Ast, t: VastDataType) -> bool
@@ -44,12 +46,18 @@ pub(crate) fn print_highest_index(value: i64, out: &mut Writer) -> Result<(), Pr
 }
 
 #[tactic(auto, using(crate::proofs::PrintLaws::ranges))]
-fn print_packed_ranges(dimensions: &[i64], out: &mut Writer) -> Result<(), PrintFault>
-    ensures { WritesText out.old out.new result (plain_text (packed_text dimensions.now)) }
+fn print_packed_ranges(
+    ast: &Ast,
+    dimensions: &[Dimension],
+    out: &mut Writer,
+) -> Result<(), PrintFault>
+    requires { All (OwnsDimension (bench ast.now)) dimensions.now }
+    ensures { WritesText out.old out.new result
+        (packed_text (sizes_of (bench ast.now) dimensions.now)) }
 {
     for dimension in dimensions.iter() {
         out.word("[")?;
-        print_highest_index(*dimension, out)?;
+        print_last_index(ast, *dimension, out)?;
         out.word(":0]")?;
     }
     Ok(())
@@ -59,7 +67,7 @@ fn print_packed_ranges(dimensions: &[i64], out: &mut Writer) -> Result<(), Print
 #[tactic(auto, using(crate::proofs::PrintLaws::packed))]
 fn has_packed(ast: &Ast, t: VastDataType) -> bool
     requires { OwnsType (bench ast.now) t }
-    ensures { result ≡ has_text (packed_text (packed_dimensions (type_of (bench ast.now) t))) }
+    ensures { result ≡ has_dimension (packed_dimensions (type_of (bench ast.now) t)) }
 {
     let mut inner = t;
     loop {
@@ -81,13 +89,13 @@ fn has_packed(ast: &Ast, t: VastDataType) -> bool
 fn print_packed(ast: &Ast, t: VastDataType, out: &mut Writer) -> Result<(), PrintFault>
     requires { OwnsType (bench ast.now) t }
     ensures { WritesText out.old out.new result
-        (plain_text (packed_text (packed_dimensions (type_of (bench ast.now) t)))) }
+        (packed_text (packed_dimensions (type_of (bench ast.now) t))) }
 {
     let mut inner = t;
     loop {
         match ast.data_type(inner) {
             TypeNode::Packed(element, dimensions) => {
-                print_packed_ranges(dimensions, out)?;
+                print_packed_ranges(ast, dimensions, out)?;
                 inner = *element;
             }
             TypeNode::Unpacked(element, _) => inner = *element,
@@ -101,7 +109,7 @@ fn print_packed(ast: &Ast, t: VastDataType, out: &mut Writer) -> Result<(), Prin
 fn print_spaced_packed(ast: &Ast, t: VastDataType, out: &mut Writer) -> Result<(), PrintFault>
     requires { OwnsType (bench ast.now) t }
     ensures { WritesText out.old out.new result
-        (spaced (plain_text (packed_text (packed_dimensions (type_of (bench ast.now) t))))) }
+        (spaced (packed_text (packed_dimensions (type_of (bench ast.now) t)))) }
 {
     if has_packed(ast, t) {
         print_packed(ast, t, out)?;
@@ -141,6 +149,35 @@ fn print_highest_bit(
             out.word(" - 1")?;
             Ok(())
         }
+    }
+}
+
+/// Writes the highest index of a dimension, as of a vector.
+#[tactic(auto, using(crate::proofs::PrintLaws::highest_indices))]
+fn print_last_index(ast: &Ast, dimension: Dimension, out: &mut Writer) -> Result<(), PrintFault>
+    requires { OwnsDimension (bench ast.now) dimension }
+    ensures { WritesText out.old out.new result
+        (highest_index_text (size_of (bench ast.now) dimension)
+        (literal_value (size_of (bench ast.now) dimension))) }
+{
+    match dimension {
+        Dimension::Count(count) => print_highest_index(count, out),
+        Dimension::Size(size) => print_highest_bit(ast, size, ast.expr(size).literal_value(), out),
+    }
+}
+
+/// Writes how many elements a dimension has.
+#[tactic(auto, using(crate::proofs::PrintLaws::sizes))]
+fn print_size(ast: &Ast, dimension: Dimension, out: &mut Writer) -> Result<(), PrintFault>
+    requires { OwnsDimension (bench ast.now) dimension }
+    ensures { WritesText out.old out.new result (expr_text (size_of (bench ast.now) dimension)) }
+{
+    match dimension {
+        Dimension::Count(count) => {
+            out.number(count)?;
+            Ok(())
+        }
+        Dimension::Size(size) => print_expression(ast, size, out),
     }
 }
 
@@ -190,20 +227,23 @@ pub(crate) fn print_type(ast: &Ast, t: VastDataType, out: &mut Writer) -> Result
 /// Writes a dimension after a name: a range in Verilog, its number of elements in SystemVerilog.
 #[tactic(auto, using(crate::proofs::PrintLaws::range_parts))]
 fn print_unpacked_range(
+    ast: &Ast,
     file_type: VastFileType,
-    dimension: i64,
+    dimension: Dimension,
     out: &mut Writer,
 ) -> Result<(), PrintFault>
-    ensures { WritesText out.old out.new result (plain_text (unpacked_range file_type dimension)) }
+    requires { OwnsDimension (bench ast.now) dimension }
+    ensures { WritesText out.old out.new result
+        (unpacked_range file_type (size_of (bench ast.now) dimension)) }
 {
     match file_type {
         VastFileType::Verilog => {
             out.word("[0:")?;
-            print_highest_index(dimension, out)?;
+            print_last_index(ast, dimension, out)?;
         }
         VastFileType::SystemVerilog => {
             out.word("[")?;
-            out.number(dimension)?;
+            print_size(ast, dimension, out)?;
         }
     }
     out.word("]")?;
@@ -212,15 +252,17 @@ fn print_unpacked_range(
 
 #[tactic(auto, using(crate::proofs::PrintLaws::ranges))]
 fn print_unpacked_ranges(
+    ast: &Ast,
     file_type: VastFileType,
-    dimensions: &[i64],
+    dimensions: &[Dimension],
     out: &mut Writer,
 ) -> Result<(), PrintFault>
+    requires { All (OwnsDimension (bench ast.now)) dimensions.now }
     ensures { WritesText out.old out.new result
-        (plain_text (unpacked_text file_type dimensions.now)) }
+        (unpacked_text file_type (sizes_of (bench ast.now) dimensions.now)) }
 {
     for dimension in dimensions.iter() {
-        print_unpacked_range(file_type, *dimension, out)?;
+        print_unpacked_range(ast, file_type, *dimension, out)?;
     }
     Ok(())
 }
@@ -234,15 +276,15 @@ pub(crate) fn print_dimensions(
 ) -> Result<(), PrintFault>
     requires { OwnsType (bench ast.now) t }
     ensures { WritesText out.old out.new result
-        (plain_text (unpacked_text (bench ast.now).file_type
-        (unpacked_dimensions (type_of (bench ast.now) t)))) }
+        (unpacked_text (bench ast.now).file_type
+        (unpacked_dimensions (type_of (bench ast.now) t))) }
 {
     let file_type = ast.file_type();
     let mut inner = t;
     loop {
         match ast.data_type(inner) {
             TypeNode::Unpacked(element, dimensions) => {
-                print_unpacked_ranges(file_type, dimensions, out)?;
+                print_unpacked_ranges(ast, file_type, dimensions, out)?;
                 inner = *element;
             }
             TypeNode::Packed(element, _) => inner = *element,

@@ -1,17 +1,18 @@
 -- What becomes of a call that makes a type.
 use Rattle.std.specs.Prelude.{ℕ, ℤ, pos, int_le, false, ◌&&◌, List, string_bytes}
 use Rattle.vast_literal.specs.Tree.{TypeTree, ScalarTree, IntegerTree, IntTree, ExternalTree, PackageTree, VectorTree, PackedTree, UnpackedTree}
-use Rattle.vast_core.specs.Types.{is_packable, literal_value}
-use Rattle.vast_core.specs.Bench.{tree_of, type_of}
-use Rattle.vast_core.specs.Growth.{next_type, with_type}
-use Rattle.xlsynth_vast.specs.Conditions.{is_usable_width}
+use Rattle.vast_literal.specs.Shape.{literal_value}
+use Rattle.vast_core.specs.Types.{is_packable}
+use Rattle.vast_core.specs.Bench.{tree_of, trees_of, type_of}
+use Rattle.vast_core.specs.Growth.{counts, next_type, with_type}
+use Rattle.xlsynth_vast.specs.Conditions.{is_usable_width, are_usable_dimensions}
 use Rattle.xlsynth_vast.specs.Equations.{next_bit_vector, with_bit_vector}
 use Rattle.vast_script.specs.declared.answer.Answer.TheVariants.{VastDataType}
 use Rattle.vast_script.specs.declared.step.TypeStep.{TypeStep}
-use Rattle.vast_script.specs.declared.step.TypeStep.TheVariants.{MakeScalarType, MakeIntegerType, MakeIntType, MakeExternType, MakeExternPackageType, MakeBitVectorType, MakeBitVectorTypeExpr, MakePackedArrayType, MakeUnpackedArrayType}
+use Rattle.vast_script.specs.declared.step.TypeStep.TheVariants.{MakeScalarType, MakeIntegerType, MakeIntType, MakeExternType, MakeExternPackageType, MakeBitVectorType, MakeBitVectorTypeExpr, MakePackedArrayType, MakeUnpackedArrayType, MakePackedArrayTypeExpr, MakeUnpackedArrayTypeExpr}
 use Rattle.vast_script.specs.Outcome.{Call, Made, provided}
 use Rattle.vast_script.specs.Kinds.{a_type, an_expr}
-use Rattle.vast_script.specs.Arguments.{takes_one}
+use Rattle.vast_script.specs.Arguments.{takes_one, takes_one_and_many}
 use Rattle.vast_script.specs.Conditions.{are_dimensions}
 
 -- A type that is made of no other.
@@ -21,11 +22,22 @@ make_type tree b answers = Made (VastDataType (next_type b)) (with_type tree b)
 abbrev pub make_packed_array_type : ℕ → List ℤ → Call
 make_packed_array_type element dimensions =
     takes_one a_type element
-    (λ element b. provided (is_packable (type_of b element) && are_dimensions dimensions) (Made (VastDataType (next_type b)) (with_type (PackedTree (type_of b element) dimensions) b)))
+    (λ element b. provided (is_packable (type_of b element) && are_dimensions dimensions) (Made (VastDataType (next_type b)) (with_type (PackedTree (type_of b element) (counts dimensions)) b)))
 
 abbrev pub make_unpacked_array_type : ℕ → List ℤ → Call
 make_unpacked_array_type element dimensions =
-    takes_one a_type element (λ element b. provided (are_dimensions dimensions) (Made (VastDataType (next_type b)) (with_type (UnpackedTree (type_of b element) dimensions) b)))
+    takes_one a_type element (λ element b. provided (are_dimensions dimensions) (Made (VastDataType (next_type b)) (with_type (UnpackedTree (type_of b element) (counts dimensions)) b)))
+
+-- The same of dimensions that are expressions.
+abbrev pub make_packed_array_type_expr : ℕ → List ℕ → Call
+make_packed_array_type_expr element dimensions =
+    takes_one_and_many a_type an_expr element dimensions
+    (λ element dimensions b. provided (is_packable (type_of b element) && are_usable_dimensions (trees_of b dimensions)) (Made (VastDataType (next_type b)) (with_type (PackedTree (type_of b element) (trees_of b dimensions)) b)))
+
+abbrev pub make_unpacked_array_type_expr : ℕ → List ℕ → Call
+make_unpacked_array_type_expr element dimensions =
+    takes_one_and_many a_type an_expr element dimensions
+    (λ element dimensions b. provided (are_usable_dimensions (trees_of b dimensions)) (Made (VastDataType (next_type b)) (with_type (UnpackedTree (type_of b element) (trees_of b dimensions)) b)))
 
 -- What becomes of a step of a type, one clause each.
 abbrev pub type_call : TypeStep → Call
@@ -39,3 +51,5 @@ type_call (MakeBitVectorTypeExpr width signed) = takes_one an_expr width
     (λ width b. provided (is_usable_width (tree_of b width)) (Made (VastDataType (next_type b)) (with_type (VectorTree (tree_of b width) (literal_value (tree_of b width)) signed) b)))
 type_call (MakePackedArrayType element dimensions) = make_packed_array_type element dimensions.items
 type_call (MakeUnpackedArrayType element dimensions) = make_unpacked_array_type element dimensions.items
+type_call (MakePackedArrayTypeExpr element dimensions) = make_packed_array_type_expr element dimensions.items
+type_call (MakeUnpackedArrayTypeExpr element dimensions) = make_unpacked_array_type_expr element dimensions.items

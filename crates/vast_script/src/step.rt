@@ -101,6 +101,8 @@ pub enum TypeStep {
     MakeBitVectorTypeExpr(usize, bool),
     MakePackedArrayType(usize, Vec<i64>),
     MakeUnpackedArrayType(usize, Vec<i64>),
+    MakePackedArrayTypeExpr(usize, Vec<usize>),
+    MakeUnpackedArrayTypeExpr(usize, Vec<usize>),
 }
 
 /// Calls of the file's items, and of modules with their ports, declarations and parameters.

@@ -2,13 +2,14 @@
 
 ghost use Rattle.vast_script.specs.Outcome.{Replays};
 ghost use Rattle.vast_script.specs.declared.step.TypeStep.TheVariants.{MakeBitVectorTypeExpr};
-ghost use Rattle.vast_script.specs.Types.{make_packed_array_type, make_unpacked_array_type, type_call};
+ghost use Rattle.vast_script.specs.Types.{make_packed_array_type, make_unpacked_array_type, make_packed_array_type_expr, make_unpacked_array_type_expr, type_call};
 
 use crate::answer::Answer;
 use crate::answers::data_type;
 use crate::arguments::one;
 use crate::conditions::are_dimensions;
 use crate::fault::StepFault;
+use crate::lists::{one_and_many, references};
 use crate::step::TypeStep;
 use xlsynth_vast::{Expr, VastDataType, VastFile};
 
@@ -60,6 +61,44 @@ fn unpacked_array(
     data_type(file.make_unpacked_array_type(element, dimensions))
 }
 
+fn packed_array_expr(
+    file: &mut VastFile,
+    answers: &[Answer],
+    element: usize,
+    dimensions: &[usize],
+) -> Result<Answer, StepFault>
+    ensures { Replays file.old file.new answers.now result
+        (make_packed_array_type_expr element dimensions.now) }
+{
+    let (element, dimensions): (VastDataType, Vec<Expr>) = one_and_many(
+        file, answers, element, dimensions,
+    )?;
+    let dimensions = references(file, &dimensions)?;
+    if !(file.type_can_be_packed(element) && file.dimensions_are_usable(&dimensions)) {
+        return Err(StepFault::Condition);
+    }
+    data_type(file.make_packed_array_type_expr(element, &dimensions))
+}
+
+fn unpacked_array_expr(
+    file: &mut VastFile,
+    answers: &[Answer],
+    element: usize,
+    dimensions: &[usize],
+) -> Result<Answer, StepFault>
+    ensures { Replays file.old file.new answers.now result
+        (make_unpacked_array_type_expr element dimensions.now) }
+{
+    let (element, dimensions): (VastDataType, Vec<Expr>) = one_and_many(
+        file, answers, element, dimensions,
+    )?;
+    let dimensions = references(file, &dimensions)?;
+    if !file.dimensions_are_usable(&dimensions) {
+        return Err(StepFault::Condition);
+    }
+    data_type(file.make_unpacked_array_type_expr(element, &dimensions))
+}
+
 /// Makes the call, over the answers so far.
 pub(crate) fn replay_type(
     file: &mut VastFile,
@@ -90,6 +129,12 @@ pub(crate) fn replay_type(
         }
         TypeStep::MakeUnpackedArrayType(element, dimensions) => {
             unpacked_array(file, answers, *element, dimensions)
+        }
+        TypeStep::MakePackedArrayTypeExpr(element, dimensions) => {
+            packed_array_expr(file, answers, *element, dimensions)
+        }
+        TypeStep::MakeUnpackedArrayTypeExpr(element, dimensions) => {
+            unpacked_array_expr(file, answers, *element, dimensions)
         }
     }
 }

@@ -10,13 +10,13 @@ use Rattle.vast_core.specs.declared.handle.ModulePort.{ModulePort}
 use Rattle.vast_core.specs.declared.node.ExprNode.{ExprNode}
 use Rattle.vast_core.specs.declared.node.ExprNode.TheVariants.{Name}
 use Rattle.vast_core.specs.declared.bits.BitCountFault.{BitCountFault}
-use Rattle.vast_core.specs.declared.bits.BitCountFault.TheVariants.{Overflow, Symbolic, External}
+use Rattle.vast_core.specs.declared.bits.BitCountFault.TheVariants.{Overflow, Symbolic, External, Dimension}
 use Rattle.vast_core.specs.Nodes.{Nodes, Root, ExprRoot, TypeRoot, is_name, is_root_of, expr_of_root, expr_tree, expr_in}
-use Rattle.vast_core.specs.BitCount.{bit_count, base_bits, multiple, Exceeds, CountRefused, product, dimensions_of}
+use Rattle.vast_core.specs.BitCount.{bit_count, base_bits, unless_unknown, unknown_dimension, multiple, Exceeds, CountRefused, product, dimensions_of}
 use Rattle.vast_literal.specs.Shape.{base_of}
 use Rattle.vast_core.specs.Bench.{Bench, has_root, tree_of, type_of}
 use Rattle.vast_core.proofs.Lists.{All-cons, All-head, All-tail}
-use Rattle.xlsynth_vast.proofs.Widths.{unknown-external}
+use Rattle.xlsynth_vast.proofs.Widths.{unless-none, unknown-external}
 use Rattle.xlsynth_vast.specs.Inspections.{known_bits, type_at, width_at}
 
 -- A root that is a name is no other node.
@@ -43,9 +43,10 @@ bits-exceeding (Some (negsuc n)) h = absurd (omega (arith, ints))
 
 pub bits-refused : (b : Bench) (t : TypeTree) (fault : BitCountFault) → CountRefused b t fault → known_bits (bit_count t) ≡ pos 0
 unfolding bit_count
-bits-refused b t Overflow h = bits-exceeding (multiple (product (dimensions_of t)) (base_bits (base_of t))) h
-bits-refused b t (Symbolic e) h = rw h.2 refl
-bits-refused b t (External u) h = rw (unknown-external (base_of t) h.2) refl
+bits-refused b t Overflow h = bits-exceeding (unless_unknown (unknown_dimension t) (multiple (product (dimensions_of t)) (base_bits (base_of t)))) h
+bits-refused b t (Symbolic e) h = rw (h.2, unless-none (unknown_dimension t)) refl
+bits-refused b t (External u) h = rw (unknown-external (base_of t) h.2, unless-none (unknown_dimension t)) refl
+bits-refused b t (Dimension e) h = rw h.1 refl
 
 pub width_refused : (b : Bench) (p : ModulePort) (t : VastDataType) (fault : BitCountFault) → type_at b p ≡ Some t → CountRefused b (type_of b t) fault → width_at b p ≡ Some (pos 0)
 width_refused b p t fault e h = rw e (ap Some (bits-refused b (type_of b t) fault h))

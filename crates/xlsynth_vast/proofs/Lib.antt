@@ -1,5 +1,6 @@
 pub mod Selectors
 pub mod Widths
+pub mod Dimensions
 pub mod Taken
 pub mod Tests
 pub mod WrongEvents

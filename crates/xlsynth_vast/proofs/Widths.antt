@@ -1,20 +1,20 @@
 -- Why a type has no width and no bit count: which words each case has.
-use Rattle.std.proofs.Common.{◌≡◌, ℕ, List, IsTrue, Option, Some, None, Result, Ok, Err, IfOk, MatchResult, String, string_bytes, ◌++◌, true≢false, append_assoc, subst, refl, ap, ◌∙◌, sym, codes}
+use Rattle.std.proofs.Common.{◌≡◌, ℕ, ℤ, List, IsTrue, IsSome, Option, Some, None, Result, Ok, Err, IfOk, MatchResult, String, string_bytes, ◌++◌, true≢false, append_assoc, subst, refl, ap, ◌∙◌, sym, codes}
 use Rattle.std.specs.declared.alloc.AllocError.{AllocError}
 use Rattle.std.specs.declared.alloc.Global.{Global}
-use Rattle.vast_literal.specs.Tree.{ExprTree, TypeTree, VectorTree, ExternalTree, PackageTree, SomeExpr, NoExpr}
+use Rattle.vast_literal.specs.Tree.{ExprTree, TypeTree, VectorTree, ExternalTree, PackageTree, MaybeExpr, SomeExpr, NoExpr}
 use Rattle.vast_literal.specs.declared.error.VastFault.{VastFault}
 use Rattle.vast_literal.specs.declared.error.VastFault.TheVariants.{Refused, Memory}
 use Rattle.vast_literal.specs.Fault.{HasText, OnlyRefusedBy}
 use Rattle.vast_core.specs.Types.{vector_width}
 use Rattle.vast_literal.specs.Shape.{base_of}
-use Rattle.vast_core.specs.BitCount.{base_bits, declared_bits, bit_count}
+use Rattle.vast_core.specs.BitCount.{base_bits, declared_bits, unless_unknown, unknown_dimension, bit_count}
 use Rattle.vast_literal.specs.Shape.{is_external}
 use Rattle.vast_print.specs.declared.refusal.Refusal.{Refusal}
 use Rattle.vast_print.specs.Printed.{Printed}
 use Rattle.vast_print.specs.Text.{expr_text}
 use Rattle.vast_print.specs.Emits.{EmitsText, words_of}
-use Rattle.xlsynth_vast.specs.Widths.{unless_refused, no_literal, no_known_width, undeclared, uncounted, declared_width, flat_bits}
+use Rattle.xlsynth_vast.specs.Widths.{unless_refused, no_literal, no_known_width, undeclared, uncounted, unknown_bits, declared_width, flat_bits}
 
 -- The refusal of a text that was made, or out of memory where it was not.
 pub worded :
@@ -72,9 +72,13 @@ symbolic_width t e h none = rw none (ap Err (symbolic (base_of t) e h).0)
 pub no_width : (t : TypeTree) → vector_width (base_of t) ≡ NoExpr → declared_bits (base_of t) ≡ None → declared_width t ≡ Err (codes "data type does not have a declared bit-vector width")
 no_width t h none = rw none (ap Err (without_width (base_of t) h))
 
+pub unless-none : (size : MaybeExpr) → unless_unknown size None ≡ None
+unless-none NoExpr = refl
+unless-none (SomeExpr size) = refl
+
 pub symbolic_count : (t : TypeTree) (e : ExprTree) → vector_width (base_of t) ≡ SomeExpr e → base_bits (base_of t) ≡ None → flat_bits t ≡ Err (no_literal (expr_text e))
-unfolding bit_count
-symbolic_count t e h none = rw none (ap Err (symbolic (base_of t) e h).1)
+unfolding bit_count unknown_bits
+symbolic_count t e h none = rw (none, unless-none (unknown_dimension t)) (ap Err (symbolic (base_of t) e h).1)
 
 pub unknown-external : (t : TypeTree) → IsTrue (is_external t) → base_bits t ≡ None
 unknown-external (ExternalTree name) h = refl
@@ -82,5 +86,14 @@ unknown-external (PackageTree package_name name) h = refl
 unknown-external _ h = absurd (true≢false (sym h))
 
 pub external_count : (t u : TypeTree) → u ≡ base_of t → IsTrue (is_external (base_of t)) → flat_bits t ≡ Err (uncounted u)
+unfolding bit_count unknown_bits
+external_count t u same h = rw (unknown-external (base_of t) h, unless-none (unknown_dimension t), same) refl
+
+dimension_words : (bits : Option ℤ) (base : TypeTree) (e : ExprTree) → IsSome bits → unknown_bits bits base (SomeExpr e) ≡ no_literal (expr_text e)
+unfolding unknown_bits
+dimension_words None base e h = absurd cc
+dimension_words (Some bits) base e h = refl
+
+pub dimension_count : (t : TypeTree) (e : ExprTree) → unknown_dimension t ≡ SomeExpr e → IsSome (base_bits (base_of t)) → flat_bits t ≡ Err (no_literal (expr_text e))
 unfolding bit_count
-external_count t u same h = rw (unknown-external (base_of t) h, same) refl
+dimension_count t e h some = rw h (ap Err (dimension_words (base_bits (base_of t)) (base_of t) e some))

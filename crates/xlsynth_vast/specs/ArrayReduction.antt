@@ -5,8 +5,8 @@ use Rattle.std.specs.Int.{is_positive}
 use Rattle.std.specs.Ordering.{int_eq}
 use Rattle.std.specs.Cmp.Lexicographic.{pointwise}
 use Rattle.std.specs.Fmt.{signed_decimal}
-use Rattle.vast_literal.specs.Tree.{ExprTree, NameTree, IndexTree, TypeCastTree, TypeTree, PackedTree, MaybeType, Untyped, Typed}
-use Rattle.vast_core.specs.BitCount.{product}
+use Rattle.vast_literal.specs.Tree.{ExprTree, NameTree, IndexTree, TypeCastTree, TypeTree, PackedTree, MaybeType, Untyped, Typed, MaybeExpr, NoExpr, SomeExpr}
+use Rattle.vast_core.specs.BitCount.{product, size_values, unknown_dimension}
 use Rattle.vast_core.specs.Growth.{known_literal}
 use Rattle.vast_literal.specs.Literal.{and_then}
 use Rattle.xlsynth_vast.specs.Literals.{selector_text}
@@ -16,18 +16,26 @@ use Rattle.xlsynth_vast.specs.Reductions.{bitwise_reduction}
 
 -- The dimensions of packed arrays within one another, from the outermost. Any other type has none.
 abbrev pub packed_dimensions : TypeTree → List ℤ
-packed_dimensions (PackedTree element dimensions) = dimensions ++ packed_dimensions element
+packed_dimensions (PackedTree element dimensions) = size_values dimensions ++ packed_dimensions element
 packed_dimensions _ = []
+
+abbrev pub unless_unknown : MaybeExpr → List ℤ → Option (List ℤ)
+unless_unknown NoExpr dimensions = Some dimensions
+unless_unknown (SomeExpr size) dimensions = None
+
+-- The same where each dimension of the type has a value; else they aren't known.
+abbrev pub type_dimensions : TypeTree → Option (List ℤ)
+type_dimensions type = unless_unknown (unknown_dimension type) (packed_dimensions type)
 
 abbrev pub declared_dimensions : MaybeType → Option (List ℤ)
 declared_dimensions Untyped = None
-declared_dimensions (Typed type) = Some (packed_dimensions type)
+declared_dimensions (Typed type) = type_dimensions type
 
 -- Those of a name's type or of the type of a cast; after an index they are without the first. Of other expressions
 -- nothing is known.
 abbrev pub known_dimensions : ExprTree → Option (List ℤ)
 known_dimensions (NameTree name type) = declared_dimensions type
-known_dimensions (TypeCastTree type operand) = Some (packed_dimensions type)
+known_dimensions (TypeCastTree type operand) = type_dimensions type
 known_dimensions (IndexTree subject index) = option_map (drop 1) (known_dimensions subject)
 known_dimensions _ = None
 

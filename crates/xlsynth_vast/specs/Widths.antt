@@ -1,9 +1,9 @@
 -- The widths and bit counts that calls return: a number, or the words of a refusal.
 use Rattle.std.specs.Prelude.{ℕ, ℤ, pos, ◌^◌, int_lt, List, [], ◌++◌, codes, Option, Some, None, Result, Ok, Err, if◌then◌else◌}
 use Rattle.std.specs.Option.{ok_or}
-use Rattle.vast_literal.specs.Tree.{TypeTree, VectorTree, ExternalTree, PackageTree}
+use Rattle.vast_literal.specs.Tree.{TypeTree, VectorTree, ExternalTree, PackageTree, MaybeExpr, NoExpr, SomeExpr}
 use Rattle.vast_literal.specs.Shape.{base_of}
-use Rattle.vast_core.specs.BitCount.{width_value, bit_count}
+use Rattle.vast_core.specs.BitCount.{base_bits, unknown_dimension, width_value, bit_count}
 use Rattle.vast_print.specs.declared.refusal.Refusal.{Refusal}
 use Rattle.vast_print.specs.Printed.{Printed, refusal_text}
 use Rattle.vast_print.specs.Text.{expr_text}
@@ -41,6 +41,12 @@ limited (Err words) = Err words
 abbrev pub declared_width : TypeTree → Result ℤ (List ℕ)
 declared_width t = ok_or (width_value t) (undeclared (base_of t))
 
--- The bits of a type: those of the type within its arrays, if these are known, times all dimensions.
+-- Why the bits of a type aren't known: the bits of the type within its arrays, or else a dimension.
+unfoldable pub unknown_bits : (bits : Option ℤ) (base : TypeTree) (dimension : MaybeExpr) → List ℕ
+unknown_bits None base dimension = uncounted base
+unknown_bits (Some bits) base NoExpr = []
+unknown_bits (Some bits) base (SomeExpr size) = no_literal (expr_text size)
+
+-- The bits of a type: those of the type within its arrays, times all dimensions, if all of these are known.
 abbrev pub flat_bits : TypeTree → Result ℤ (List ℕ)
-flat_bits t = limited (ok_or (bit_count t) (uncounted (base_of t)))
+flat_bits t = limited (ok_or (bit_count t) (unknown_bits (base_bits (base_of t)) (base_of t) (unknown_dimension t)))

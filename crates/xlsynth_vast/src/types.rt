@@ -1,21 +1,42 @@
 //! Types.
 
-ghost use Rattle.std.specs.Prelude.{◌≡◌, ◌≤ℤ◌, ◌↔◌, pos, false, IsTrue, IfSome};
+ghost use Rattle.std.specs.Prelude.{◌≡◌, ◌≤ℤ◌, ◌↔◌, pos, false, map, All, IsTrue, IfOk, IfSome};
 ghost use Rattle.vast_literal.specs.Tree.{ScalarTree, IntegerTree, IntTree, ExternalTree, PackageTree, VectorTree, PackedTree, UnpackedTree};
-ghost use Rattle.vast_core.specs.Types.{IsUsableWidth, is_packable, is_castable, is_signed, width_of, AreDimensions, literal_value};
-ghost use Rattle.vast_core.specs.Bench.{OwnsExpr, OwnsType, tree_of, maybe_tree_of, type_of};
-ghost use Rattle.vast_core.specs.Growth.{Builds, next_type, with_type};
+ghost use Rattle.vast_core.specs.Types.{IsUsableWidth, is_packable, is_castable, is_signed, width_of, AreDimensions, AreSizes};
+ghost use Rattle.vast_literal.specs.Shape.{literal_value};
+ghost use Rattle.vast_core.specs.declared.node.Dimension.TheVariants.{Count, Size};
+ghost use Rattle.vast_core.specs.Bench.{OwnsExpr, OwnsType, OwnsDimension, tree_of, trees_of, maybe_tree_of, type_of};
+ghost use Rattle.vast_core.specs.Internal.BitCount.{sizes_of};
+ghost use Rattle.vast_core.specs.Growth.{Builds, counts, next_type, with_type};
 ghost use Rattle.xlsynth_vast.specs.Keeps.{Keeps};
-ghost use Rattle.xlsynth_vast.specs.Conditions.{is_usable_width};
+ghost use Rattle.xlsynth_vast.specs.Conditions.{is_usable_width, each_usable, are_usable_dimensions};
 ghost use Rattle.xlsynth_vast.specs.Equations.{next_bit_vector, with_bit_vector};
 ghost use Rattle.xlsynth_vast.specs.Refusals.{AnswersBy};
 ghost use Rattle.xlsynth_vast.specs.Widths.{declared_width, flat_bits};
 
 use crate::file::VastFile;
 use crate::refusals::{count_exceeds, no_declared_width, no_known_width, no_literal};
-use std::alloc::AllocError;
-use vast_core::{BitCountFault, Expr, PackageName, TypeNode, VastDataType, WidthFault};
+use std::alloc::{AllocError, Global};
+use vast_core::{BitCountFault, Dimension, Expr, PackageName, TypeNode, VastDataType, WidthFault};
 use vast_literal::VastFault;
+
+fn counts_of(dimensions: &[i64], alloc: Global) -> Result<Vec<Dimension>, AllocError>
+    ensures { IfOk result (λ made. made.items ≡ map Count dimensions.now) }
+{
+    dimensions
+        .iter()
+        .map(|count| Dimension::Count(*count))
+        .collect(alloc)
+}
+
+fn sizes_of(dimensions: &[&Expr], alloc: Global) -> Result<Vec<Dimension>, AllocError>
+    ensures { IfOk result (λ made. made.items ≡ map (λ e. Size e.now) dimensions.now) }
+{
+    dimensions
+        .iter()
+        .map(|size| Dimension::Size(**size))
+        .collect(alloc)
+}
 
 impl VastFile {
     /// The type of one bit.
@@ -130,6 +151,7 @@ impl VastFile {
     ///
     /// # Errors
     /// `AllocError` where a growth was refused; the file is unchanged.
+    #[tactic(auto, using(crate::proofs::Dimensions::dimensions))]
     pub fn make_packed_array_type(
         &mut self,
         element: VastDataType,
@@ -139,10 +161,10 @@ impl VastFile {
         requires packable { IsTrue (is_packable (type_of self.old element)) }
         requires dimensions { AreDimensions dimensions.now }
         ensures built { Builds self.old self.new result next_type
-            (λ b. with_type (PackedTree (type_of b element) dimensions.now) b) }
+            (λ b. with_type (PackedTree (type_of b element) (counts dimensions.now)) b) }
         ensures kept { Keeps self.old self.new }
     {
-        let dimensions = Vec::from_slice(self.ast.allocator(), dimensions)?;
+        let dimensions = self.counted(dimensions)?;
         self.push_type(TypeNode::Packed(element, dimensions))
     }
 
@@ -150,6 +172,7 @@ impl VastFile {
     ///
     /// # Errors
     /// `AllocError` where a growth was refused; the file is unchanged.
+    #[tactic(auto, using(crate::proofs::Dimensions::dimensions))]
     pub fn make_unpacked_array_type(
         &mut self,
         element: VastDataType,
@@ -158,11 +181,109 @@ impl VastFile {
         requires element { OwnsType self.old element }
         requires dimensions { AreDimensions dimensions.now }
         ensures built { Builds self.old self.new result next_type
-            (λ b. with_type (UnpackedTree (type_of b element) dimensions.now) b) }
+            (λ b. with_type (UnpackedTree (type_of b element) (counts dimensions.now)) b) }
         ensures kept { Keeps self.old self.new }
     {
-        let dimensions = Vec::from_slice(self.ast.allocator(), dimensions)?;
+        let dimensions = self.counted(dimensions)?;
         self.push_type(TypeNode::Unpacked(element, dimensions))
+    }
+
+    /// The packed array of elements of a type, each dimension as many as an expression says;
+    /// [`VastFile::dimensions_are_usable`] is the test of these.
+    ///
+    /// # Errors
+    /// `AllocError` where a growth was refused; the file is unchanged.
+    #[tactic(auto, using(crate::proofs::Dimensions::dimensions))]
+    pub fn make_packed_array_type_expr(
+        &mut self,
+        element: VastDataType,
+        dimensions: &[&Expr],
+    ) -> Result<VastDataType, AllocError>
+        requires element { OwnsType self.old element }
+        requires packable { IsTrue (is_packable (type_of self.old element)) }
+        requires dimensions { All (λ e. OwnsExpr self.old e.now) dimensions.now }
+        requires usable { AreSizes (trees_of self.old (map (λ e. e.now) dimensions.now)) }
+        ensures built { Builds self.old self.new result next_type
+            (λ b. with_type (PackedTree (type_of b element)
+            (trees_of b (map (λ e. e.now) dimensions.now))) b) }
+        ensures kept { Keeps self.old self.new }
+    {
+        let sizes = self.sized(dimensions)?;
+        self.push_type(TypeNode::Packed(element, sizes))
+    }
+
+    /// The unpacked array of elements of a type, each dimension as many as an expression says;
+    /// [`VastFile::dimensions_are_usable`] is the test of these.
+    ///
+    /// # Errors
+    /// `AllocError` where a growth was refused; the file is unchanged.
+    #[tactic(auto, using(crate::proofs::Dimensions::dimensions))]
+    pub fn make_unpacked_array_type_expr(
+        &mut self,
+        element: VastDataType,
+        dimensions: &[&Expr],
+    ) -> Result<VastDataType, AllocError>
+        requires element { OwnsType self.old element }
+        requires dimensions { All (λ e. OwnsExpr self.old e.now) dimensions.now }
+        requires usable { AreSizes (trees_of self.old (map (λ e. e.now) dimensions.now)) }
+        ensures built { Builds self.old self.new result next_type
+            (λ b. with_type (UnpackedTree (type_of b element)
+            (trees_of b (map (λ e. e.now) dimensions.now))) b) }
+        ensures kept { Keeps self.old self.new }
+    {
+        let sizes = self.sized(dimensions)?;
+        self.push_type(TypeNode::Unpacked(element, sizes))
+    }
+
+    /// Dimensions that are numbers.
+    #[tactic(auto, using(crate::proofs::Dimensions::dimensions))]
+    fn counted(&self, dimensions: &[i64]) -> Result<Vec<Dimension>, AllocError>
+        ensures sizes { IfOk result
+            (λ made. sizes_of self.now made.items ≡ counts dimensions.now) }
+        ensures owned { IfOk result (λ made. All (OwnsDimension self.now) made.items) }
+    {
+        let made = counts_of(dimensions, self.ast.allocator())?;
+        Ok(made)
+    }
+
+    /// Dimensions that are expressions.
+    #[tactic(auto, using(crate::proofs::Dimensions::dimensions))]
+    fn sized(&self, dimensions: &[&Expr]) -> Result<Vec<Dimension>, AllocError>
+        requires { All (λ e. OwnsExpr self.now e.now) dimensions.now }
+        ensures sizes { IfOk result (λ made. sizes_of self.now made.items
+            ≡ trees_of self.now (map (λ e. e.now) dimensions.now)) }
+        ensures owned { IfOk result (λ made. All (OwnsDimension self.now) made.items) }
+    {
+        let made = sizes_of(dimensions, self.ast.allocator())?;
+        Ok(made)
+    }
+
+    #[tactic(auto, using(crate::proofs::Dimensions::dimensions))]
+    fn each_is_usable(&self, dimensions: &[&Expr]) -> bool
+        requires { All (λ e. OwnsExpr self.now e.now) dimensions.now }
+        ensures { result ≡ each_usable (trees_of self.now (map (λ e. e.now) dimensions.now)) }
+    {
+        for size in dimensions {
+            if !self.width_is_usable(size) {
+                return false;
+            }
+        }
+        true
+    }
+
+    /// Whether expressions may be an array's dimensions: there is one, and none is a literal with a value below 1.
+    #[tactic(auto, using(crate::proofs::Dimensions::dimensions))]
+    pub fn dimensions_are_usable(&self, dimensions: &[&Expr]) -> bool
+        requires { All (λ e. OwnsExpr self.now e.now) dimensions.now }
+        ensures usable { IsTrue result
+            → AreSizes (trees_of self.now (map (λ e. e.now) dimensions.now)) }
+        ensures test { result ≡ are_usable_dimensions (trees_of self.now
+            (map (λ e. e.now) dimensions.now)) }
+    {
+        if dimensions.is_empty() {
+            return false;
+        }
+        self.each_is_usable(dimensions)
     }
 
     /// Whether the expression may be a vector's width: it isn't a literal with a value below 1.
@@ -233,8 +354,9 @@ impl VastFile {
     /// # Errors
     /// `Refused` where there is no such number. First come the refusals of the type within: any other vector as in
     /// [`VastFile::type_width_as_int64`], and a type that is declared elsewhere by ``external type `{name}` has no
-    /// known bit width``, its package and `::` before the name; then `array bit count exceeds i64`. `Memory` where
-    /// memory for the words was refused.
+    /// known bit width``, its package and `::` before the name. Then comes that of the first dimension that is no
+    /// literal with a value, as of a vector's width; then `array bit count exceeds i64`. `Memory` where memory for the
+    /// words was refused.
     pub fn type_flat_bit_count_as_int64(&self, data_type: VastDataType) -> Result<i64, VastFault>
         requires { OwnsType self.now data_type }
         ensures { AnswersBy (flat_bits (type_of self.now data_type)) result }
@@ -244,6 +366,7 @@ impl VastFile {
             Err(BitCountFault::Overflow) => Err(count_exceeds(&self.ast)),
             Err(BitCountFault::Symbolic(width)) => Err(no_literal(&self.ast, width)),
             Err(BitCountFault::External(base)) => Err(no_known_width(&self.ast, base)),
+            Err(BitCountFault::Dimension(size)) => Err(no_literal(&self.ast, size)),
         }
     }
 }

@@ -4,7 +4,7 @@
 
 use crate::answers::{format_of, kind_of, Answer, Answers, Fault};
 use crate::form::{Argument, Line};
-use xlsynth_vast::{Expr, VastFile};
+use xlsynth_vast::{Expr, VastFile, VastFileExtension};
 
 /// Makes the call of the line.
 pub fn make(file: &mut VastFile, answers: &Answers, line: &Line) -> Result<Answer, Fault> {
@@ -336,6 +336,22 @@ pub fn make(file: &mut VastFile, answers: &Answers, line: &Line) -> Result<Answe
             let dimensions: Vec<i64> = words[1].list().iter().map(Argument::number).collect();
             Ok(Answer::VastDataType(
                 file.make_unpacked_array_type(element, &dimensions),
+            ))
+        }
+        "MakePackedArrayTypeExpr" => {
+            let element = answers.handle(&words[0])?;
+            let dimensions: Vec<Expr> = answers.handles(&words[1])?;
+            let dimensions: Vec<&Expr> = dimensions.iter().collect();
+            Ok(Answer::VastDataType(
+                file.make_packed_array_type_expr(element, &dimensions),
+            ))
+        }
+        "MakeUnpackedArrayTypeExpr" => {
+            let element = answers.handle(&words[0])?;
+            let dimensions: Vec<Expr> = answers.handles(&words[1])?;
+            let dimensions: Vec<&Expr> = dimensions.iter().collect();
+            Ok(Answer::VastDataType(
+                file.make_unpacked_array_type_expr(element, &dimensions),
             ))
         }
         "AddInclude" => {

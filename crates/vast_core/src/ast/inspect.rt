@@ -9,7 +9,7 @@ ghost use Rattle.vast_core.specs.View.{bench};
 
 use crate::ast::Ast;
 use crate::handle::{Expr, VastDataType};
-use crate::node::TypeNode;
+use crate::node::{Dimension, TypeNode};
 
 impl Ast {
     /// Whether the expression may be a vector's width: it isn't a literal with a value below 1.
@@ -46,7 +46,7 @@ impl Ast {
     }
 
     /// An array's element type and dimensions.
-    pub(crate) fn array(&self, data_type: VastDataType) -> Option<(VastDataType, &[i64])>
+    pub(crate) fn array(&self, data_type: VastDataType) -> Option<(VastDataType, &[Dimension])>
         requires { OwnsType (bench self.now) data_type }
         ensures some { IfSome result (λ a. IsArrayOf (bench self.now) data_type a.0 a.1.now) }
         ensures none { IfNone result (IsNoArray (type_of (bench self.now) data_type)) }

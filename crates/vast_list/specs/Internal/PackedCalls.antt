@@ -1,11 +1,11 @@
 -- Beside `specs/PackedCalls.antt`: what private contracts and proofs say, and no public one.
-use Rattle.std.specs.Prelude.{◌≡◌, ℕ, List, [], None, Some, Result, Ok, Err, slice_get}
+use Rattle.std.specs.Prelude.{◌≡◌, ℕ, List, [], None, Some, Result, Ok, Err}
 use Rattle.vast_list.specs.declared.fault.Fault.{Fault}
 use Rattle.vast_list.specs.declared.unpacked.PackedCall.{PackedCall}
 use Rattle.vast_list.specs.Packed.{ArePacked}
 use Rattle.vast_list.specs.CallArguments.{step_pieces}
 use Rattle.vast_list.specs.CallNames.{step_name}
-use Rattle.vast_list.specs.CallNumbers.{call_names}
+use Rattle.vast_list.specs.CallNumbers.{name_numbered}
 use Rattle.vast_list.specs.Internal.CallRows.{name_at}
 use Rattle.vast_list.specs.Internal.Packed.{IsNumberFront}
 use Rattle.vast_list.specs.declared.table.numbered.Place.{Place}
@@ -28,7 +28,7 @@ IsUnpacked skipped bytes packed =
 
 -- The number of the call of this place stands at the front, and this after it.
 abbrev pub IsPlaceFront : (bytes : List ℕ) → Place → (behind : List ℕ) → Type 0
-IsPlaceFront bytes place behind = (n : ℕ) × IsNumberFront bytes n behind × (name_at place ≡ slice_get call_names n)
+IsPlaceFront bytes place behind = (n : ℕ) × IsNumberFront bytes n behind × (name_at place ≡ name_numbered n)
 
 -- The arguments are those of this step, which the place is.
 abbrev pub IsStepAt : (skipped : List ℕ) → Place → (arguments : List ℕ) → ScriptStep → Type 0

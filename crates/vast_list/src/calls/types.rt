@@ -32,6 +32,8 @@ pub(super) fn data_type_step(
         6 => arguments.two(TypeStep::MakeBitVectorTypeExpr),
         7 => arguments.two(TypeStep::MakePackedArrayType),
         8 => arguments.two(TypeStep::MakeUnpackedArrayType),
+        9 => arguments.two(TypeStep::MakePackedArrayTypeExpr),
+        10 => arguments.two(TypeStep::MakeUnpackedArrayTypeExpr),
         _ => Err(arguments.misfit(Problem::UnknownCall)),
     }
 }

@@ -1,5 +1,7 @@
 //! Conditions of calls in words, by asking for each again.
 
+ghost use Rattle.vast_core.specs.Bench.{OwnsExpr};
+
 use crate::explain::conditions::modules::{module_condition, statement_condition};
 use std::alloc::AllocError;
 use vast_script::{Answer, ArtifactStep, ExpressionStep, Step, TypeStep, one};
@@ -67,23 +69,38 @@ fn type_condition(
             packed_condition(file, answers, *element, dimensions)
         }
         TypeStep::MakeUnpackedArrayType(_, dimensions) => dimensions_condition(file, dimensions),
+        TypeStep::MakePackedArrayTypeExpr(element, dimensions) => {
+            packed_sizes_condition(file, answers, *element, dimensions)
+        }
+        TypeStep::MakeUnpackedArrayTypeExpr(_, dimensions) => {
+            sizes_condition(file, answers, dimensions)
+        }
         _ => unknown(file),
     }
 }
 
-/// The width is printed where it has a text.
 fn width_condition(
     file: &VastFile,
     answers: &[Answer],
     width: usize,
 ) -> Result<String, AllocError> {
-    let alloc = file.allocator();
-    if let Ok(width) = one::<Expr>(file, answers, width) {
-        if let Ok(text) = file.emit_expression(&width) {
-            return format!(in alloc; "the width `{text}` cannot be used: it is a literal below 1");
-        }
+    match one::<Expr>(file, answers, width) {
+        Ok(width) => unusable(file, "width", &width),
+        Err(_) => words(file, "the width cannot be used: it is a literal below 1"),
     }
-    words(file, "the width cannot be used: it is a literal below 1")
+}
+
+/// The expression is printed where it has a text.
+fn unusable(file: &VastFile, noun: &str, width: &Expr) -> Result<String, AllocError>
+    requires { OwnsExpr file.now width.now }
+{
+    let alloc = file.allocator();
+    match file.emit_expression(width) {
+        Ok(text) => format!(in alloc;
+            "the {noun} `{text}` cannot be used: it is a literal below 1"
+        ),
+        Err(_) => format!(in alloc; "the {noun} cannot be used: it is a literal below 1"),
+    }
 }
 
 fn packed_condition(
@@ -92,15 +109,47 @@ fn packed_condition(
     element: usize,
     dimensions: &[i64],
 ) -> Result<String, AllocError> {
-    if let Ok(element) = one::<VastDataType>(file, answers, element) {
-        if !file.type_can_be_packed(element) {
-            return words(
-                file,
-                "the element is an unpacked array, an `integer` or an `int`, which cannot be packed",
-            );
-        }
+    if is_unpackable(file, answers, element) {
+        return words(file, UNPACKABLE);
     }
     dimensions_condition(file, dimensions)
+}
+
+fn packed_sizes_condition(
+    file: &VastFile,
+    answers: &[Answer],
+    element: usize,
+    dimensions: &[usize],
+) -> Result<String, AllocError> {
+    if is_unpackable(file, answers, element) {
+        return words(file, UNPACKABLE);
+    }
+    sizes_condition(file, answers, dimensions)
+}
+
+const UNPACKABLE: &str =
+    "the element is an unpacked array, an `integer` or an `int`, which cannot be packed";
+
+fn is_unpackable(file: &VastFile, answers: &[Answer], element: usize) -> bool {
+    match one::<VastDataType>(file, answers, element) {
+        Ok(element) => !file.type_can_be_packed(element),
+        Err(_) => false,
+    }
+}
+
+fn sizes_condition(
+    file: &VastFile,
+    answers: &[Answer],
+    dimensions: &[usize],
+) -> Result<String, AllocError> {
+    for dimension in dimensions {
+        if let Ok(size) = one::<Expr>(file, answers, *dimension) {
+            if !file.width_is_usable(&size) {
+                return unusable(file, "dimension", &size);
+            }
+        }
+    }
+    words(file, "no dimension is given")
 }
 
 fn dimensions_condition(file: &VastFile, dimensions: &[i64]) -> Result<String, AllocError> {

@@ -140,6 +140,8 @@ pub(super) const SENSITIVITY_LIST: Parameter = Parameter("sensitivity_list", kin
 
 pub(super) const SIGNED: Parameter = Parameter("signed", kinds::TRUTH);
 
+pub(super) const SIZES: Parameter = Parameter("dimensions", kinds::EXPRESSIONS);
+
 pub(super) const START: Parameter = Parameter("start", kinds::EXPRESSION);
 
 pub(super) const START_NUMBER: Parameter = Parameter("start", kinds::COUNT);

@@ -1,6 +1,6 @@
 //! The words for what stands in lists.
 
-use super::{Handle, Item, Kind, Range, Words};
+use super::{Handle, Item, Kind, Range};
 use std::fmt;
 use std::fmt::{Display, Formatter, Write};
 
@@ -170,60 +170,34 @@ impl Range {
     }
 }
 
-impl Words {
-    /// The words.
-    pub(crate) fn all(self) -> &'static [&'static str] {
-        match self {
-            Words::Format => &[
-                "Binary",
-                "Hex",
-                "SignedDecimal",
-                "UnsignedDecimal",
-                "UnsizedBinary",
-                "UnsizedDecimal",
-                "UnsizedHex",
-            ],
-            Words::DataKind => &[
-                "Reg",
-                "Wire",
-                "Logic",
-                "Integer",
-                "Int",
-                "User",
-                "UntypedEnum",
-                "Genvar",
-            ],
-        }
-    }
-}
-
-impl Item {
-    /// What it is, in words.
-    fn text(self) -> &'static str {
-        match self {
-            Item::Handle(handle) => handle.word(),
-            Item::Text => "text",
-            Item::Truth => "true/false",
-            Item::Integer(range) => range.text(),
-            Item::Word(Words::Format) => {
-                "Binary|Hex|SignedDecimal|UnsignedDecimal|UnsizedBinary|UnsizedDecimal|UnsizedHex"
-            }
-            Item::Word(Words::DataKind) => "Reg|Wire|Logic|Integer|Int|User|UntypedEnum|Genvar",
-            Item::Reset => "[ signal: expression, active_low: true/false ]",
-            Item::Register => {
-                "[ reg: expression, next: expression, reset_value: optional expression, enable: optional expression ]"
-            }
-            Item::Port => {
-                "[ name: text, direction: Input|Output|InOut, width: integer, signed: true/false, reference: text ]"
-            }
-        }
-    }
-}
-
 impl Display for Item {
     fn fmt<W: Write>(&self, f: &mut Formatter<W>) -> fmt::Result {
-        f.write_str(self.text())
+        match self {
+            Item::Handle(handle) => f.write_str(handle.word()),
+            Item::Text => f.write_str("text"),
+            Item::Truth => f.write_str("true/false"),
+            Item::Integer(range) => f.write_str(range.text()),
+            Item::Word(words) => write_words(words.choice().words(), f),
+            Item::Reset => f.write_str("[ signal: expression, active_low: true/false ]"),
+            Item::Register => f.write_str(
+                "[ reg: expression, next: expression, reset_value: optional expression, enable: optional expression ]",
+            ),
+            Item::Port => f.write_str(
+                "[ name: text, direction: Input|Output|InOut, width: integer, signed: true/false, reference: text ]",
+            ),
+        }
     }
+}
+
+/// Writes the words with a bar between two.
+fn write_words<W: Write>(words: &[&str], f: &mut Formatter<W>) -> fmt::Result {
+    for (place, word) in words.iter().enumerate() {
+        if place > 0 {
+            f.write_char('|')?;
+        }
+        f.write_str(word)?;
+    }
+    Ok(())
 }
 
 impl Display for Kind {

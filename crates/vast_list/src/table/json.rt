@@ -1,6 +1,7 @@
 //! The table as JSON, from which bindings can be made.
 
 use super::described::HANDLES;
+use super::numbered::GROUPS;
 use super::{CallRow, Group, Handle, Item, Kind, Parameter, Range, Words, groups};
 use std::alloc::{AllocError, Global};
 use std::fmt::Write;
@@ -12,8 +13,8 @@ pub fn calls_json(alloc: Global) -> Result<String, AllocError> {
     let mut text = String::from_str(alloc, "{\"kinds\":[")?;
     push_handles(&mut text)?;
     text.push_str("],\n\"calls\":[")?;
-    for group in groups() {
-        push_group(&group, &mut text)?;
+    for (place, group) in groups().iter().enumerate() {
+        push_group(place, group, &mut text)?;
     }
     text.push_str("]}\n")?;
     Ok(text)
@@ -61,19 +62,27 @@ fn push_word(word: &str, text: &mut String) -> Result<(), AllocError> {
     text.push('"')
 }
 
-fn push_group(group: &Group, text: &mut String) -> Result<(), AllocError> {
+/// The calls of the group of this place, with their numbers.
+fn push_group(place: usize, group: &Group, text: &mut String) -> Result<(), AllocError> {
+    let mut number = place;
     for call in group.calls {
         separate(text)?;
         text.push('\n')?;
-        push_call(group.name, call, text)?;
+        push_call(number, group.name, call, text)?;
+        number = number.saturating_add(GROUPS);
     }
     Ok(())
 }
 
-fn push_call(group: &str, call: &CallRow, text: &mut String) -> Result<(), AllocError> {
+fn push_call(
+    number: usize,
+    group: &str,
+    call: &CallRow,
+    text: &mut String,
+) -> Result<(), AllocError> {
     write!(
         text,
-        "{{\"call\":\"{}\",\"group\":\"{group}\",\"method\":\"",
+        "{{\"call\":\"{}\",\"number\":{number},\"group\":\"{group}\",\"method\":\"",
         call.name()
     )?;
     push_method(call.name(), text)?;
@@ -164,7 +173,7 @@ fn push_words(words: Words, text: &mut String) -> Result<(), AllocError> {
         Words::DataKind => "DataKind",
     };
     write!(text, "{{\"form\":\"word\",\"of\":\"{name}\",\"words\":[")?;
-    for word in words.all() {
+    for word in words.choice().words() {
         push_word(word, text)?;
     }
     text.push_str("]}")

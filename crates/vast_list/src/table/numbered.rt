@@ -1,13 +1,17 @@
 //! The calls by their numbers in packed lists.
 
-ghost use Rattle.std.specs.Prelude.{◌≡◌, IfSome, Some, slice_get};
-ghost use Rattle.vast_list.specs.CallNumbers.{IsNumberOf, call_names};
+ghost use Rattle.std.specs.Prelude.{◌≡◌, IfSome, Some};
+ghost use Rattle.vast_list.specs.CallNumbers.{IsNumberOf, name_numbered};
 ghost use Rattle.vast_list.specs.Internal.CallRows.{StandsAt, name_at, row_names};
 
 use super::{
     CallRow, artifacts, expressions, helpers, loops, modules, operators, questions, statements,
     types,
 };
+
+/// A call's number is so many times its place in its group, and the group's place. So a call keeps its number, which stands
+/// in packed lists, where one comes after it in its group.
+pub(crate) const GROUPS: usize = 16;
 
 /// A call: its group, and its place in it.
 #[derive(Clone, Copy)]
@@ -24,20 +28,21 @@ pub(crate) enum Place {
 }
 
 impl Place {
-    /// The call of this number. Numbers stand in packed lists, so each call keeps its own, and a new one gets the next.
+    /// The call of this number.
     pub(crate) fn numbered(number: usize) -> Option<Place>
-        ensures { IfSome result (λ place. name_at place ≡ slice_get call_names number) }
+        ensures { IfSome result (λ place. name_at place ≡ name_numbered number) }
     {
-        match number {
-            0..=30 => Some(Place::Operator(number)),
-            31..=56 => Some(Place::Expression(number - 31)),
-            57..=65 => Some(Place::DataType(number - 57)),
-            66..=85 => Some(Place::Module(number - 66)),
-            86..=100 => Some(Place::Loop(number - 86)),
-            101..=128 => Some(Place::Statement(number - 101)),
-            129..=143 => Some(Place::Artifact(number - 129)),
-            144..=162 => Some(Place::Question(number - 144)),
-            163..=167 => Some(Place::Helper(number - 163)),
+        let place = number / GROUPS;
+        match number % GROUPS {
+            0 => Some(Place::Operator(place)),
+            1 => Some(Place::Expression(place)),
+            2 => Some(Place::DataType(place)),
+            3 => Some(Place::Module(place)),
+            4 => Some(Place::Loop(place)),
+            5 => Some(Place::Statement(place)),
+            6 => Some(Place::Artifact(place)),
+            7 => Some(Place::Question(place)),
+            8 => Some(Place::Helper(place)),
             _ => None,
         }
     }
@@ -69,46 +74,53 @@ impl Place {
 
 /// The numbers of the calls by the lengths of their names.
 #[rattlefmt::skip]
-static OF_LENGTH: [&[u8]; 32] = [
+static OF_LENGTH: [&[u16]; 32] = [
     &[],
     &[],
     &[],
     &[],
     &[],
-    &[145],
-    &[19, 21, 23, 24, 25, 26, 76],
-    &[0, 7, 8, 9, 10, 11, 29, 30, 75, 129],
-    &[16, 17, 18, 38, 70, 72, 77],
-    &[12, 40, 41, 69, 71],
-    &[2, 20, 22, 46, 66],
-    &[31, 50, 53, 54, 59, 101, 108, 109, 126, 131, 152, 155],
-    &[5, 52, 55, 67, 80, 106, 119, 123, 147, 154],
-    &[4, 6, 14, 28, 42, 43, 51, 73, 82, 110, 124, 125, 128, 130, 149, 159, 163],
-    &[1, 3, 13, 15, 27, 57, 60, 68, 74, 88, 104, 107, 111, 118, 127, 156, 161, 162],
-    &[58, 86, 146],
-    &[45, 78, 83, 102, 105, 141, 157, 164, 167],
-    &[32, 34, 62, 117, 137, 150, 160, 166],
-    &[84, 97, 116, 122, 133, 140, 151, 153],
-    &[37, 64, 81, 90, 91, 115, 144],
-    &[47, 56, 96, 120, 121],
-    &[35, 44, 61, 63, 65, 79, 89, 92, 103],
-    &[36, 95, 136, 138],
-    &[39, 48, 85, 87, 143, 148],
-    &[98, 134, 142, 158],
-    &[33, 100, 135],
-    &[49, 93, 99, 112, 132],
+    &[23],
+    &[163, 304, 336, 368, 384, 400, 416],
+    &[0, 6, 112, 128, 144, 147, 160, 176, 464, 480],
+    &[67, 99, 113, 179, 256, 272, 288],
+    &[51, 83, 145, 161, 192],
+    &[3, 32, 241, 320, 352],
+    &[1, 5, 34, 38, 117, 133, 135, 183, 305, 353, 369, 405],
+    &[19, 55, 80, 85, 167, 227, 293, 337, 357, 385],
+    &[8, 22, 64, 87, 96, 115, 149, 177, 193, 224, 247, 259, 321, 373, 389, 437, 448],
+    &[2, 16, 35, 36, 48, 50, 53, 101, 131, 165, 199, 208, 240, 277, 279, 295, 421, 432],
+    &[4, 18, 39],
+    &[21, 24, 69, 72, 195, 198, 215, 225, 275],
+    &[17, 49, 56, 82, 103, 134, 261, 263],
+    &[70, 119, 151, 180, 182, 245, 291, 341],
+    &[7, 68, 84, 97, 114, 229, 243],
+    &[164, 257, 309, 325, 401],
+    &[37, 52, 65, 66, 98, 100, 130, 209, 211],
+    &[81, 118, 148, 150],
+    &[20, 71, 129, 146, 230, 273, 307],
+    &[86, 196, 214, 231],
+    &[33, 102, 162, 228],
+    &[54, 116, 181, 212, 289],
     &[],
-    &[114],
-    &[113, 139, 165],
+    &[213],
+    &[40, 166, 197],
     &[],
-    &[94],
+    &[132],
 ];
 
 /// The number of the call of the name, its sign included.
 pub(crate) fn number_of(name: &str) -> Option<usize>
     ensures { IfSome result (λ number. IsNumberOf number name.now) }
 {
-    for number in *OF_LENGTH.get(name.len())? {
+    number_among(OF_LENGTH.get(name.len())?, name)
+}
+
+/// The number of the call of the name, if it is one of these.
+fn number_among(numbers: &[u16], name: &str) -> Option<usize>
+    ensures { IfSome result (λ number. IsNumberOf number name.now) }
+{
+    for number in numbers {
         let number = usize::from(*number);
         match row_numbered(number) {
             Some(row) if row.name() == name => return Some(number),

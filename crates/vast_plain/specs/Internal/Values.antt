@@ -48,8 +48,8 @@ abbrev mutual
   -- The same of a type.
   pub type_weight : TypeTree → ℕ
   type_weight (VectorTree width value signed) = expr_weight width
-  type_weight (PackedTree element dimensions) = type_weight element
-  type_weight (UnpackedTree element dimensions) = type_weight element
+  type_weight (PackedTree element dimensions) = type_weight element + exprs_weight dimensions
+  type_weight (UnpackedTree element dimensions) = type_weight element + exprs_weight dimensions
   type_weight _ = 0
 
 -- What was looked at is plain exactly where nothing spoke against it and all that waits now is, if all that waited before

@@ -1,12 +1,13 @@
 -- The words that the writer writes between the parts of a tree.
-use Rattle.std.specs.Prelude.{ℕ, zero, suc, Bool, true, false, List, [], ◌∷◌, ◌++◌, codes}
+use Rattle.std.specs.Prelude.{ℕ, zero, suc, Bool, true, false, List, [], ◌++◌, codes}
+use Rattle.vast_literal.specs.Tree.{Exprs, NoExprs, MoreExprs}
 use Rattle.vast_literal.specs.declared.kind.DataKind.{DataKind as Kind}
 use Rattle.vast_literal.specs.declared.kind.DataKind.TheVariants.{Reg as RegKind, Wire as WireKind, Logic as LogicKind, Integer as IntegerKind, Int as IntKind, User as UserKind, UntypedEnum as UntypedEnumKind, Genvar as GenvarKind}
 
--- whether a text isn't empty
-abbrev pub has_text : List ℕ → Bool
-has_text [] = false
-has_text (c ∷ w) = true
+-- whether there is a dimension
+abbrev pub has_dimension : Exprs → Bool
+has_dimension NoExprs = false
+has_dimension (MoreExprs d ds) = true
 
 -- a kind word with the space after it
 abbrev pub kind_opening : Kind → List ℕ

@@ -32,8 +32,8 @@ pub data Letter : Type 0 where
   IntLetter : Bool → Letter
   ExternalLetter : List ℕ → Letter
   PackageLetter : List ℕ → List ℕ → Letter
-  PackedLetter : List ℤ → Letter
-  UnpackedLetter : List ℤ → Letter
+  PackedLetter : Letter
+  UnpackedLetter : Letter
   MissingTypeLetter : Letter
   UntypedLetter : Letter
   TypedLetter : Letter
@@ -82,8 +82,8 @@ abbrev mutual
   spell_type (IntTree signed) ls = IntLetter signed ∷ ls
   spell_type (ExternalTree name) ls = ExternalLetter name ∷ ls
   spell_type (PackageTree package_name name) ls = PackageLetter package_name name ∷ ls
-  spell_type (PackedTree element dimensions) ls = spell_type element (PackedLetter dimensions ∷ ls)
-  spell_type (UnpackedTree element dimensions) ls = spell_type element (UnpackedLetter dimensions ∷ ls)
+  spell_type (PackedTree element dimensions) ls = spell_type element (spell_exprs dimensions (PackedLetter ∷ ls))
+  spell_type (UnpackedTree element dimensions) ls = spell_type element (spell_exprs dimensions (UnpackedLetter ∷ ls))
   spell_type MissingType ls = MissingTypeLetter ∷ ls
 
   pub spell_maybe_type : MaybeType → List Letter → List Letter
@@ -128,8 +128,8 @@ take_letter (IntegerLetter signed) ps = AType (IntegerTree signed) ∷ ps
 take_letter (IntLetter signed) ps = AType (IntTree signed) ∷ ps
 take_letter (ExternalLetter name) ps = AType (ExternalTree name) ∷ ps
 take_letter (PackageLetter package_name name) ps = AType (PackageTree package_name name) ∷ ps
-take_letter (PackedLetter dimensions) (AType element ∷ ps) = AType (PackedTree element dimensions) ∷ ps
-take_letter (UnpackedLetter dimensions) (AType element ∷ ps) = AType (UnpackedTree element dimensions) ∷ ps
+take_letter PackedLetter (SomeExprs dimensions ∷ AType element ∷ ps) = AType (PackedTree element dimensions) ∷ ps
+take_letter UnpackedLetter (SomeExprs dimensions ∷ AType element ∷ ps) = AType (UnpackedTree element dimensions) ∷ ps
 take_letter MissingTypeLetter ps = AType MissingType ∷ ps
 take_letter UntypedLetter ps = AMaybeType Untyped ∷ ps
 take_letter TypedLetter (AType type ∷ ps) = AMaybeType (Typed type) ∷ ps
@@ -167,8 +167,8 @@ mutual
 
   pub type-read : (t : TypeTree) (ls : List Letter) (ps : List Part) → read_letters (spell_type t ls) ps ≡ read_letters ls (AType t ∷ ps)
   type-read (VectorTree width value signed) ls ps = expr-read width (VectorLetter value signed ∷ ls) ps
-  type-read (PackedTree element dimensions) ls ps = type-read element (PackedLetter dimensions ∷ ls) ps
-  type-read (UnpackedTree element dimensions) ls ps = type-read element (UnpackedLetter dimensions ∷ ls) ps
+  type-read (PackedTree element dimensions) ls ps = type-read element (spell_exprs dimensions (PackedLetter ∷ ls)) ps ∙ exprs-read dimensions (PackedLetter ∷ ls) (AType element ∷ ps)
+  type-read (UnpackedTree element dimensions) ls ps = type-read element (spell_exprs dimensions (UnpackedLetter ∷ ls)) ps ∙ exprs-read dimensions (UnpackedLetter ∷ ls) (AType element ∷ ps)
   type-read _ ls ps = refl
 
   pub maybe_type-read : (t : MaybeType) (ls : List Letter) (ps : List Part) → read_letters (spell_maybe_type t ls) ps ≡ read_letters ls (AMaybeType t ∷ ps)

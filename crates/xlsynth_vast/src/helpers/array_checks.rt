@@ -1,17 +1,18 @@
 //! The checks of an array that is to be reduced.
 
-ghost use Rattle.std.specs.Prelude.{◌≡◌, ◌^◌, ◌≤ℤ◌, pos, IfOk, IfNone, IfSome, IsTrue, string_bytes, drop, option_map};
+ghost use Rattle.std.specs.Prelude.{◌≡◌, ◌^◌, ◌≤ℤ◌, ◌++◌, pos, All, OnOk, IfOk, IfNone, IfSome, IsTrue, None, string_bytes, drop, option_map};
 ghost use Rattle.std.specs.List.{list_all};
 ghost use Rattle.std.specs.Int.{is_positive};
-ghost use Rattle.vast_core.specs.BitCount.{product};
-ghost use Rattle.vast_core.specs.Bench.{OwnsExpr, OwnsType, tree_of, type_of};
+ghost use Rattle.vast_core.specs.BitCount.{product, size_values};
+ghost use Rattle.vast_core.specs.Bench.{OwnsExpr, OwnsType, OwnsDimension, tree_of, type_of};
+ghost use Rattle.vast_core.specs.Internal.BitCount.{sizes_of};
 ghost use Rattle.vast_core.specs.View.{bench};
 ghost use Rattle.xlsynth_vast.specs.Internal.Reductions.{ChecksBy};
-ghost use Rattle.xlsynth_vast.specs.ArrayReduction.{packed_dimensions, known_dimensions, mismatch, any_dimension, each_positive, as_known, countable, reducible};
+ghost use Rattle.xlsynth_vast.specs.ArrayReduction.{packed_dimensions, type_dimensions, known_dimensions, mismatch, any_dimension, each_positive, as_known, countable, reducible};
 
 use crate::refusals::refusal;
 use std::alloc::{AllocError, Global};
-use vast_core::{Ast, Expr, ExprNode, TypeNode, VastDataType};
+use vast_core::{Ast, Dimension, Expr, ExprNode, TypeNode, VastDataType};
 use vast_literal::VastFault;
 
 fn check_any(alloc: Global, dimensions: &[i64]) -> Result<(), VastFault>
@@ -40,7 +41,7 @@ fn check_positive(alloc: Global, dimensions: &[i64]) -> Result<(), VastFault>
     Ok(())
 }
 
-/// The dimensions of a type's packed arrays, from the outermost.
+/// The dimensions of a type's packed arrays, from the outermost; one that has no value counts as 1.
 fn packed_dimensions(ast: &Ast, data_type: VastDataType) -> Result<Vec<i64>, AllocError>
     requires { OwnsType (bench ast.now) data_type }
     ensures { IfOk result
@@ -51,7 +52,7 @@ fn packed_dimensions(ast: &Ast, data_type: VastDataType) -> Result<Vec<i64>, All
     loop {
         match ast.data_type(array) {
             TypeNode::Packed(element, dimensions) => {
-                made.extend_from_slice(dimensions)?;
+                push_values(ast, dimensions, &mut made)?;
                 array = *element;
             }
             _ => return Ok(made),
@@ -59,14 +60,26 @@ fn packed_dimensions(ast: &Ast, data_type: VastDataType) -> Result<Vec<i64>, All
     }
 }
 
+/// The dimensions after those that were made, one that has no value as 1.
+fn push_values(ast: &Ast, dimensions: &[Dimension], made: &mut Vec<i64>) -> Result<(), AllocError>
+    requires { All (OwnsDimension (bench ast.now)) dimensions.now }
+    ensures { OnOk result (made.new.items
+        ≡ made.old.items ++ size_values (sizes_of (bench ast.now) dimensions.now)) }
+{
+    for dimension in dimensions {
+        made.push(ast.value_or_one(*dimension))?;
+    }
+    Ok(())
+}
+
 /// The type of the name or the cast under all indexes of an expression, with the number of the indexes; `None` where
 /// the dimensions aren't known.
 fn known_type(ast: &Ast, e: Expr) -> Option<(VastDataType, usize)>
     requires { OwnsExpr (bench ast.now) e }
     ensures owned { IfSome result (λ known. OwnsType (bench ast.now) known.0) }
-    ensures known { known_dimensions (tree_of (bench ast.now) e)
-        ≡ option_map (λ known. drop known.1 (packed_dimensions (type_of (bench ast.now) known.0)))
-        result }
+    ensures known { IfSome result (λ known. known_dimensions (tree_of (bench ast.now) e)
+        ≡ option_map (drop known.1) (type_dimensions (type_of (bench ast.now) known.0))) }
+    ensures unknown { IfNone result (known_dimensions (tree_of (bench ast.now) e) ≡ None) }
 {
     let mut named = e;
     let mut indexes = 0;
@@ -115,6 +128,9 @@ fn check_known(ast: &Ast, array: Expr, dimensions: &[i64]) -> Result<(), VastFau
     let Some((data_type, indexes)) = known_type(ast, array) else {
         return Ok(());
     };
+    if let Some(_) = ast.unknown_dimension(data_type) {
+        return Ok(());
+    }
     let declared = packed_dimensions(ast, data_type)?;
     let known = &declared[indexes.min(declared.len())..];
     if known != dimensions {

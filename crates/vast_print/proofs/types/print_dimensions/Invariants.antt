@@ -5,7 +5,6 @@ use Rattle.vast_core.specs.Bench.{OwnsType, type_of}
 use Rattle.vast_print.specs.Declaration.{unpacked_text}
 use Rattle.vast_print.specs.Output.{Unstopped, inline}
 use Rattle.vast_print.specs.Page.{written}
-use Rattle.vast_print.specs.Printed.{plain_text}
 use Rattle.vast_core.specs.View.{bench}
 use Rattle.vast_print.proofs.types.print_dimensions.Given as goal
 
@@ -13,7 +12,7 @@ abbrev pub invariant-loop-element : goal.invariant-loop-element
 invariant-loop-element l =
     record {
       owned : OwnsType (bench l.ast) l.inner;
-      same : inline l.fn.out.margin (Unstopped l.fn.out.draft) (written (plain_text (unpacked_text (bench l.ast).file_type (unpacked_dimensions (type_of (bench l.ast) l.fn.t))))) ≡ inline l.fn.out.margin (Unstopped l.out.draft) (written (plain_text (unpacked_text (bench l.ast).file_type (unpacked_dimensions (type_of (bench l.ast) l.inner)))));
+      same : inline l.fn.out.margin (Unstopped l.fn.out.draft) (written (unpacked_text (bench l.ast).file_type (unpacked_dimensions (type_of (bench l.ast) l.fn.t)))) ≡ inline l.fn.out.margin (Unstopped l.out.draft) (written (unpacked_text (bench l.ast).file_type (unpacked_dimensions (type_of (bench l.ast) l.inner))));
       margin : l.out.margin ≡ l.fn.out.margin;
     }
 

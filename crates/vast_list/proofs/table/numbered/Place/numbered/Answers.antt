@@ -1,57 +1,29 @@
-use Rattle.std.proofs.Common.{rules, arith, refl, ◌≤◌, ◌<◌, [], ◌++◌}
-use Rattle.vast_list.specs.CallNumbers.{operator_names, expression_names, type_names, module_names, loop_names, statement_names, artifact_names, question_names, helper_names}
-use Rattle.vast_list.proofs.CallRows.{in_front, between}
+use Rattle.vast_list.proofs.CallRows.{numbered_in}
 use Rattle.vast_list.proofs.table.numbered.Place.numbered.Goals as goal
 
-pub returns-in-0-to-30 : goal.returns-in-0-to-30
-returns-in-0-to-30 c =
-    let high : c.args.number < 31 = search rules in
-    in_front operator_names (expression_names ++ (type_names ++ (module_names ++ (loop_names ++ (statement_names ++ (artifact_names ++ (question_names ++ helper_names))))))) c.args.number high
+pub returns-in-0 : goal.returns-in-0
+returns-in-0 c = numbered_in c.args.number 0 c.in-0.is
 
-pub returns-in-31-to-56 : goal.returns-in-31-to-56
-returns-in-31-to-56 c =
-    let low : 31 ≤ c.args.number = search rules in
-    let high : c.args.number < 57 = search rules in
-    between operator_names expression_names (type_names ++ (module_names ++ (loop_names ++ (statement_names ++ (artifact_names ++ (question_names ++ helper_names)))))) c.args.number 31 refl low (omega (arith, low, high))
+pub returns-in-1 : goal.returns-in-1
+returns-in-1 c = numbered_in c.args.number 1 c.in-1.is
 
-pub returns-in-57-to-65 : goal.returns-in-57-to-65
-returns-in-57-to-65 c =
-    let low : 57 ≤ c.args.number = search rules in
-    let high : c.args.number < 66 = search rules in
-    between (operator_names ++ expression_names) type_names (module_names ++ (loop_names ++ (statement_names ++ (artifact_names ++ (question_names ++ helper_names))))) c.args.number 57 refl low (omega (arith, low, high))
+pub returns-in-2 : goal.returns-in-2
+returns-in-2 c = numbered_in c.args.number 2 c.in-2.is
 
-pub returns-in-66-to-85 : goal.returns-in-66-to-85
-returns-in-66-to-85 c =
-    let low : 66 ≤ c.args.number = search rules in
-    let high : c.args.number < 86 = search rules in
-    between (operator_names ++ (expression_names ++ type_names)) module_names (loop_names ++ (statement_names ++ (artifact_names ++ (question_names ++ helper_names)))) c.args.number 66 refl low (omega (arith, low, high))
+pub returns-in-3 : goal.returns-in-3
+returns-in-3 c = numbered_in c.args.number 3 c.in-3.is
 
-pub returns-in-86-to-100 : goal.returns-in-86-to-100
-returns-in-86-to-100 c =
-    let low : 86 ≤ c.args.number = search rules in
-    let high : c.args.number < 101 = search rules in
-    between (operator_names ++ (expression_names ++ (type_names ++ module_names))) loop_names (statement_names ++ (artifact_names ++ (question_names ++ helper_names))) c.args.number 86 refl low (omega (arith, low, high))
+pub returns-in-4 : goal.returns-in-4
+returns-in-4 c = numbered_in c.args.number 4 c.in-4.is
 
-pub returns-in-101-to-128 : goal.returns-in-101-to-128
-returns-in-101-to-128 c =
-    let low : 101 ≤ c.args.number = search rules in
-    let high : c.args.number < 129 = search rules in
-    between (operator_names ++ (expression_names ++ (type_names ++ (module_names ++ loop_names)))) statement_names (artifact_names ++ (question_names ++ helper_names)) c.args.number 101 refl low (omega (arith, low, high))
+pub returns-in-5 : goal.returns-in-5
+returns-in-5 c = numbered_in c.args.number 5 c.in-5.is
 
-pub returns-in-129-to-143 : goal.returns-in-129-to-143
-returns-in-129-to-143 c =
-    let low : 129 ≤ c.args.number = search rules in
-    let high : c.args.number < 144 = search rules in
-    between (operator_names ++ (expression_names ++ (type_names ++ (module_names ++ (loop_names ++ statement_names))))) artifact_names (question_names ++ helper_names) c.args.number 129 refl low (omega (arith, low, high))
+pub returns-in-6 : goal.returns-in-6
+returns-in-6 c = numbered_in c.args.number 6 c.in-6.is
 
-pub returns-in-144-to-162 : goal.returns-in-144-to-162
-returns-in-144-to-162 c =
-    let low : 144 ≤ c.args.number = search rules in
-    let high : c.args.number < 163 = search rules in
-    between (operator_names ++ (expression_names ++ (type_names ++ (module_names ++ (loop_names ++ (statement_names ++ artifact_names)))))) question_names helper_names c.args.number 144 refl low (omega (arith, low, high))
+pub returns-in-7 : goal.returns-in-7
+returns-in-7 c = numbered_in c.args.number 7 c.in-7.is
 
-pub returns-in-163-to-167 : goal.returns-in-163-to-167
-returns-in-163-to-167 c =
-    let low : 163 ≤ c.args.number = search rules in
-    let high : c.args.number < 168 = search rules in
-    between (operator_names ++ (expression_names ++ (type_names ++ (module_names ++ (loop_names ++ (statement_names ++ (artifact_names ++ question_names))))))) helper_names [] c.args.number 163 refl low (omega (arith, low, high))
+pub returns-in-8 : goal.returns-in-8
+returns-in-8 c = numbered_in c.args.number 8 c.in-8.is

@@ -6,11 +6,11 @@ use Rattle.vast_list.specs.Output.{IsOutput}
 use Rattle.vast_list.specs.Internal.Output.{IsAnswered, IsFinished}
 use Rattle.vast_list.specs.declared.output.ListOutput.{ListOutput}
 use Rattle.vast_list.proofs.Outputs.{is_output}
-use Rattle.vast_list.proofs.output.list_output.Goals as goal
+use Rattle.vast_list.proofs.output.titled_output.Goals as goal
 
 pub returns-in_ok-answering-in-Ok-clause-text : goal.returns-in_ok-answering-in-Ok-clause-text
 returns-in_ok-answering-in-Ok-clause-text c =
-    let title = c.args.list.now.title in
+    let title = c.args.title in
     let lines = line_texts c.args.list.now.lines.items in
     let behind = line_texts c.in-Ok.lines.now in
     let answering = c.in_ok-answering-in-Ok.answering in

@@ -1,0 +1,65 @@
+//! Calls that the original has none of.
+//!
+//! Written by tools/bindings_from_calls from the table of calls; not to be edited.
+
+use crate::calls::Call;
+use crate::file::VastFile;
+use crate::handles::{Expr, VastDataType};
+use crate::known::Width;
+
+/// Calls that the original has none of, as methods of a [`VastFile`] where this trait is in scope.
+pub trait VastFileExtension {
+    /// The packed array of elements of a type, each dimension as many as an expression says;
+    /// [`VastFile::dimensions_are_usable`] is the test of these.
+    ///
+    /// # Panics
+    /// With `a packed array has elements that can be packed, and dimensions of which none is below 1`, where
+    /// that is not so.
+    fn make_packed_array_type_expr(
+        &mut self,
+        element: VastDataType,
+        dimensions: &[&Expr],
+    ) -> VastDataType;
+
+    /// The unpacked array of elements of a type, each dimension as many as an expression says;
+    /// [`VastFile::dimensions_are_usable`] is the test of these.
+    ///
+    /// # Panics
+    /// With `an array has dimensions, of which none is below 1`, where that is not so.
+    fn make_unpacked_array_type_expr(
+        &mut self,
+        element: VastDataType,
+        dimensions: &[&Expr],
+    ) -> VastDataType;
+}
+
+impl VastFileExtension for VastFile {
+    fn make_packed_array_type_expr(
+        &mut self,
+        element: VastDataType,
+        dimensions: &[&Expr],
+    ) -> VastDataType {
+        let element_step = self.own(element.0);
+        let dimensions_steps = self.own_all(dimensions);
+        let made = self.made(false, Call::MakePackedArrayTypeExpr, "a packed array has elements that can be packed, and dimensions of which none is below 1", |calls| calls.step(element_step).steps(&dimensions_steps));
+        self.keep_width(made, Width::Element(element_step));
+        VastDataType(made)
+    }
+
+    fn make_unpacked_array_type_expr(
+        &mut self,
+        element: VastDataType,
+        dimensions: &[&Expr],
+    ) -> VastDataType {
+        let element_step = self.own(element.0);
+        let dimensions_steps = self.own_all(dimensions);
+        let made = self.made(
+            false,
+            Call::MakeUnpackedArrayTypeExpr,
+            "an array has dimensions, of which none is below 1",
+            |calls| calls.step(element_step).steps(&dimensions_steps),
+        );
+        self.keep_width(made, Width::Element(element_step));
+        VastDataType(made)
+    }
+}
