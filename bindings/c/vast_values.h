@@ -1159,6 +1159,36 @@ static inline void v_generate_add_macro_statement(vast_file *file, vast_loop gen
         file->fault = vast_generate_add_macro_statement(file, generate, statement);
 }
 
+/* `vast_generate_add_always_star`: an `always @*` with an empty block, as the loop's last
+ * member. */
+static inline vast_always v_generate_add_always_star(vast_file *file, vast_loop generate)
+{
+    vast_always answer = {{0, 0}};
+    if (file->fault == VAST_OK)
+        file->fault = vast_generate_add_always_star(file, generate, &answer);
+    return answer;
+}
+
+/* `vast_generate_add_always_latch`: an `always_latch` with an empty block, as the loop's last
+ * member. */
+static inline vast_always v_generate_add_always_latch(vast_file *file, vast_loop generate)
+{
+    vast_always answer = {{0, 0}};
+    if (file->fault == VAST_OK)
+        file->fault = vast_generate_add_always_latch(file, generate, &answer);
+    return answer;
+}
+
+/* `vast_generate_add_initial`: an `initial` block with an empty block, as the loop's last
+ * member. */
+static inline vast_always v_generate_add_initial(vast_file *file, vast_loop generate)
+{
+    vast_always answer = {{0, 0}};
+    if (file->fault == VAST_OK)
+        file->fault = vast_generate_add_initial(file, generate, &answer);
+    return answer;
+}
+
 /* `vast_add_function`: a function without inputs and locals and with an empty body, as the
  * module's last member. */
 static inline vast_function v_add_function(vast_file *file, vast_module owner, const char *name,
@@ -1460,6 +1490,33 @@ static inline void v_case_set_unique(vast_file *file, vast_case case_statement, 
 {
     if (file->fault == VAST_OK)
         file->fault = vast_case_set_unique(file, case_statement, unique);
+}
+
+/* `vast_add_always_star`: an `always @*` with an empty block, as the module's last member. */
+static inline vast_always v_add_always_star(vast_file *file, vast_module owner)
+{
+    vast_always answer = {{0, 0}};
+    if (file->fault == VAST_OK)
+        file->fault = vast_add_always_star(file, owner, &answer);
+    return answer;
+}
+
+/* `vast_add_always_latch`: an `always_latch` with an empty block, as the module's last member. */
+static inline vast_always v_add_always_latch(vast_file *file, vast_module owner)
+{
+    vast_always answer = {{0, 0}};
+    if (file->fault == VAST_OK)
+        file->fault = vast_add_always_latch(file, owner, &answer);
+    return answer;
+}
+
+/* `vast_add_initial`: an `initial` block with an empty block, as the module's last member. */
+static inline vast_always v_add_initial(vast_file *file, vast_module owner)
+{
+    vast_always answer = {{0, 0}};
+    if (file->fault == VAST_OK)
+        file->fault = vast_add_initial(file, owner, &answer);
+    return answer;
 }
 
 /* `vast_make_def`: a declaration's kind, type and name, which parameters can be made with. */

@@ -256,11 +256,10 @@ class Reader:
             self.take(";")
         elif self.take_kind("name"):
             self.instance()
-        elif self.take("always_comb"):
+        elif self.take("always_comb", "always_latch", "initial"):
             self.block()
-        elif self.take("always_ff", "always"):
-            self.need("@", "(")
-            self.joined_until(self.event, ")", "or")
+        elif self.sees("always_ff", "always"):
+            self.awaited()
             self.block()
         elif self.take("function"):
             self.function()
@@ -270,6 +269,15 @@ class Reader:
             self.loop()
         else:
             raise NoFile
+
+    def awaited(self):
+        may_be_all = self.take("always")
+        if not may_be_all:
+            self.need("always_ff")
+        self.need("@")
+        if not (may_be_all and self.take("*")):
+            self.need("(")
+            self.joined_until(self.event, ")", "or")
 
     def loop(self):
         self.need("(", "genvar")

@@ -28,7 +28,7 @@ use Rattle.vast_print.proofs.OutputLaws.{inline-word, indented-blank, indented-w
 use Rattle.vast_print.proofs.StatementLaws.{indented-assign, inline-assign, indented-arm, indented-comment, indented-blank-statement, indented-inline, indented-conditional, indented-case, inline-no-else, inline-else, inline-block-none, inline-block, inline-arm-block, inline-else-if-arm, indented-arms, indented-arms-none}
 use Rattle.vast_print.proofs.ListLaws.{indented-no-statements, indented-statements, indented-no-locals, indented-locals}
 use Rattle.vast_print.proofs.SeparatedLaws.{inline-no-inputs, inline-inputs, inline-no-events, inline-events}
-use Rattle.vast_print.proofs.MemberLaws.{indented-always, inline-always-ff, inline-always-at, inline-always-comb, indented-declaration, indented-comment-member, indented-blank-member, indented-inline-member, indented-macro, indented-local, indented-function, indented-function-member, indented-body-block, indented-body-casez, indented-loop, inline-loop, inline-label-text, inline-no-label, inline-input-text}
+use Rattle.vast_print.proofs.MemberLaws.{indented-always, inline-always-events, inline-always-alone, indented-declaration, indented-comment-member, indented-blank-member, indented-inline-member, indented-macro, indented-local, indented-function, indented-function-member, indented-body-block, indented-body-casez, indented-loop, inline-loop, inline-label-text, inline-no-label, inline-input-text}
 use Rattle.vast_print.proofs.ArenaLaws.{stops, declarations, listed}
 use Rattle.vast_print.proofs.Left.{left}
 
@@ -170,7 +170,7 @@ pub ruleset cases = (indented-case, indented-arms-none, indented-arms, indented-
 
 -- always blocks
 
-pub ruleset always = (indented-always, inline-always-ff, inline-always-at, inline-always-comb, stops)
+pub ruleset always = (indented-always, inline-always-events, inline-always-alone, stops)
 
 -- functions
 

@@ -33,6 +33,7 @@ pub enum Rule {
     Member,
     NetKind,
     NoWait,
+    Awaited,
     AnyMacro,
     MacroArguments,
     Expressions,

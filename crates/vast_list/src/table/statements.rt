@@ -7,7 +7,7 @@ use super::by_name::{
 use super::{CallRow, kinds};
 
 /// Calls of functions, always blocks, conditionals and statements.
-pub(crate) static CALLS: [CallRow; 28] = [
+pub(crate) static CALLS: [CallRow; 31] = [
     CallRow("AddFunction", &[OWNER, NAME, RESULT_TYPE], kinds::FUNCTION),
     CallRow(
         "FunctionAddInput",
@@ -68,4 +68,7 @@ pub(crate) static CALLS: [CallRow; 28] = [
     CallRow("CaseAddItem", &[CASE, PATTERN], kinds::BLOCK),
     CallRow("CaseAddDefault", &[CASE], kinds::BLOCK),
     CallRow("CaseSetUnique", &[CASE, UNIQUE], kinds::NOTHING),
+    CallRow("AddAlwaysStar", &[OWNER], kinds::ALWAYS),
+    CallRow("AddAlwaysLatch", &[OWNER], kinds::ALWAYS),
+    CallRow("AddInitial", &[OWNER], kinds::ALWAYS),
 ];

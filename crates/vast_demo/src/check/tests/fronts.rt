@@ -19,7 +19,7 @@ type Row = (
     &'static [Kind],
 );
 
-const ROWS: [Row; 10] = [
+const ROWS: [Row; 11] = [
     (
         "",
         "",
@@ -28,7 +28,7 @@ const ROWS: [Row; 10] = [
         &[Kind::Reserved(Key::EndModule)],
     ),
     (
-        "module m; initial a",
+        "module m; final a",
         "module m; ",
         false,
         &[
@@ -36,6 +36,13 @@ const ROWS: [Row; 10] = [
             Kind::Reserved(Key::EndModule),
         ],
         &[Kind::Reserved(Key::End)],
+    ),
+    (
+        "module m; always @ a",
+        "module m; always @ ",
+        false,
+        &[OPEN, Kind::Operator(Sign::Times)],
+        &[Kind::Word, Kind::Operator(Sign::Plus)],
     ),
     (
         "module m; assign a = (b + ; endmodule",
