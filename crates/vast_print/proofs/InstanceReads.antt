@@ -1,6 +1,7 @@
 -- Instances and always blocks have the tokens that the grammar reads.
 use Rattle.std.proofs.Common.{◌≡◌, ℕ, List, [], ◌∷◌, ◌++◌, map, true, ◌&&◌, refl, append_assoc, codes}
-use Rattle.vast_literal.specs.Tokens.{key_text, Times, Reserved, Operator, Mark, Word}
+use Rattle.vast_literal.specs.Tokens.{key_text, Reserved, Operator, Mark, Word}
+use Rattle.vast_literal.specs.declared.token.Sign.TheVariants.{Times}
 use Rattle.vast_literal.specs.declared.token.Mark.TheVariants.{OpenParen, At}
 use Rattle.vast_literal.specs.declared.token.Key.{Key}
 use Rattle.vast_literal.specs.declared.token.Key.TheVariants.{AlwaysComb as AlwaysCombKey, AlwaysFF as AlwaysFFKey, Always as AlwaysKey, AlwaysLatch as AlwaysLatchKey, Initial as InitialKey, Posedge as PosedgeKey, Negedge as NegedgeKey, Or as OrKey}

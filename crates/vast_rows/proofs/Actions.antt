@@ -2,7 +2,8 @@
 use Rattle.std.proofs.Common.{◌≡◌, ℕ, Bool, true, false, nat_eq, MatchBool, ◌+◌, ◌-◌, List, [], ◌∷◌, get_or, nat_lt, if◌then◌else◌, refl, sym, ap, ◌∙◌}
 use Rattle.std.proofs.lemmas.Bool.{eq-eqb, eqb-true}
 use Rattle.vast_rows.specs.Internal.Actions.{action_number, always_number, listed_number}
-use Rattle.vast_literal.specs.Tree.{AlwaysWord, AlwaysFFWord, AlwaysAtWord, AlwaysCombWord, AlwaysStarWord, AlwaysLatchWord, InitialWord}
+use Rattle.vast_literal.specs.declared.kind.AlwaysKind.{AlwaysKind as AlwaysWord}
+use Rattle.vast_literal.specs.declared.kind.AlwaysKind.TheVariants.{AlwaysFF as AlwaysFFWord, AlwaysAt as AlwaysAtWord, AlwaysComb as AlwaysCombWord, AlwaysStar as AlwaysStarWord, AlwaysLatch as AlwaysLatchWord, Initial as InitialWord}
 use Rattle.vast_rows.specs.Numbers.{Key, key_number, IfKey}
 use Rattle.vast_rows.specs.declared.action.Action.{Action}
 use Rattle.vast_rows.specs.declared.action.Action.TheVariants.{Nothing, Yes, No, ModuleItem, IncludeItem, HeaderParameter, DeclarationMember, AssignMember, MacroMember, InstanceMember, ConditionalMember, FunctionMember, LoopMember, NameBefore, Packaged, Declares, GroupOf, Connects, ChangeOf, Assigns, AssignsByWord, Chooses, UniqueCase, Conditional, NoArms, Arm, DefaultArm, NoMore, OneMore, PortOf, ParameterMember, AlwaysMember, KindOf, SignOf, EdgeOf, CaseOf}

@@ -2,7 +2,7 @@
 use Rattle.std.proofs.Common.{◌≡◌, ℕ, ◌≤◌, List, [], ◌∷◌, true, false, codes, Some, None, refl, arith}
 use Rattle.vast_literal.specs.Keyword.{is_keyword}
 use Rattle.vast_literal.specs.Tokens.{level, key_text, reserved_keys, Token, Reserved, Word, Number, Mark, word_token}
-use Rattle.vast_literal.specs.Tree.{AlwaysCombWord}
+use Rattle.vast_literal.specs.declared.kind.AlwaysKind.TheVariants.{AlwaysComb as AlwaysCombWord}
 use Rattle.vast_literal.specs.Scan.{tokens}
 use Rattle.vast_literal.specs.NormalExpr.{Name, Literal}
 use Rattle.vast_literal.specs.NormalFile.{BlockingStatement, CaseStatement, Done, Then, NoLabels, Label, NormalFile}

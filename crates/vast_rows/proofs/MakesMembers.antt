@@ -4,7 +4,7 @@ use Rattle.vast_literal.specs.FileGrammar.{is_parameter_word, is_edge, no_items,
 use Rattle.vast_literal.specs.Grammar.{none, some, last, next}
 use Rattle.vast_literal.specs.NormalFile.{LoopPart}
 use Rattle.vast_literal.specs.Tokens.{Mark}
-use Rattle.vast_literal.specs.Tree.{AlwaysFFWord, AlwaysAtWord, AlwaysCombWord, AlwaysStarWord, AlwaysLatchWord, InitialWord}
+use Rattle.vast_literal.specs.declared.kind.AlwaysKind.TheVariants.{AlwaysFF as AlwaysFFWord, AlwaysAt as AlwaysAtWord, AlwaysComb as AlwaysCombWord, AlwaysStar as AlwaysStarWord, AlwaysLatch as AlwaysLatchWord, Initial as InitialWord}
 use Rattle.vast_rows.specs.declared.rule.Rule.TheVariants.{File, FileItem, Parameters, Parameter, Ports, Port, ModuleMembers, LoopMembers, Member, Awaited, AnyMacro, MacroArguments, Expressions, MoreExpressions, LastSemicolon, GivenList, Given, Connections, Connection, Connected, Events, OneEvent, Inputs, Input, Locals, Local, FunctionBody, LoopLabel}
 use Rattle.vast_rows.specs.Numbers.{CloseParen, ParameterKey, LocalparamKey, PosedgeKey, NegedgeKey, EndModuleKey, EndKey}
 use Rattle.vast_rows.specs.Phrases.{expression, target, loop_head, path}

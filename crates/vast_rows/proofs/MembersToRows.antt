@@ -8,7 +8,8 @@ use Rattle.vast_literal.specs.NormalFile as normal
 use Rattle.vast_literal.specs.NormalFile.{NormalStatements, NormalDeclaration, NormalConnection, NormalMember, NormalMembers, NormalParameter, NormalPort, NormalItem}
 use Rattle.vast_literal.specs.Shape.{always_words, has_events}
 use Rattle.vast_literal.specs.Tokens.{Token, Reserved, Word, MacroWord, Mark}
-use Rattle.vast_literal.specs.Tree.{AlwaysWord, AlwaysFFWord, AlwaysAtWord, AlwaysCombWord, AlwaysStarWord, AlwaysLatchWord, InitialWord}
+use Rattle.vast_literal.specs.declared.kind.AlwaysKind.{AlwaysKind as AlwaysWord}
+use Rattle.vast_literal.specs.declared.kind.AlwaysKind.TheVariants.{AlwaysFF as AlwaysFFWord, AlwaysAt as AlwaysAtWord, AlwaysComb as AlwaysCombWord, AlwaysStar as AlwaysStarWord, AlwaysLatch as AlwaysLatchWord, Initial as InitialWord}
 use Rattle.vast_rows.specs.declared.action.Action.TheVariants.{PortOf, ParameterMember, AlwaysMember, EdgeOf}
 use Rattle.vast_rows.specs.declared.action.Listed.TheVariants as what
 use Rattle.vast_rows.specs.declared.grammar.Item.TheVariants.{Phrase}

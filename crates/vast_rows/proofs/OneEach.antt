@@ -5,7 +5,7 @@ use Rattle.std.proofs.lemmas.Option.{same_Some}
 use Rattle.vast_literal.specs.FileGrammar.{no_items, more_items, empty, done, then, block_body, IsMember, unclocked, function, closed, and_member, no_header_parameters, no_ports, module_item, IsFile, file, DerivesFile, OneDeclaration, OneStatement, OneMember}
 use Rattle.vast_literal.specs.NormalFile.{NormalMember, NormalMembers, NoParts, MoreParts, NormalItem, ModulePart, NormalFile}
 use Rattle.vast_literal.specs.Tokens.{Token, Reserved, Word, Mark}
-use Rattle.vast_literal.specs.Tree.{AlwaysCombWord}
+use Rattle.vast_literal.specs.declared.kind.AlwaysKind.TheVariants.{AlwaysComb as AlwaysCombWord}
 use Rattle.vast_literal.specs.WorkedTexts.{module_of}
 use Rattle.vast_literal.proofs.Longest.{lexes_scan}
 use Rattle.vast_rows.specs.Numbers.{Semicolon, ModuleKey, EndModuleKey}
