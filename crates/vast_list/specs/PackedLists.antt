@@ -1,11 +1,12 @@
 -- Packed lists: the form's version, the dialect, and calls.
-use Rattle.std.specs.Prelude.{◌≡◌, ◌==◌, ◌⊎◌, ℕ, zero, suc, Bool, List, [], ◌∷◌, ◌++◌, length, codes}
+use Rattle.std.specs.Prelude.{◌≡◌, ◌==◌, ◌⊎◌, ℕ, zero, suc, Bool, false, List, [], ◌∷◌, ◌++◌, length, codes}
 use Rattle.std.specs.List.{starts_with}
 use Rattle.vast_core.specs.FileTree.{tree}
 use Rattle.vast_literal.specs.declared.kind.VastFileType.{VastFileType}
 use Rattle.vast_literal.specs.declared.kind.VastFileType.TheVariants.{Verilog, SystemVerilog}
 use Rattle.vast_list.specs.declared.session.LineResult.{LineResult}
 use Rattle.vast_list.specs.declared.session.Session.{Session}
+use Rattle.vast_list.specs.Built.{IsListText}
 use Rattle.vast_list.specs.Packed.{IsPackedNumber}
 use Rattle.vast_list.specs.declared.fault.Fault.{Fault}
 use Rattle.vast_list.specs.PackedCalls.{GivesPacked, IsToldOfPacked}
@@ -51,3 +52,8 @@ abbrev pub IsPackedText : (input text : List ℕ) → Type 0
 IsPackedText input text =
     (dialect : VastFileType) × (calls : List ℕ) × (n : ℕ) × (first : Session) × (last : Session) × (input ≡ packed_front dialect ++ calls) × IsNew dialect first × RunsPacked n first last calls []
     × IsTextOf (tree last.file) text
+
+-- The list of these lines and the packed list build the same file: one text is the printed layout of the tree that the lines
+-- build, and of the one that the packed calls build.
+abbrev pub IsTwin : (lines : List (List ℕ)) → (bytes : List ℕ) → Type 0
+IsTwin lines bytes = (text : List ℕ) × IsListText false lines text × IsPackedText bytes text

@@ -1,7 +1,9 @@
 //! Lists in packed form, of lists of text.
 
-ghost use Rattle.std.specs.Prelude.{IfOk};
+ghost use Rattle.std.specs.Prelude.{◌≡◌, IfOk, IfSome, IsTrue};
+ghost use Rattle.vast_list.specs.Lines.{line_texts};
 ghost use Rattle.vast_list.specs.Output.{IsPrinted};
+ghost use Rattle.vast_list.specs.PackedLists.{IsPackedText, IsTwin};
 
 mod line;
 
@@ -21,6 +23,8 @@ use std::alloc::{AllocError, Global};
 ///
 /// The packed list is read back, and returned only where it builds the same text.
 pub fn pack_list(alloc: Global, list: &ListLines<'_>) -> Result<ListOutput, AllocError>
+    ensures twin { IfOk result (λ made. IfSome made.output
+        (λ output. IsTwin (line_texts list.now.lines.items) output.items)) }
     ensures printed { IfOk result IsPrinted }
 {
     let made = titled_output(alloc, Tries::Once, None, list)?;
@@ -35,16 +39,24 @@ pub fn pack_list(alloc: Global, list: &ListLines<'_>) -> Result<ListOutput, Allo
 }
 
 /// The list in packed form, where that builds this text.
-fn twin_of(alloc: Global, list: &ListLines<'_>, text: &[u8]) -> Result<Vec<u8>, Fault> {
+fn twin_of(alloc: Global, list: &ListLines<'_>, text: &Vec<u8>) -> Result<Vec<u8>, Fault>
+    ensures { IfOk result (λ bytes. IsPackedText bytes.items text.now.items) }
+{
     let bytes = packed_lines(alloc, list)?;
     let packed = packed_output(alloc, &bytes)?;
     match &packed.output {
-        Some(built) if built.as_slice() == text => Ok(bytes),
+        Some(built) if is_same(built, text) => Ok(bytes),
         _ => {
             let problem = Problem::OtherFile;
             Err(misread(alloc, list.number, "", "", Misfit { left: 0, problem }))
         }
     }
+}
+
+fn is_same(one: &[u8], other: &[u8]) -> bool
+    ensures { IsTrue result → one.now ≡ other.now }
+{
+    one == other
 }
 
 /// The lines in packed form, all of whose calls are made.
