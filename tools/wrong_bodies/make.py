@@ -119,15 +119,18 @@ class File:
         if self.is_once(first):
             self.pairs.append((first, f"{body} /* {first}"))
         else:
-            clause = next(it for it in self.clauses(it) if self.is_once(it))
+            clause = next((it for it in self.clauses(it) if self.is_once(it)), None)
+            if not clause:
+                raise SystemExit(f"{self.file}: {it.name} has no line of its own after what it ensures")
             self.pairs.append((clause, f"{clause} {{ {body} /*"))
         self.end_comment(it, last)
 
     def clauses(self, it):
-        """The last lines of its clauses, from the last on."""
+        """The last lines of its clauses, from the last on, so far as one that ensures something stands before."""
         for at in range(it.body - 1, it.first, -1):
             behind = self.lines[at + 1].strip()
-            if at + 1 == it.body or behind.startswith(("requires", "ensures")):
+            is_ensured = any("ensures" in line for line in self.lines[it.first:at + 1])
+            if is_ensured and (at + 1 == it.body or behind.startswith(("requires", "ensures"))):
                 yield self.lines[at].strip()
 
     def end_comment(self, it, last):
