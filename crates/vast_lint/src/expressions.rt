@@ -269,7 +269,7 @@ fn other(
             told.show_if(is_keyword(known.dialect, name), Rule::Keyword)?;
             let is_bare = name.starts_with('$') && arguments.is_empty();
             told.show_if(is_bare, Rule::SystemCallWithoutArguments)?;
-            Ok(Form::Computed)
+            Ok(Form::Call)
         }
         ExpressionStep::MakeTernary(condition, consequent, alternate) => {
             operands(known, &[*condition, *consequent, *alternate], told)?;

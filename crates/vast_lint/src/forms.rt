@@ -1,7 +1,7 @@
 //! What the lint keeps of expressions and types.
 
 ghost use Rattle.std.specs.Prelude.{◌≡◌, is_none};
-ghost use Rattle.vast_lint.specs.Internal.Forms.{is_left_side, is_selectable};
+ghost use Rattle.vast_lint.specs.Internal.Forms.{is_left_side, is_selectable, is_task};
 
 use crate::rule::Rule;
 
@@ -24,8 +24,10 @@ pub(crate) enum Form {
     Literal,
     /// A string, and whether it has a quote.
     Text(bool),
-    /// What an operator, a cast, a call, a replication or a select of such computes.
+    /// What an operator, a cast, a replication or a select of a computed value computes.
     Computed,
+    /// A call of a function or of a task.
+    Call,
     /// A concatenation, and whether each of its parts can stand on the left of an assignment.
     Concat(bool),
     Pattern,
@@ -71,6 +73,16 @@ impl Form {
             Form::Signal(_) | Form::Bit | Form::Constant | Form::Other => None,
             Form::Edge => Some(Rule::EdgeInExpression),
             _ => Some(Rule::EdgeOfValue),
+        }
+    }
+
+    /// The rule that tells such as a statement.
+    pub(crate) fn task_rule(self) -> Option<Rule>
+        ensures { is_none result ≡ is_task self }
+    {
+        match self {
+            Form::Call | Form::Other => None,
+            _ => Some(Rule::TaskOfValue),
         }
     }
 

@@ -5,7 +5,7 @@ use Rattle.vast_literal.specs.Tokens.{Less, LessEqual, Plus, Minus, Key, IfKey, 
 use Rattle.vast_literal.specs.Tokens.{OpenParen, CloseParen, OpenBracket, CloseBracket, Comma, Colon, Semicolon, Dot, Hash, DoubleColon, Assign, Token, Reserved, Word, MacroWord, Number, Quoted, Operator, Mark}
 use Rattle.vast_literal.specs.Tree.{Dialect, VerilogDialect, SystemVerilogDialect, ExprTree, Exprs, NoExprs, MoreExprs, MaybeExpr, NoExpr, SomeExpr, MaybeType, Untyped, Typed}
 use Rattle.vast_literal.specs.Tree.{LtOp, TypeTree, VectorTree, ExternalTree, PackageTree, Kind, Declaration}
-use Rattle.vast_literal.specs.Tree.{AssignForm, Blocking, Nonblocking, Continuous, CaseWord, StatementTree, AssignTree, CommentTree, BlankTree, InlineTree, ConditionalTree, CaseTree, Statements, NoStatements, MoreStatements, Alternates, NoElse, ElseIf, Else, CaseArms, NoCaseArms, CaseArm}
+use Rattle.vast_literal.specs.Tree.{AssignForm, Blocking, Nonblocking, Continuous, CaseWord, StatementTree, AssignTree, TaskTree, CommentTree, BlankTree, InlineTree, ConditionalTree, CaseTree, Statements, NoStatements, MoreStatements, Alternates, NoElse, ElseIf, Else, CaseArms, NoCaseArms, CaseArm}
 use Rattle.vast_literal.specs.Tree.{AlwaysWord, ParameterName, PlainParameter, IntParameter, DefinedParameter, Connection, InstanceTree, FunctionTree}
 use Rattle.vast_literal.specs.Tree.{MemberTree, DeclarationMember, AssignMember, ParameterMember, CommentMember, BlankMember, InlineMember, MacroMember, InstanceMember, AlwaysMember, ConditionalMember, FunctionMember, LoopMember, Members, NoMembers, MoreMembers}
 use Rattle.vast_literal.specs.Tree.{PortTree, ParameterPortTree, ModuleTree, FileItemTree, ModuleItem, IncludeItem, CommentItem, BlankItem, FileTree}
@@ -95,6 +95,7 @@ label_tokens (SomeExpr label) = expr_tokens label
 unfoldable mutual
   pub statement_tokens : StatementTree → List Token
   statement_tokens (AssignTree form left right) = assignment_tokens form (expr_tokens left) (expr_tokens right)
+  statement_tokens (TaskTree call) = expr_tokens call ++ (Mark Semicolon ∷ [])
   statement_tokens (CommentTree text) = []
   statement_tokens BlankTree = []
   statement_tokens (InlineTree text) = []

@@ -9,7 +9,7 @@ ghost use Rattle.vast_core.specs.View.{bench};
 ghost use Rattle.vast_plain.specs.Internal.Values.{Answers};
 ghost use Rattle.vast_literal.specs.Plain.{is_plain};
 
-use crate::expression::{is_left_side, is_plain_maybe, is_plain_value};
+use crate::expression::{is_call, is_left_side, is_plain_maybe, is_plain_value};
 use std::alloc::AllocError;
 use vast_core::{
     Assignment, Ast, CaseArm, CaseStatement, Conditional, Expr, Statement, VastStatementBlock,
@@ -56,6 +56,7 @@ fn is_plain_statement(ast: &Ast, statement: &Statement) -> Result<bool, AllocErr
     match statement {
         Statement::Assignment(s) => is_plain_assignment(ast, ast.assignment(*s)),
         Statement::Continuous(s) => is_plain_assignment(ast, ast.assignment(*s)),
+        Statement::Task(call) => Ok(is_call(ast, *call) && is_plain_value(ast, *call)?),
         Statement::Conditional(c) => is_plain_conditional(ast, *c),
         Statement::Case(c) => is_plain_case(ast, *c),
         Statement::BlankLine => Ok(true),

@@ -1,6 +1,6 @@
 -- Laws of writing statements, one for each case.
 use Rattle.std.proofs.Common.{◌≡◌, ℕ, ◌+◌, Bool, true, false, List, [], refl, sym, ◌∙◌, codes}
-use Rattle.vast_literal.specs.Tree.{ExprTree, MaybeExpr, StatementTree, AssignTree, CommentTree, BlankTree, InlineTree, ConditionalTree, CaseTree, Statements, NoStatements, MoreStatements, Alternates, NoElse, ElseIf, Else, CaseArms, NoCaseArms, CaseArm}
+use Rattle.vast_literal.specs.Tree.{ExprTree, MaybeExpr, StatementTree, AssignTree, TaskTree, CommentTree, BlankTree, InlineTree, ConditionalTree, CaseTree, Statements, NoStatements, MoreStatements, Alternates, NoElse, ElseIf, Else, CaseArms, NoCaseArms, CaseArm}
 use Rattle.vast_literal.specs.declared.kind.AssignmentForm.{AssignmentForm as AssignForm}
 use Rattle.vast_literal.specs.declared.kind.AssignmentForm.TheVariants.{Blocking, Nonblocking, Continuous}
 use Rattle.vast_literal.specs.declared.kind.CaseKind.{CaseKind as CaseWord}
@@ -35,6 +35,10 @@ pub inline-assign : (d : ℕ) (k : Output) (form : AssignForm) (l r : ExprTree) 
     ≡ word (inline d (word (inline d (word k (assign_opening form)) (written (expr_text l))) (assignment_operator form)) (written (expr_text r))) (codes ";")
 unfolding statement_page
 inline-assign d k form l r = simp (inline-then, inline-opening, inline-sign, inline-word)
+
+pub indented-task : (d : ℕ) (k : Output) (call : ExprTree) → indented d k (statement_page (TaskTree call)) ≡ word (inline d (next d k) (written (expr_text call))) (codes ";")
+unfolding statement_page
+indented-task d k call = indented-written d k _ ∙ simp (inline-then, inline-word)
 
 pub indented-comment : (d : ℕ) (k : Output) (text : List ℕ) → indented d k (statement_page (CommentTree text)) ≡ indented d k (commented (written (plain_text text)))
 unfolding statement_page

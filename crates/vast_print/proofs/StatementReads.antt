@@ -4,12 +4,12 @@ use Rattle.vast_literal.specs.Tokens.{Token, key_text, Reserved, Mark, Operator}
 use Rattle.vast_literal.specs.declared.token.Sign.TheVariants.{LessEqual}
 use Rattle.vast_literal.specs.declared.token.Mark.TheVariants.{OpenParen, Colon}
 use Rattle.vast_literal.specs.declared.token.Key.TheVariants.{If as IfKey, Case as CaseKey, Casez as CasezKey, Casex as CasexKey, EndCase as EndCaseKey, Default as DefaultKey, Unique as UniqueKey, Assign as AssignKey}
-use Rattle.vast_literal.specs.Tree.{ExprTree, MaybeExpr, NoExpr, SomeExpr, StatementTree, AssignTree, CommentTree, BlankTree, InlineTree, ConditionalTree, CaseTree, Statements, NoStatements, MoreStatements, Alternates, NoElse, ElseIf, Else, CaseArms, NoCaseArms, CaseArm}
+use Rattle.vast_literal.specs.Tree.{ExprTree, MaybeExpr, NoExpr, SomeExpr, StatementTree, AssignTree, TaskTree, CommentTree, BlankTree, InlineTree, ConditionalTree, CaseTree, Statements, NoStatements, MoreStatements, Alternates, NoElse, ElseIf, Else, CaseArms, NoCaseArms, CaseArm}
 use Rattle.vast_literal.specs.declared.kind.AssignmentForm.{AssignmentForm as AssignForm}
 use Rattle.vast_literal.specs.declared.kind.AssignmentForm.TheVariants.{Blocking, Nonblocking, Continuous}
 use Rattle.vast_literal.specs.declared.kind.CaseKind.{CaseKind as CaseWord}
 use Rattle.vast_literal.specs.declared.kind.CaseKind.TheVariants.{Case as CaseExact, CaseZ, CaseX}
-use Rattle.vast_literal.specs.PlainFile.{is_plain_maybe, is_plain_assignment, is_plain_statement, are_plain_statements, are_plain_alternates, are_plain_arms}
+use Rattle.vast_literal.specs.PlainFile.{is_call, is_plain_maybe, is_plain_assignment, is_plain_statement, are_plain_statements, are_plain_alternates, are_plain_arms}
 use Rattle.vast_literal.specs.WellFormed.{is_well_formed}
 use Rattle.vast_literal.specs.WellFormedFile.{is_well_formed_maybe, is_well_formed_statement, are_well_formed_statements, are_well_formed_alternates, are_well_formed_arms}
 use Rattle.vast_literal.specs.NormalTree.{case_key}
@@ -99,6 +99,7 @@ mutual
 
   pub statement_whole : (s : StatementTree) → is_plain_statement s ≡ true → is_well_formed_statement s ≡ true → Whole (statement_page s) (statement_tokens s)
   statement_whole (AssignTree form l r) p w = whole (assignment_open form l r p w)
+  statement_whole (TaskTree call) p w = whole_written (closed (expr_reads call (search halves) w) semicolon)
   statement_whole (CommentTree text) p w = whole_comment text
   statement_whole BlankTree p w = whole_blank
   statement_whole (InlineTree text) p w = absurd (cc p)

@@ -5,7 +5,7 @@ use Rattle.vast_literal.specs.declared.kind.AssignmentForm.{AssignmentForm as As
 use Rattle.vast_literal.specs.declared.kind.AssignmentForm.TheVariants.{Nonblocking, Continuous}
 use Rattle.vast_literal.specs.declared.kind.CaseKind.{CaseKind as CaseWord}
 use Rattle.vast_literal.specs.declared.kind.CaseKind.TheVariants.{Case as CaseExact, CaseZ, CaseX}
-use Rattle.vast_literal.specs.Tree.{StatementTree, AssignTree, CommentTree, BlankTree, InlineTree, ConditionalTree, CaseTree, Statements, NoStatements, MoreStatements, Alternates, NoElse, ElseIf, Else, CaseArms, NoCaseArms, CaseArm}
+use Rattle.vast_literal.specs.Tree.{StatementTree, AssignTree, TaskTree, CommentTree, BlankTree, InlineTree, ConditionalTree, CaseTree, Statements, NoStatements, MoreStatements, Alternates, NoElse, ElseIf, Else, CaseArms, NoCaseArms, CaseArm}
 use Rattle.vast_literal.specs.Shape.{is_bare_arm}
 use Rattle.vast_print.specs.Printed.{Printed, plain_text, ◌⊕◌}
 use Rattle.vast_print.specs.Text.{expr_text}
@@ -41,6 +41,7 @@ begin_end p = above (line (codes "begin")) (above (inner p) (line (codes "end"))
 unfoldable mutual
   pub statement_page : StatementTree → Page
   statement_page (AssignTree form l r) = written (assign_text form (expr_text l) (expr_text r))
+  statement_page (TaskTree call) = written (expr_text call ⊕ plain_text (codes ";"))
   statement_page (CommentTree text) = commented (written (plain_text text))
   statement_page BlankTree = line []
   statement_page (InlineTree text) = written (plain_text text)

@@ -1,6 +1,7 @@
 //! Blocks and statements.
 
-ghost use Rattle.vast_core.specs.Bench.{OwnsBlock};
+ghost use Rattle.vast_literal.specs.Tree.{TaskTree};
+ghost use Rattle.vast_core.specs.Bench.{OwnsBlock, OwnsExpr, tree_of};
 ghost use Rattle.vast_core.specs.Internal.Entries.{OwnsEntry};
 ghost use Rattle.vast_core.specs.FileTree.{families, statement_in, block_tree};
 ghost use Rattle.vast_core.specs.View.{bench};
@@ -13,9 +14,10 @@ ghost use Rattle.vast_print.specs.Statements.{statement_page, statements_page, b
 use crate::assignment::{print_assigned, print_continuous};
 use crate::case::print_case;
 use crate::conditional::print_conditional;
+use crate::expression::print_expression;
 use crate::refusal::PrintFault;
 use crate::writer::Writer;
-use vast_core::{Ast, Statement, VastStatementBlock};
+use vast_core::{Ast, Expr, Statement, VastStatementBlock};
 
 /// Writes a block after the last line.
 #[cycle(print)]
@@ -73,12 +75,26 @@ fn print_statement(ast: &Ast, statement: &Statement, out: &mut Writer) -> Result
             print_assigned(ast, *s, out)
         }
         Statement::Continuous(s) => print_continuous(ast, ast.assignment(*s), out),
+        Statement::Task(call) => print_task(ast, *call, out),
         Statement::Conditional(c) => print_conditional(ast, *c, out),
         Statement::Case(c) => print_case(ast, *c, out),
         Statement::BlankLine => Ok(out.next()?),
         Statement::Comment(text) => Ok(out.comment(text.as_str())?),
         Statement::Inline(text) => print_inline(text.as_str(), out),
     }
+}
+
+/// Writes a call as a statement, on a line of its own.
+#[tactic(auto, using(crate::proofs::ContainerLaws::tasks))]
+fn print_task(ast: &Ast, call: Expr, out: &mut Writer) -> Result<(), PrintFault>
+    requires { OwnsExpr (bench ast.now) call }
+    ensures { WritesLines out.old out.new result
+        (statement_page (TaskTree (tree_of (bench ast.now) call))) }
+{
+    out.next()?;
+    print_expression(ast, call, out)?;
+    out.word(";")?;
+    Ok(())
 }
 
 /// Writes a text as it is, from a line of its own on.
