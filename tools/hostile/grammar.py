@@ -374,10 +374,15 @@ class Reader:
         elif self.sees("unique", "case", "casez", "casex"):
             self.case("case", "casez", "casex")
         else:
-            self.assignment()
+            self.postfix()
+            if not self.take(";"):
+                self.assigned()
 
     def assignment(self):
         self.postfix()
+        self.assigned()
+
+    def assigned(self):
         if not self.take("=", "<="):
             raise NoFile
         self.expression()
