@@ -149,10 +149,7 @@ class Reader:
             self.maybe_cast()
         elif self.take("logic", "signed", "unsigned", "integer", "int"):
             self.cast()
-        elif self.take_kind("system"):
-            self.need("(")
-            self.joined_until(self.expression, ")")
-        elif self.take_kind("macro"):
+        elif self.take_kind("system") or self.take_kind("macro"):
             if self.take("("):
                 self.joined_until(self.expression, ")")
         elif self.take("'"):

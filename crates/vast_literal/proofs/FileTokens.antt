@@ -10,8 +10,8 @@ use Rattle.vast_literal.specs.Tree.{AlwaysWord, ParameterName, PlainParameter, I
 use Rattle.vast_literal.specs.Tree.{MemberTree, DeclarationMember, AssignMember, ParameterMember, CommentMember, BlankMember, InlineMember, MacroMember, InstanceMember, AlwaysMember, ConditionalMember, FunctionMember, LoopMember, Members, NoMembers, MoreMembers}
 use Rattle.vast_literal.specs.Tree.{PortTree, ParameterPortTree, ModuleTree, FileItemTree, ModuleItem, IncludeItem, CommentItem, BlankItem, FileTree}
 use Rattle.vast_literal.proofs.LiteralToken.{literal_tokens}
-use Rattle.vast_literal.specs.Shape.{right_child_wraps, highest_index_wraps, literal_value, base_of, packed_dimensions, unpacked_dimensions, port_kind, base_kind, result_kind, is_bare_arm, is_one_casez, always_words, has_events}
-use Rattle.vast_literal.proofs.ExprTokens.{wrapped_tokens, expr_tokens}
+use Rattle.vast_literal.specs.Shape.{right_child_wraps, highest_index_wraps, literal_value, base_of, packed_dimensions, unpacked_dimensions, port_kind, base_kind, result_kind, is_bare_arm, name_alone, is_one_casez, always_words, has_events}
+use Rattle.vast_literal.proofs.ExprTokens.{called_token, wrapped_tokens, expr_tokens}
 use Rattle.vast_literal.specs.NormalTree.{kind_key, sign_of, case_key, parameter_key, direction_key}
 
 -- Declarations.
@@ -77,6 +77,11 @@ assignment_tokens Blocking ls rs = ls ++ (Mark Assign ∷ (rs ++ (Mark Semicolon
 assignment_tokens Nonblocking ls rs = ls ++ (Operator LessEqual ∷ (rs ++ (Mark Semicolon ∷ [])))
 assignment_tokens Continuous ls rs = Reserved AssignKey ∷ (ls ++ (Mark Assign ∷ (rs ++ (Mark Semicolon ∷ []))))
 
+-- A call as a statement.
+unfoldable pub called_tokens : (alone : Option (List ℕ)) → List Token → List Token
+called_tokens None ts = ts
+called_tokens (Some name) ts = called_token name ∷ []
+
 -- Statements and `end`, and a block of them.
 abbrev pub ended : List Token → List Token
 ended ts = ts ++ (Reserved EndKey ∷ [])
@@ -95,7 +100,7 @@ label_tokens (SomeExpr label) = expr_tokens label
 unfoldable mutual
   pub statement_tokens : StatementTree → List Token
   statement_tokens (AssignTree form left right) = assignment_tokens form (expr_tokens left) (expr_tokens right)
-  statement_tokens (TaskTree call) = expr_tokens call ++ (Mark Semicolon ∷ [])
+  statement_tokens (TaskTree call) = called_tokens (name_alone call) (expr_tokens call) ++ (Mark Semicolon ∷ [])
   statement_tokens (CommentTree text) = []
   statement_tokens BlankTree = []
   statement_tokens (InlineTree text) = []

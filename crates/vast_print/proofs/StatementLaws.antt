@@ -1,11 +1,11 @@
 -- Laws of writing statements, one for each case.
-use Rattle.std.proofs.Common.{◌≡◌, ℕ, ◌+◌, Bool, true, false, List, [], refl, sym, ◌∙◌, codes}
+use Rattle.std.proofs.Common.{◌≡◌, ℕ, ◌+◌, Bool, true, false, List, [], Option, Some, None, refl, sym, ◌∙◌, codes}
 use Rattle.vast_literal.specs.Tree.{ExprTree, MaybeExpr, StatementTree, AssignTree, TaskTree, CommentTree, BlankTree, InlineTree, ConditionalTree, CaseTree, Statements, NoStatements, MoreStatements, Alternates, NoElse, ElseIf, Else, CaseArms, NoCaseArms, CaseArm}
 use Rattle.vast_literal.specs.declared.kind.AssignmentForm.{AssignmentForm as AssignForm}
 use Rattle.vast_literal.specs.declared.kind.AssignmentForm.TheVariants.{Blocking, Nonblocking, Continuous}
 use Rattle.vast_literal.specs.declared.kind.CaseKind.{CaseKind as CaseWord}
 use Rattle.vast_literal.specs.declared.kind.CaseKind.TheVariants.{Case as CaseExact, CaseZ, CaseX}
-use Rattle.vast_literal.specs.Shape.{is_bare_arm}
+use Rattle.vast_literal.specs.Shape.{is_bare_arm, name_alone}
 use Rattle.vast_print.specs.Printed.{plain_text, ◌⊕◌}
 use Rattle.vast_print.specs.Page.{line, inner, above, written, commented}
 use Rattle.vast_print.specs.Output.{Output, word, next, indented, inline}
@@ -36,9 +36,13 @@ pub inline-assign : (d : ℕ) (k : Output) (form : AssignForm) (l r : ExprTree) 
 unfolding statement_page
 inline-assign d k form l r = simp (inline-then, inline-opening, inline-sign, inline-word)
 
-pub indented-task : (d : ℕ) (k : Output) (call : ExprTree) → indented d k (statement_page (TaskTree call)) ≡ word (inline d (next d k) (written (expr_text call))) (codes ";")
+pub indented-task : (d : ℕ) (k : Output) (call : ExprTree) → name_alone call ≡ None → indented d k (statement_page (TaskTree call)) ≡ word (inline d (next d k) (written (expr_text call))) (codes ";")
 unfolding statement_page
-indented-task d k call = indented-written d k _ ∙ simp (inline-then, inline-word)
+indented-task d k call h = rw h (indented-written d k (expr_text call ⊕ plain_text (codes ";")) ∙ simp (inline-then, inline-word))
+
+pub indented-task-alone : (d : ℕ) (k : Output) (call : ExprTree) (name : List ℕ) → name_alone call ≡ Some name → indented d k (statement_page (TaskTree call)) ≡ word (inline d (next d k) (written (plain_text name))) (codes ";")
+unfolding statement_page
+indented-task-alone d k call name h = rw h (indented-written d k (plain_text name ⊕ plain_text (codes ";")) ∙ simp (inline-then, inline-word))
 
 pub indented-comment : (d : ℕ) (k : Output) (text : List ℕ) → indented d k (statement_page (CommentTree text)) ≡ indented d k (commented (written (plain_text text)))
 unfolding statement_page

@@ -90,12 +90,12 @@ pub record WorkedPages : Type 0 where
       print (member_page SystemVerilogDialect (AlwaysMember AlwaysCombWord NoExprs (MoreStatements
       (ConditionalTree (name (codes "a")) (assigned (codes "x") (codes "1")) (ElseIf (name (codes "b")) NoStatements (Else (assigned (codes "x") (codes "0"))))) NoStatements)))
       ≡ codes "always_comb begin\n  if (a) begin\n    x = 1;\n  end else if (b) begin end else begin\n    x = 0;\n  end\nend\n"
-  -- A call as a statement has its parentheses, and keeps an arm's `begin` and `end`.
+  -- A call as a statement has no parentheses where it has no arguments, and keeps an arm's `begin` and `end`.
   pub tasks :
       print (member_page SystemVerilogDialect (AlwaysMember InitialWord NoExprs (MoreStatements
       (CaseTree false CaseZ (name (codes "s")) (CaseArm NoExpr (MoreStatements (TaskTree (CallTree (codes "$display") (MoreExprs (StringTree (codes "\"s\"")) (MoreExprs (name (codes "s")) NoExprs)))) NoStatements) NoCaseArms))
       (MoreStatements (TaskTree (CallTree (codes "$finish") NoExprs)) NoStatements))))
-      ≡ codes "initial begin\n  casez (s)\n    default: begin\n      $display(\"s\", s);\n    end\n  endcase\n  $finish();\nend\n"
+      ≡ codes "initial begin\n  casez (s)\n    default: begin\n      $display(\"s\", s);\n    end\n  endcase\n  $finish;\nend\n"
   -- A function whose body is one casez has it bare, and its arms are bare where they are one assignment.
   pub casez_function :
       print (member_page SystemVerilogDialect (FunctionMember (record {

@@ -1,5 +1,7 @@
 //! Blocks and statements.
 
+ghost use Rattle.std.specs.Prelude.{◌≡◌, Some, None, MatchOption};
+ghost use Rattle.vast_literal.specs.Shape.{name_alone};
 ghost use Rattle.vast_literal.specs.Tree.{TaskTree};
 ghost use Rattle.vast_core.specs.Bench.{OwnsBlock, OwnsExpr, tree_of};
 ghost use Rattle.vast_core.specs.Internal.Entries.{OwnsEntry};
@@ -17,7 +19,7 @@ use crate::conditional::print_conditional;
 use crate::expression::print_expression;
 use crate::refusal::PrintFault;
 use crate::writer::Writer;
-use vast_core::{Ast, Expr, Statement, VastStatementBlock};
+use vast_core::{Ast, Expr, ExprNode, Statement, VastStatementBlock};
 
 /// Writes a block after the last line.
 #[cycle(print)]
@@ -92,9 +94,31 @@ fn print_task(ast: &Ast, call: Expr, out: &mut Writer) -> Result<(), PrintFault>
         (statement_page (TaskTree (tree_of (bench ast.now) call))) }
 {
     out.next()?;
-    print_expression(ast, call, out)?;
+    match name_alone(ast, call) {
+        Some(name) => out.written(name)?,
+        None => print_expression(ast, call, out)?,
+    }
     out.word(";")?;
     Ok(())
+}
+
+/// The name of a call without arguments, as it stands where it is a statement.
+#[tactic(auto, using(crate::proofs::ContainerLaws::alone))]
+fn name_alone<'a>(ast: &'a Ast, call: Expr) -> Option<&'a str>
+    requires { OwnsExpr (bench ast.now) call }
+    ensures { MatchOption result (name_alone (tree_of (bench ast.now) call) ≡ None)
+        (λ name. name_alone (tree_of (bench ast.now) call) ≡ Some name.now) }
+{
+    match ast.expr(call) {
+        ExprNode::Call(name, arguments) => {
+            if arguments.is_empty() {
+                Some(name.as_str())
+            } else {
+                None
+            }
+        }
+        _ => None,
+    }
 }
 
 /// Writes a text as it is, from a line of its own on.

@@ -77,9 +77,9 @@ pub(crate) fn macro_word<'t, R: Source<'t>, S: Sink<'t>>(
     }
 }
 
-/// The arguments of a system call.
-#[tactic(auto, unfolding(crate::specs::Internal::Fused::target_front, crate::specs::Rows::primary_row))]
-pub(crate) fn system_call<'t, R: Source<'t>, S: Sink<'t>>(
+/// What a system word heads: a call, or the word alone.
+#[tactic(auto, unfolding(crate::specs::Internal::Fused::target_front, crate::specs::Rows::primary_row, crate::specs::Rows::system_row))]
+pub(crate) fn system_word<'t, R: Source<'t>, S: Sink<'t>>(
     word: &'t str,
     source: &mut R,
     stack: &mut Stack<Item>,
@@ -88,12 +88,21 @@ pub(crate) fn system_call<'t, R: Source<'t>, S: Sink<'t>>(
     ensures { IfOk result (λ b. DoesAll S.hears target_front b (SystemWord word.now ∷ R.left source.old)
         stack.old stack.new (R.left source.new) sink.old sink.new) }
 {
-    stack.push(Item::Selects)?;
-    stack.push(Item::MakeCall)?;
-    stack.push(Item::ArgumentsParen)?;
-    stack.push(Item::TakeOpenParen)?;
-    sink.tell(Event::Word(word))?;
-    Ok(true)
+    match source.peek() {
+        Some(Token::Mark(Mark::OpenParen)) => {
+            source.skip();
+            stack.push(Item::Selects)?;
+            stack.push(Item::MakeCall)?;
+            stack.push(Item::ArgumentsParen)?;
+            sink.tell(Event::Word(word))?;
+            Ok(true)
+        }
+        _ => {
+            stack.push(Item::Selects)?;
+            sink.tell(Event::Name(word))?;
+            Ok(true)
+        }
+    }
 }
 
 /// What the keyword that stands next heads; one that heads nothing stays.
@@ -181,7 +190,7 @@ pub(crate) fn target<'t, R: Source<'t>, S: Sink<'t>>(
         }
         Some(Token::SystemWord(word)) => {
             source.skip();
-            system_call(word, source, stack, sink)
+            system_word(word, source, stack, sink)
         }
         Some(Token::Number(text)) => {
             source.skip();
