@@ -1,5 +1,5 @@
 -- Laws of writing statements, one for each case.
-use Rattle.std.proofs.Common.{◌≡◌, ℕ, ◌+◌, Bool, true, false, List, [], Some, None, refl, sym, ◌∙◌, codes}
+use Rattle.std.proofs.Common.{◌≡◌, ℕ, ◌+◌, Bool, true, false, List, [], refl, sym, ◌∙◌, codes}
 use Rattle.vast_literal.specs.Tree.{ExprTree, MaybeExpr, StatementTree, AssignTree, TaskTree, CommentTree, BlankTree, InlineTree, ConditionalTree, CaseTree, Statements, NoStatements, MoreStatements, Alternates, NoElse, ElseIf, Else, CaseArms, NoCaseArms, CaseArm}
 use Rattle.vast_literal.specs.declared.kind.AssignmentForm.{AssignmentForm as AssignForm}
 use Rattle.vast_literal.specs.declared.kind.AssignmentForm.TheVariants.{Blocking, Nonblocking, Continuous}
@@ -10,7 +10,7 @@ use Rattle.vast_print.specs.Printed.{plain_text, ◌⊕◌}
 use Rattle.vast_print.specs.Page.{line, inner, above, written, commented}
 use Rattle.vast_print.specs.Output.{Output, word, next, indented, inline}
 use Rattle.vast_print.specs.Text.{expr_text}
-use Rattle.vast_print.specs.Statements.{assign_opening, assignment_operator, case_word, unique_word, label_text, begin_end, statement_page, statements_page, block_page, alternates_page, arms_page}
+use Rattle.vast_print.specs.Statements.{assign_opening, assignment_operator, called_text, case_word, unique_word, label_text, begin_end, statement_page, statements_page, block_page, alternates_page, arms_page}
 use Rattle.vast_print.specs.Internal.Statements.{arm_body_page, arm_page}
 use Rattle.vast_print.proofs.OutputLaws.{indented-line, inline-line, indented-none, inline-none, indented-blank, indented-above, inline-above, inline-beside, indented-beside, indented-line-above, indented-inner, indented-written, inline-then, inline-word}
 
@@ -36,13 +36,9 @@ pub inline-assign : (d : ℕ) (k : Output) (form : AssignForm) (l r : ExprTree) 
 unfolding statement_page
 inline-assign d k form l r = simp (inline-then, inline-opening, inline-sign, inline-word)
 
-pub indented-task : (d : ℕ) (k : Output) (call : ExprTree) → name_alone call ≡ None → indented d k (statement_page (TaskTree call)) ≡ word (inline d (next d k) (written (expr_text call))) (codes ";")
+pub indented-task : (d : ℕ) (k : Output) (call : ExprTree) → indented d k (statement_page (TaskTree call)) ≡ word (inline d (next d k) (written (called_text (name_alone call) call))) (codes ";")
 unfolding statement_page
-indented-task d k call h = rw h (indented-written d k (expr_text call ⊕ plain_text (codes ";")) ∙ simp (inline-then, inline-word))
-
-pub indented-task-alone : (d : ℕ) (k : Output) (call : ExprTree) (name : List ℕ) → name_alone call ≡ Some name → indented d k (statement_page (TaskTree call)) ≡ word (inline d (next d k) (written (plain_text name))) (codes ";")
-unfolding statement_page
-indented-task-alone d k call name h = rw h (indented-written d k (plain_text name ⊕ plain_text (codes ";")) ∙ simp (inline-then, inline-word))
+indented-task d k call = indented-written d k _ ∙ simp (inline-then, inline-word)
 
 pub indented-comment : (d : ℕ) (k : Output) (text : List ℕ) → indented d k (statement_page (CommentTree text)) ≡ indented d k (commented (written (plain_text text)))
 unfolding statement_page

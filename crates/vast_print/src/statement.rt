@@ -8,10 +8,10 @@ ghost use Rattle.vast_core.specs.Internal.Entries.{OwnsEntry};
 ghost use Rattle.vast_core.specs.FileTree.{families, statement_in, block_tree};
 ghost use Rattle.vast_core.specs.View.{bench};
 ghost use Rattle.vast_print.specs.Output.{Unstopped, next, inline};
-ghost use Rattle.vast_print.specs.Internal.Output.{Writes, WritesLines, WritesBehind};
+ghost use Rattle.vast_print.specs.Internal.Output.{Writes, WritesLines, WritesBehind, WritesText};
 ghost use Rattle.vast_print.specs.Printed.{plain_text};
 ghost use Rattle.vast_print.specs.Page.{written};
-ghost use Rattle.vast_print.specs.Statements.{statement_page, statements_page, block_page};
+ghost use Rattle.vast_print.specs.Statements.{called_text, statement_page, statements_page, block_page};
 
 use crate::assignment::{print_assigned, print_continuous};
 use crate::case::print_case;
@@ -94,12 +94,25 @@ fn print_task(ast: &Ast, call: Expr, out: &mut Writer) -> Result<(), PrintFault>
         (statement_page (TaskTree (tree_of (bench ast.now) call))) }
 {
     out.next()?;
-    match name_alone(ast, call) {
-        Some(name) => out.written(name)?,
-        None => print_expression(ast, call, out)?,
-    }
+    print_call(ast, call, out)?;
     out.word(";")?;
     Ok(())
+}
+
+/// Writes a call after the last line; one without arguments has no parentheses.
+#[tactic(auto, using(crate::proofs::ContainerLaws::alone))]
+fn print_call(ast: &Ast, call: Expr, out: &mut Writer) -> Result<(), PrintFault>
+    requires { OwnsExpr (bench ast.now) call }
+    ensures { WritesText out.old out.new result
+        (called_text (name_alone (tree_of (bench ast.now) call)) (tree_of (bench ast.now) call)) }
+{
+    match name_alone(ast, call) {
+        Some(name) => {
+            out.written(name)?;
+            Ok(())
+        }
+        None => print_expression(ast, call, out),
+    }
 }
 
 /// The name of a call without arguments, as it stands where it is a statement.
