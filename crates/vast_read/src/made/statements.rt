@@ -20,6 +20,7 @@ use std::alloc::{AllocError, Global};
 use vast_literal::Key;
 
 /// A statement of its left side and what follows that.
+#[tactic(auto, unfolding(vast_rows::specs::Built::assigned, vast_rows::specs::Built::make, vast_rows::specs::Built::of_one))]
 pub(crate) fn assigns(values: &mut Values<'_>) -> Result<(), AllocError>
     ensures { IfOk result (λ _. Grown (make action.Assigns (seen values.old)) values.new) }
 {
