@@ -1,7 +1,7 @@
 //! Blocks and statements.
 
 ghost use Rattle.std.specs.Prelude.{◌&&◌, IfSome};
-ghost use Rattle.vast_literal.specs.PlainFile.{is_plain_maybe, is_plain_assignment, is_plain_statement, are_plain_statements};
+ghost use Rattle.vast_literal.specs.PlainFile.{is_call, is_plain_maybe, is_plain_assignment, is_plain_statement, are_plain_statements};
 ghost use Rattle.vast_core.specs.Bench.{OwnsBlock, OwnsCase, OwnsConditional, OwnsExpr, tree_of, maybe_tree_of};
 ghost use Rattle.vast_core.specs.Internal.Entries.{OwnsEntry};
 ghost use Rattle.vast_core.specs.FileTree.{families, statement_in, conditional_statement, case_statement, block_tree};
@@ -30,6 +30,15 @@ pub(crate) fn is_plain_assignment(ast: &Ast, assignment: &Assignment) -> Result<
     )
 }
 
+/// Whether the expression is a call, and plain.
+fn is_plain_task(ast: &Ast, call: Expr) -> Result<bool, AllocError>
+    requires { OwnsExpr (bench ast.now) call }
+    ensures { Answers (is_call (tree_of (bench ast.now) call)
+        && is_plain (tree_of (bench ast.now) call)) result }
+{
+    Ok(is_call(ast, call) && is_plain_value(ast, call)?)
+}
+
 /// Whether each statement of the block is plain.
 #[cycle(statements)]
 pub(crate) fn is_plain_block(ast: &Ast, b: VastStatementBlock) -> Result<bool, AllocError>
@@ -56,7 +65,7 @@ fn is_plain_statement(ast: &Ast, statement: &Statement) -> Result<bool, AllocErr
     match statement {
         Statement::Assignment(s) => is_plain_assignment(ast, ast.assignment(*s)),
         Statement::Continuous(s) => is_plain_assignment(ast, ast.assignment(*s)),
-        Statement::Task(call) => Ok(is_call(ast, *call) && is_plain_value(ast, *call)?),
+        Statement::Task(call) => is_plain_task(ast, *call),
         Statement::Conditional(c) => is_plain_conditional(ast, *c),
         Statement::Case(c) => is_plain_case(ast, *c),
         Statement::BlankLine => Ok(true),
