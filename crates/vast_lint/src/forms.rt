@@ -26,8 +26,8 @@ pub(crate) enum Form {
     Text(bool),
     /// What an operator, a cast, a replication or a select of a computed value computes.
     Computed,
-    /// A call of a function or of a task.
-    Call,
+    /// A call of a function or of a task, and whether it is a system call without arguments.
+    Call(bool),
     /// A concatenation, and whether each of its parts can stand on the left of an assignment.
     Concat(bool),
     Pattern,
@@ -81,8 +81,17 @@ impl Form {
         ensures { is_none result ≡ is_task self }
     {
         match self {
-            Form::Call | Form::Other => None,
+            Form::Call(_) | Form::Other => None,
             _ => Some(Rule::TaskOfValue),
+        }
+    }
+
+    /// The rule that tells such as an operand.
+    pub(crate) fn operand_rule(self) -> Option<Rule> {
+        match self {
+            Form::Edge => Some(Rule::EdgeInExpression),
+            Form::Call(true) => Some(Rule::SystemCallWithoutArguments),
+            _ => None,
         }
     }
 
@@ -90,8 +99,7 @@ impl Form {
     pub(crate) fn part_rule(self) -> Option<Rule> {
         match self {
             Form::Number(_) | Form::Unsized => Some(Rule::UnsizedInConcat),
-            Form::Edge => Some(Rule::EdgeInExpression),
-            _ => None,
+            _ => self.operand_rule(),
         }
     }
 
@@ -100,8 +108,7 @@ impl Form {
         match self {
             Form::Signal(_) | Form::Bit | Form::Part => Some(Rule::ReplicationBySignal),
             Form::Number(times) if times < 0 => Some(Rule::NegativeReplication),
-            Form::Edge => Some(Rule::EdgeInExpression),
-            _ => None,
+            _ => self.operand_rule(),
         }
     }
 
