@@ -1,7 +1,7 @@
 -- Single steps of the machine.
 use Rattle.std.proofs.Common.{◌≡◌, ℕ, suc, ◌≤◌, ◌<◌, true, false, nat_lt, List, [], ◌∷◌, refl, sym, subst, arith, IsTrue, eq-eqb}
 use Rattle.std.proofs.lemmas.Bool.Decides.{nat_tests}
-use Rattle.vast_literal.specs.Tokens.{level, is_unary, Token, Reserved, Word, MacroWord, Operator, Mark}
+use Rattle.vast_literal.specs.Tokens.{level, is_unary, Token, Reserved, Word, SystemWord, MacroWord, Operator, Mark}
 use Rattle.vast_expressions.specs.Signs.{Op, Punct, OpenParen, CloseParen, OpenBracket, Question, DoubleColon, Apostrophe, Key}
 use Rattle.vast_expressions.specs.Events.{Told, UnaryT, BinaryT, WordCastT, Event, NameE, MacroE, Made}
 use Rattle.vast_literal.specs.Grammar.{is_cast_word}
