@@ -1538,6 +1538,16 @@ static inline int32_t vast_add_initial(vast_file *file, vast_module owner, vast_
     return vast_call_make(file, made == NULL ? NULL : &made->id);
 }
 
+/* The statement `f(a, b);` of a call, as the block's last. */
+static inline int32_t vast_block_add_task_call(vast_file *file, vast_block block,
+                                               vast_expression call)
+{
+    vast_call_begin(file, "BlockAddTaskCall", 501);
+    vast_call_handle(file, block.id);
+    vast_call_handle(file, call.id);
+    return vast_call_make(file, NULL);
+}
+
 /* Artifacts */
 
 /* A declaration's kind, type and name, which parameters can be made with. */

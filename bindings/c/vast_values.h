@@ -1519,6 +1519,15 @@ static inline vast_always v_add_initial(vast_file *file, vast_module owner)
     return answer;
 }
 
+/* `vast_block_add_task_call`: the statement `f(a, b);` of a call, as the block's last. */
+static inline void v_block_add_task_call(vast_file *file, vast_block block, vast_expression call)
+{
+    if (file->fault == VAST_OK)
+        file->fault = vast_block_add_task_call(file, block, call);
+}
+#define v_block_add_task_call(file, block, call) \
+    v_block_add_task_call(file, block, vast_expression_of(call))
+
 /* `vast_make_def`: a declaration's kind, type and name, which parameters can be made with. */
 static inline vast_definition v_make_def(vast_file *file, const char *name, vast_data_kind kind,
                                          vast_type data_type)

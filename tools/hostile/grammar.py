@@ -149,10 +149,7 @@ class Reader:
             self.maybe_cast()
         elif self.take("logic", "signed", "unsigned", "integer", "int"):
             self.cast()
-        elif self.take_kind("system"):
-            self.need("(")
-            self.joined_until(self.expression, ")")
-        elif self.take_kind("macro"):
+        elif self.take_kind("system") or self.take_kind("macro"):
             if self.take("("):
                 self.joined_until(self.expression, ")")
         elif self.take("'"):
@@ -374,10 +371,15 @@ class Reader:
         elif self.sees("unique", "case", "casez", "casex"):
             self.case("case", "casez", "casex")
         else:
-            self.assignment()
+            self.postfix()
+            if not self.take(";"):
+                self.assigned()
 
     def assignment(self):
         self.postfix()
+        self.assigned()
+
+    def assigned(self):
         if not self.take("=", "<="):
             raise NoFile
         self.expression()

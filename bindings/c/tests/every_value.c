@@ -555,107 +555,110 @@ static int part_13(answers *have)
     v_add_initial(&have->file, have->module);
     CHECK(have->file.fault == VAST_OK);
     CHECK(is_written(have, "AddInitial 2", "\003\345\003\002", 4));
-    have->definition = v_make_def(&have->file, "name_129", VAST_DATA_KIND_GENVAR, have->type);
+    v_block_add_task_call(&have->file, have->block, have->signal);
     CHECK(have->file.fault == VAST_OK);
-    CHECK(is_written(have, "MakeDef \"name_129\" Genvar 1", "\014\006\010name_129\007\001", 13));
+    CHECK(is_written(have, "BlockAddTaskCall 103 3", "\004\365\003g\003", 5));
+    have->definition = v_make_def(&have->file, "name_130", VAST_DATA_KIND_GENVAR, have->type);
+    CHECK(have->file.fault == VAST_OK);
+    CHECK(is_written(have, "MakeDef \"name_130\" Genvar 1", "\014\006\010name_130\007\001", 13));
     v_add_parameter_with_def(&have->file, have->module, have->definition, have->signal);
     CHECK(have->file.fault == VAST_OK);
-    CHECK(is_written(have, "AddParameterWithDef 2 129 3", "\006\363\001\002\201\001\003", 7));
+    CHECK(is_written(have, "AddParameterWithDef 2 130 3", "\006\363\001\002\202\001\003", 7));
     v_add_typed_localparam(&have->file, have->module, have->definition, have->signal);
     CHECK(have->file.fault == VAST_OK);
-    CHECK(is_written(have, "AddTypedLocalparam 2 129 3", "\006\243\002\002\201\001\003", 7));
+    CHECK(is_written(have, "AddTypedLocalparam 2 130 3", "\006\243\002\002\202\001\003", 7));
     v_generate_add_typed_localparam(&have->file, have->loop, have->definition, have->signal);
     CHECK(have->file.fault == VAST_OK);
-    CHECK(is_written(have, "GenerateAddTypedLocalparam 85 129 3", "\005tU\201\001\003", 6));
-    have->blank_line = v_make_blank_line(&have->file);
-    CHECK(have->file.fault == VAST_OK);
-    CHECK(is_written(have, "MakeBlankLine", "\001\026", 2));
+    CHECK(is_written(have, "GenerateAddTypedLocalparam 85 130 3", "\005tU\202\001\003", 6));
     return 0;
 }
 
 static int part_14(answers *have)
 {
+    have->blank_line = v_make_blank_line(&have->file);
+    CHECK(have->file.fault == VAST_OK);
+    CHECK(is_written(have, "MakeBlankLine", "\001\026", 2));
     v_add_blank_line(&have->file, have->blank_line);
     CHECK(have->file.fault == VAST_OK);
-    CHECK(is_written(have, "AddBlankLine 133", "\003\023\205\001", 4));
-    have->comment = v_make_comment(&have->file, "text_135");
+    CHECK(is_written(have, "AddBlankLine 134", "\003\023\206\001", 4));
+    have->comment = v_make_comment(&have->file, "text_136");
     CHECK(have->file.fault == VAST_OK);
-    CHECK(is_written(have, "MakeComment \"text_135\"", "\012&\010text_135", 11));
+    CHECK(is_written(have, "MakeComment \"text_136\"", "\012&\010text_136", 11));
     v_generate_add_comment(&have->file, have->loop, have->comment);
     CHECK(have->file.fault == VAST_OK);
-    CHECK(is_written(have, "GenerateAddComment 85 135", "\005\264\001U\207\001", 6));
-    have->inline_statement = v_make_inline_verilog_statement(&have->file, "text_137");
+    CHECK(is_written(have, "GenerateAddComment 85 136", "\005\264\001U\210\001", 6));
+    have->inline_statement = v_make_inline_verilog_statement(&have->file, "text_138");
     CHECK(have->file.fault == VAST_OK);
-    CHECK(is_written(have, "MakeInlineVerilogStatement \"text_137\"", "\0126\010text_137", 11));
+    CHECK(is_written(have, "MakeInlineVerilogStatement \"text_138\"", "\0126\010text_138", 11));
     v_generate_add_inline_statement(&have->file, have->loop, have->inline_statement);
     CHECK(have->file.fault == VAST_OK);
-    CHECK(is_written(have, "GenerateAddInlineStatement 85 137", "\005\324\001U\211\001", 6));
+    CHECK(is_written(have, "GenerateAddInlineStatement 85 138", "\005\324\001U\212\001", 6));
     have->macro_statement = v_make_macro_statement(&have->file, have->macro, true);
     CHECK(have->file.fault == VAST_OK);
     CHECK(is_written(have, "MakeMacroStatement 58 true", "\003F:\001", 4));
     v_generate_add_macro_statement(&have->file, have->loop, have->macro_statement);
     CHECK(have->file.fault == VAST_OK);
-    CHECK(is_written(have, "GenerateAddMacroStatement 85 139", "\005\344\001U\213\001", 6));
+    CHECK(is_written(have, "GenerateAddMacroStatement 85 140", "\005\344\001U\214\001", 6));
     have->assignment = v_make_continuous_assignment(&have->file, have->signal, have->expression);
     CHECK(have->file.fault == VAST_OK);
     CHECK(is_written(have, "MakeContinuousAssignment 3 0", "\003V\003\000", 4));
     v_make_nonblocking_assignment(&have->file, have->signal, have->expression);
     CHECK(have->file.fault == VAST_OK);
     CHECK(is_written(have, "MakeNonblockingAssignment 3 0", "\003f\003\000", 4));
-    v_make_blocking_assignment(&have->file, have->signal, have->expression);
-    CHECK(have->file.fault == VAST_OK);
-    CHECK(is_written(have, "MakeBlockingAssignment 3 0", "\003v\003\000", 4));
     return 0;
 }
 
 static int part_15(answers *have)
 {
-    have->instantiation = v_make_instantiation(&have->file, "module_name_144", "instance_name_144",
+    v_make_blocking_assignment(&have->file, have->signal, have->expression);
+    CHECK(have->file.fault == VAST_OK);
+    CHECK(is_written(have, "MakeBlockingAssignment 3 0", "\003v\003\000", 4));
+    have->instantiation = v_make_instantiation(&have->file, "module_name_145", "instance_name_145",
                                                have->strings, 2, have->expressions, 2,
                                                have->strings, 2, have->options, 2);
     CHECK(have->file.fault == VAST_OK);
     CHECK(is_written(have,
-                           "MakeInstantiation \"module_name_144\" \"instance_name_144\" [ \"first\" \"second\" ] [ 3 3 ] [ \"first\" \"second\" ] [ + 3 - ]",
-                           "G\206\001\017module_name_144\021instance_name_144\002\005first\006second\002\003\003\002\005first\006second\002\001\003\000",
+                           "MakeInstantiation \"module_name_145\" \"instance_name_145\" [ \"first\" \"second\" ] [ 3 3 ] [ \"first\" \"second\" ] [ + 3 - ]",
+                           "G\206\001\017module_name_145\021instance_name_145\002\005first\006second\002\003\003\002\005first\006second\002\001\003\000",
                            72));
     v_generate_add_instantiation(&have->file, have->loop, have->instantiation);
     CHECK(have->file.fault == VAST_OK);
-    CHECK(is_written(have, "GenerateAddInstantiation 85 144", "\005\304\001U\220\001", 6));
+    CHECK(is_written(have, "GenerateAddInstantiation 85 145", "\005\304\001U\221\001", 6));
     v_add_member_instantiation(&have->file, have->module, have->instantiation);
     CHECK(have->file.fault == VAST_OK);
-    CHECK(is_written(have, "AddMemberInstantiation 2 144", "\005\226\001\002\220\001", 6));
+    CHECK(is_written(have, "AddMemberInstantiation 2 145", "\005\226\001\002\221\001", 6));
     v_add_member_continuous_assignment(&have->file, have->module, have->assignment);
     CHECK(have->file.fault == VAST_OK);
-    CHECK(is_written(have, "AddMemberContinuousAssignment 2 141", "\005\246\001\002\215\001", 6));
+    CHECK(is_written(have, "AddMemberContinuousAssignment 2 142", "\005\246\001\002\216\001", 6));
     v_add_member_blank_line(&have->file, have->module, have->blank_line);
     CHECK(have->file.fault == VAST_OK);
-    CHECK(is_written(have, "AddMemberBlankLine 2 133", "\005\266\001\002\205\001", 6));
+    CHECK(is_written(have, "AddMemberBlankLine 2 134", "\005\266\001\002\206\001", 6));
     v_add_member_comment(&have->file, have->module, have->comment);
     CHECK(have->file.fault == VAST_OK);
-    CHECK(is_written(have, "AddMemberComment 2 135", "\005\306\001\002\207\001", 6));
+    CHECK(is_written(have, "AddMemberComment 2 136", "\005\306\001\002\210\001", 6));
     v_add_member_inline_statement(&have->file, have->module, have->inline_statement);
     CHECK(have->file.fault == VAST_OK);
-    CHECK(is_written(have, "AddMemberInlineStatement 2 137", "\005\326\001\002\211\001", 6));
+    CHECK(is_written(have, "AddMemberInlineStatement 2 138", "\005\326\001\002\212\001", 6));
     v_add_member_macro_statement(&have->file, have->module, have->macro_statement);
     CHECK(have->file.fault == VAST_OK);
-    CHECK(is_written(have, "AddMemberMacroStatement 2 139", "\005\346\001\002\213\001", 6));
+    CHECK(is_written(have, "AddMemberMacroStatement 2 140", "\005\346\001\002\214\001", 6));
     have->truth = v_conditional_has_else(&have->file, have->conditional);
     CHECK(have->file.fault == VAST_OK);
     CHECK(is_written(have, "?ConditionalHasElse 93", "\002\007]", 3));
-    have->text = v_emit_expression(&have->file, have->signal);
-    CHECK(have->file.fault == VAST_OK);
-    CHECK(is_written(have, "?EmitExpression 3", "\002'\003", 3));
     return 0;
 }
 
 static int part_16(answers *have)
 {
+    have->text = v_emit_expression(&have->file, have->signal);
+    CHECK(have->file.fault == VAST_OK);
+    CHECK(is_written(have, "?EmitExpression 3", "\002'\003", 3));
     have->truth = v_file_is_plain(&have->file);
     CHECK(have->file.fault == VAST_OK);
     CHECK(is_written(have, "?FileIsPlain", "\0017", 2));
-    have->truth = v_is_system_verilog_keyword(&have->file, "identifier_155");
+    have->truth = v_is_system_verilog_keyword(&have->file, "identifier_156");
     CHECK(have->file.fault == VAST_OK);
-    CHECK(is_written(have, "?IsSystemVerilogKeyword \"identifier_155\"", "\020G\016identifier_155",
+    CHECK(is_written(have, "?IsSystemVerilogKeyword \"identifier_156\"", "\020G\016identifier_156",
                            17));
     have->text = v_logic_ref_name(&have->file, have->signal);
     CHECK(have->file.fault == VAST_OK);
@@ -675,17 +678,17 @@ static int part_16(answers *have)
     have->ports = v_module_ports(&have->file, have->module);
     CHECK(have->file.fault == VAST_OK);
     CHECK(is_written(have, "?ModulePorts 2", "\003\247\001\002", 4));
-    have->truth = v_name_is_free(&have->file, have->module, "name_162");
+    have->truth = v_name_is_free(&have->file, have->module, "name_163");
     CHECK(have->file.fault == VAST_OK);
-    CHECK(is_written(have, "?NameIsFree 2 \"name_162\"", "\014\267\001\002\010name_162", 13));
-    have->truth = v_type_can_be_cast(&have->file, have->type);
-    CHECK(have->file.fault == VAST_OK);
-    CHECK(is_written(have, "?TypeCanBeCast 1", "\003\307\001\001", 4));
+    CHECK(is_written(have, "?NameIsFree 2 \"name_163\"", "\014\267\001\002\010name_163", 13));
     return 0;
 }
 
 static int part_17(answers *have)
 {
+    have->truth = v_type_can_be_cast(&have->file, have->type);
+    CHECK(have->file.fault == VAST_OK);
+    CHECK(is_written(have, "?TypeCanBeCast 1", "\003\307\001\001", 4));
     have->truth = v_type_can_be_packed(&have->file, have->type);
     CHECK(have->file.fault == VAST_OK);
     CHECK(is_written(have, "?TypeCanBePacked 1", "\003\327\001\001", 4));
@@ -715,14 +718,14 @@ static int part_17(answers *have)
     v_bitwise_or_reduce_array_elements(&have->file, have->memory, have->integers, 1);
     CHECK(have->file.fault == VAST_OK);
     CHECK(is_written(have, "!BitwiseOrReduceArrayElements 77 [ 2 ]", "\004(M\001\004", 5));
-    v_logical_and_reduce(&have->file, have->expressions, 2, true);
-    CHECK(have->file.fault == VAST_OK);
-    CHECK(is_written(have, "!LogicalAndReduce [ 3 3 ] true", "\0058\002\003\003\001", 6));
     return 0;
 }
 
 static int part_18(answers *have)
 {
+    v_logical_and_reduce(&have->file, have->expressions, 2, true);
+    CHECK(have->file.fault == VAST_OK);
+    CHECK(is_written(have, "!LogicalAndReduce [ 3 3 ] true", "\0058\002\003\003\001", 6));
     v_logical_or_reduce(&have->file, have->expressions, 2, true);
     CHECK(have->file.fault == VAST_OK);
     CHECK(is_written(have, "!LogicalOrReduce [ 3 3 ] true", "\005H\002\003\003\001", 6));
@@ -743,7 +746,7 @@ int main(void)
         for (size_t part = 0; part < sizeof parts / sizeof parts[0]; part++)
             if (parts[part](&have))
                 return 1;
-        CHECK(have.file.count == 157 && vast_emit(&have.file, &text) == VAST_OK);
+        CHECK(have.file.count == 158 && vast_emit(&have.file, &text) == VAST_OK);
         vast_file_close(&have.file);
     }
     return 0;

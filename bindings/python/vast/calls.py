@@ -1330,6 +1330,14 @@ class Calls(Core):
             owner = self._own(owner, Module)
         return self._later(f"AddInitial {owner.step}", AlwaysBase)
 
+    def block_add_task_call(self, block: StatementBlock, call: Operand) -> None:
+        """The statement `f(a, b);` of a call, as the block's last."""
+        if not (isinstance(block, StatementBlock) and block.file is self):
+            block = self._own(block, StatementBlock)
+        if not (isinstance(call, Expression) and call.file is self):
+            call = self._value(call)
+        self._later(f"BlockAddTaskCall {block.step} {call.step}")
+
     def make_def(self, name: str, kind: DataKind, data_type: TypeLike) -> Def:
         """A declaration's kind, type and name, which parameters can be made with."""
         if not (isinstance(data_type, DataType) and data_type.file is self):

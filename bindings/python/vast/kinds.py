@@ -718,6 +718,10 @@ class StatementBlock(BlockWords):
         """`File.block_add_casex`: a `casex` statement without arms, as the block's last statement."""
         return self.file.block_add_casex(self, selector)
 
+    def add_task_call(self, call: Operand) -> None:
+        """`File.block_add_task_call`: the statement `f(a, b);` of a call, as the block's last."""
+        return self.file.block_add_task_call(self, call)
+
 
 class Statement(Handle):
     """A handle of the kind `statement`."""

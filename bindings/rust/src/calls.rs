@@ -147,6 +147,7 @@ pub(crate) enum Call {
     AddAlwaysStar = 453,
     AddAlwaysLatch = 469,
     AddInitial = 485,
+    BlockAddTaskCall = 501,
     MakeDef = 6,
     MakeBlankLine = 22,
     MakeComment = 38,

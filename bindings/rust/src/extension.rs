@@ -5,7 +5,9 @@
 use crate::calls::Call;
 use crate::error::VastError;
 use crate::file::VastFile;
-use crate::handles::{Expr, GenerateLoop, VastAlwaysBase, VastDataType, VastModule};
+use crate::handles::{
+    Expr, GenerateLoop, VastAlwaysBase, VastDataType, VastModule, VastStatementBlock,
+};
 use crate::known::Width;
 
 /// Calls that the original has none of, as methods of a [`VastFile`] where this trait is in scope.
@@ -75,6 +77,10 @@ pub trait VastFileExtension {
     /// # Errors
     /// Where the library refuses the call, in its words.
     fn add_initial(&mut self, owner: VastModule) -> Result<VastAlwaysBase, VastError>;
+
+    /// The statement `f(a, b);` of a call, as the block's last: a task's or a system task's, made by
+    /// [`VastFile::make_function_call`], or the use of a macro. The original crate lacks it.
+    fn block_add_task_call(&mut self, block: VastStatementBlock, call: &Expr);
 }
 
 impl VastFileExtension for VastFile {
@@ -160,5 +166,13 @@ impl VastFileExtension for VastFile {
         Ok(VastAlwaysBase(
             self.later(Call::AddInitial, |calls| calls.step(owner_step)),
         ))
+    }
+
+    fn block_add_task_call(&mut self, block: VastStatementBlock, call: &Expr) {
+        let block_step = self.own(block.0);
+        let call_step = self.own(call.0);
+        self.later(Call::BlockAddTaskCall, |calls| {
+            calls.step(block_step).step(call_step)
+        });
     }
 }

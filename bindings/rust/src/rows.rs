@@ -11,7 +11,7 @@ pub(crate) struct Row(
     pub(crate) &'static [Form],
 );
 
-pub(crate) static ROWS: [Row; 176] = [
+pub(crate) static ROWS: [Row; 177] = [
     Row(0, "MakeNot", &[Step]),
     Row(16, "MakeBitwiseNot", &[Step]),
     Row(32, "MakeNegate", &[Step]),
@@ -176,6 +176,7 @@ pub(crate) static ROWS: [Row; 176] = [
     Row(453, "AddAlwaysStar", &[Step]),
     Row(469, "AddAlwaysLatch", &[Step]),
     Row(485, "AddInitial", &[Step]),
+    Row(501, "BlockAddTaskCall", &[Step, Step]),
     Row(
         6,
         "MakeDef",

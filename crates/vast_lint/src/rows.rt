@@ -85,6 +85,10 @@ pub(crate) fn row_of(rule: Rule) -> Row {
         Rule::AssignmentInGenerate => {
             ("a procedure's assignment in a conditional of a module is no SystemVerilog", Tools::All)
         }
+        Rule::TaskOfValue => ("a statement of what is no call is no SystemVerilog", Tools::All),
+        Rule::TaskInGenerate => {
+            ("a procedure's call in a conditional of a module is no SystemVerilog", Tools::All)
+        }
         Rule::CasezInGenerate => {
             ("`casez` or `casex` in a conditional of a module is no SystemVerilog", Tools::IcarusAndVerilator)
         }

@@ -114,6 +114,11 @@ fn in_block(
             told.tell_if(!known.is_generate(*owner), Rule::AssignInProcedure)?;
             Ok(Fact::Other)
         }
+        StatementStep::BlockAddTaskCall(owner, call) => {
+            told.show_other(known.form(*call).task_rule(), *call)?;
+            told.tell_if(known.is_generate(*owner), Rule::TaskInGenerate)?;
+            Ok(Fact::Other)
+        }
         StatementStep::BlockAddCommentText(_, text) => {
             told.tell_any(comment_rule(text))?;
             Ok(Fact::Other)

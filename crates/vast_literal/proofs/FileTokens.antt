@@ -5,13 +5,13 @@ use Rattle.vast_literal.specs.Tokens.{Less, LessEqual, Plus, Minus, Key, IfKey, 
 use Rattle.vast_literal.specs.Tokens.{OpenParen, CloseParen, OpenBracket, CloseBracket, Comma, Colon, Semicolon, Dot, Hash, DoubleColon, Assign, Token, Reserved, Word, MacroWord, Number, Quoted, Operator, Mark}
 use Rattle.vast_literal.specs.Tree.{Dialect, VerilogDialect, SystemVerilogDialect, ExprTree, Exprs, NoExprs, MoreExprs, MaybeExpr, NoExpr, SomeExpr, MaybeType, Untyped, Typed}
 use Rattle.vast_literal.specs.Tree.{LtOp, TypeTree, VectorTree, ExternalTree, PackageTree, Kind, Declaration}
-use Rattle.vast_literal.specs.Tree.{AssignForm, Blocking, Nonblocking, Continuous, CaseWord, StatementTree, AssignTree, CommentTree, BlankTree, InlineTree, ConditionalTree, CaseTree, Statements, NoStatements, MoreStatements, Alternates, NoElse, ElseIf, Else, CaseArms, NoCaseArms, CaseArm}
+use Rattle.vast_literal.specs.Tree.{AssignForm, Blocking, Nonblocking, Continuous, CaseWord, StatementTree, AssignTree, TaskTree, CommentTree, BlankTree, InlineTree, ConditionalTree, CaseTree, Statements, NoStatements, MoreStatements, Alternates, NoElse, ElseIf, Else, CaseArms, NoCaseArms, CaseArm}
 use Rattle.vast_literal.specs.Tree.{AlwaysWord, ParameterName, PlainParameter, IntParameter, DefinedParameter, Connection, InstanceTree, FunctionTree}
 use Rattle.vast_literal.specs.Tree.{MemberTree, DeclarationMember, AssignMember, ParameterMember, CommentMember, BlankMember, InlineMember, MacroMember, InstanceMember, AlwaysMember, ConditionalMember, FunctionMember, LoopMember, Members, NoMembers, MoreMembers}
 use Rattle.vast_literal.specs.Tree.{PortTree, ParameterPortTree, ModuleTree, FileItemTree, ModuleItem, IncludeItem, CommentItem, BlankItem, FileTree}
 use Rattle.vast_literal.proofs.LiteralToken.{literal_tokens}
-use Rattle.vast_literal.specs.Shape.{right_child_wraps, highest_index_wraps, literal_value, base_of, packed_dimensions, unpacked_dimensions, port_kind, base_kind, result_kind, is_bare_arm, is_one_casez, always_words, has_events}
-use Rattle.vast_literal.proofs.ExprTokens.{wrapped_tokens, expr_tokens}
+use Rattle.vast_literal.specs.Shape.{right_child_wraps, highest_index_wraps, literal_value, base_of, packed_dimensions, unpacked_dimensions, port_kind, base_kind, result_kind, is_bare_arm, name_alone, is_one_casez, always_words, has_events}
+use Rattle.vast_literal.proofs.ExprTokens.{called_token, wrapped_tokens, expr_tokens}
 use Rattle.vast_literal.specs.NormalTree.{kind_key, sign_of, case_key, parameter_key, direction_key}
 
 -- Declarations.
@@ -77,6 +77,11 @@ assignment_tokens Blocking ls rs = ls ++ (Mark Assign ∷ (rs ++ (Mark Semicolon
 assignment_tokens Nonblocking ls rs = ls ++ (Operator LessEqual ∷ (rs ++ (Mark Semicolon ∷ [])))
 assignment_tokens Continuous ls rs = Reserved AssignKey ∷ (ls ++ (Mark Assign ∷ (rs ++ (Mark Semicolon ∷ []))))
 
+-- A call as a statement.
+unfoldable pub called_tokens : (alone : Option (List ℕ)) → List Token → List Token
+called_tokens None ts = ts
+called_tokens (Some name) ts = called_token name ∷ []
+
 -- Statements and `end`, and a block of them.
 abbrev pub ended : List Token → List Token
 ended ts = ts ++ (Reserved EndKey ∷ [])
@@ -95,6 +100,7 @@ label_tokens (SomeExpr label) = expr_tokens label
 unfoldable mutual
   pub statement_tokens : StatementTree → List Token
   statement_tokens (AssignTree form left right) = assignment_tokens form (expr_tokens left) (expr_tokens right)
+  statement_tokens (TaskTree call) = called_tokens (name_alone call) (expr_tokens call) ++ (Mark Semicolon ∷ [])
   statement_tokens (CommentTree text) = []
   statement_tokens BlankTree = []
   statement_tokens (InlineTree text) = []

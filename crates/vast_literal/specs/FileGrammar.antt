@@ -6,7 +6,7 @@ use Rattle.vast_literal.specs.Tree.{AlwaysWord}
 use Rattle.vast_literal.specs.Shape.{always_words, has_events}
 use Rattle.vast_literal.specs.Lexemes.{Lexes}
 use Rattle.vast_literal.specs.NormalExpr.{NormalExpr, Name, Binary, NormalExprs}
-use Rattle.vast_literal.specs.NormalFile.{NormalStatement, BlockingStatement, NonblockingStatement, AssignStatement, ChoiceStatement, CaseStatement, NormalStatements, Done, Then, Arms, Only, Otherwise, Or, Labels, NoLabels, Label, Group, One, Range, NormalDeclaration, Event, EdgeEvent, NameEvent, NormalConnection, NormalMember, DeclarationPart, AssignPart, ParameterPart, MacroPart, InstancePart, AlwaysPart, ConditionalPart, FunctionPart, LoopPart, NormalMembers, NoParts, MoreParts, NormalParameter, NormalPort, NormalItem, ModulePart, IncludePart, NormalFile}
+use Rattle.vast_literal.specs.NormalFile.{NormalStatement, BlockingStatement, NonblockingStatement, AssignStatement, TaskStatement, ChoiceStatement, CaseStatement, NormalStatements, Done, Then, Arms, Only, Otherwise, Or, Labels, NoLabels, Label, Group, One, Range, NormalDeclaration, Event, EdgeEvent, NameEvent, NormalConnection, NormalMember, DeclarationPart, AssignPart, ParameterPart, MacroPart, InstancePart, AlwaysPart, ConditionalPart, FunctionPart, LoopPart, NormalMembers, NoParts, MoreParts, NormalParameter, NormalPort, NormalItem, ModulePart, IncludePart, NormalFile}
 use Rattle.vast_literal.specs.Grammar.{Spells, SpellsList}
 
 -- Lists.
@@ -52,6 +52,8 @@ mutual
     -- assign L = X ;
     assigned : {ls rs : List Token} {l r : NormalExpr} → Spells 13 ls l → Spells 0 rs r →
         IsStatement (Reserved AssignKey ∷ (ls ++ (Mark Assign ∷ (rs ++ (Mark Semicolon ∷ []))))) (AssignStatement l r)
+    -- F ;
+    task : {ts : List Token} {x : NormalExpr} → Spells 13 ts x → IsStatement (ts ++ (Mark Semicolon ∷ [])) (TaskStatement x)
     choice : {ts : List Token} {a : Arms} → IsChoice ts a → IsStatement ts (ChoiceStatement a)
     cases : {ts : List Token} {s : NormalStatement} (k : Key) {bare_arms : Bool} → IsCase k bare_arms → IsCases k bare_arms ts s → IsStatement ts s
 

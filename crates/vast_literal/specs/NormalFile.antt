@@ -8,6 +8,7 @@ use Rattle.vast_literal.specs.NormalExpr.{NormalExpr, NormalExprs}
 mutual
   pub data NormalStatement : Type 0 where
     BlockingStatement NonblockingStatement AssignStatement : (left right : NormalExpr) → NormalStatement
+    TaskStatement : (call : NormalExpr) → NormalStatement
     ChoiceStatement : Arms → NormalStatement
     CaseStatement : (unique : Bool) (word : Key) (selector : NormalExpr) → Labels → NormalStatement
 

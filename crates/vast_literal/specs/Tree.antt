@@ -77,6 +77,8 @@ pub record Declaration : Type 0 where
 mutual
   pub data StatementTree : Type 0 where
     AssignTree : (form : AssignForm) (left right : ExprTree) → StatementTree
+    -- A call as a statement.
+    TaskTree : (call : ExprTree) → StatementTree
     CommentTree InlineTree : (text : List ℕ) → StatementTree
     BlankTree : StatementTree
     ConditionalTree : (condition : ExprTree) (consequent : Statements) (alternates : Alternates) → StatementTree

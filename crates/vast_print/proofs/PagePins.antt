@@ -45,5 +45,6 @@ worked_pages =
       connected = refl;
       loop = refl;
       conditional = refl;
+      tasks = refl;
       casez_function = refl;
     }

@@ -94,6 +94,7 @@ Meant rule.NoEnd ts = IsNothing ts
 Meant rule.LoopLabel ts = (l : Option (List ℕ)) × IsLabel ts l
 Meant rule.Statements ts = (s : normal.NormalStatements) × IsStatements ts s
 Meant rule.Statement ts = (s : normal.NormalStatement) × IsStatement ts s
+Meant rule.AfterTarget us = (ts : List Token) (l : NormalExpr) → Spells 13 ts l → (s : normal.NormalStatement) × IsStatement (ts ++ us) s
 Meant rule.Assignment ts = (s : normal.NormalStatement) × IsAssign ts s
 Meant rule.Arrow ts = IsArrow ts
 Meant rule.Choice ts = (a : normal.Arms) × IsChoice ts a

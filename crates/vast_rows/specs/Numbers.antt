@@ -7,7 +7,7 @@ pub use Rattle.vast_literal.specs.declared.token.Sign.TheVariants.{LogicOr, Logi
 pub use Rattle.vast_literal.specs.declared.token.Key.{Key}
 pub use Rattle.vast_literal.specs.declared.token.Key.TheVariants.{If as IfKey, Else as ElseKey, Case as CaseKey, Casez as CasezKey, Casex as CasexKey, EndCase as EndCaseKey, Default as DefaultKey, Unique as UniqueKey, Begin as BeginKey, End as EndKey, Assign as AssignKey, Wire as WireKey, Reg as RegKey, Logic as LogicKey, Integer as IntegerKey, Int as IntKey, Genvar as GenvarKey, Signed as SignedKey, Unsigned as UnsignedKey, Module as ModuleKey, EndModule as EndModuleKey, Parameter as ParameterKey, Localparam as LocalparamKey, AlwaysComb as AlwaysCombKey, AlwaysFF as AlwaysFFKey, Always as AlwaysKey, Posedge as PosedgeKey, Negedge as NegedgeKey, Or as OrKey, Function as FunctionKey, Automatic as AutomaticKey, EndFunction as EndFunctionKey, Input as InputKey, Output as OutputKey, InOut as InOutKey, For as ForKey, AlwaysLatch as AlwaysLatchKey, Initial as InitialKey}
 use Rattle.vast_rows.specs.declared.rule.Rule.{Rule}
-use Rattle.vast_rows.specs.declared.rule.Rule.TheVariants.{File, FileItem, Parameters, MoreParameters, Parameter, Ports, MorePorts, Port, Direction, ModuleMembers, LoopMembers, Declaration, KindWord, Declarator, SignWord, AfterWord, OwnType, SignedName, GroupedName, AfterGroups, FirstGroups, Groups, BracketGroup, GroupEnd, Member, NetKind, NoWait, Awaited, AnyMacro, MacroArguments, Expressions, MoreExpressions, LastSemicolon, GivenList, Given, MoreGiven, Connections, Connection, Connected, MoreConnections, Events, OneEvent, MoreEvents, Inputs, Input, MoreInputs, Locals, Local, LocalKind, FunctionBody, LoneCase, NoEnd, LoopLabel, Statements, Statement, Assignment, Arrow, Choice, Else, Branch, Unique, CaseKind, CaseArms, BareArms, ArmBody}
+use Rattle.vast_rows.specs.declared.rule.Rule.TheVariants.{File, FileItem, Parameters, MoreParameters, Parameter, Ports, MorePorts, Port, Direction, ModuleMembers, LoopMembers, Declaration, KindWord, Declarator, SignWord, AfterWord, OwnType, SignedName, GroupedName, AfterGroups, FirstGroups, Groups, BracketGroup, GroupEnd, Member, NetKind, NoWait, Awaited, AnyMacro, MacroArguments, Expressions, MoreExpressions, LastSemicolon, GivenList, Given, MoreGiven, Connections, Connection, Connected, MoreConnections, Events, OneEvent, MoreEvents, Inputs, Input, MoreInputs, Locals, Local, LocalKind, FunctionBody, LoneCase, NoEnd, LoopLabel, Statements, Statement, AfterTarget, Assignment, Arrow, Choice, Else, Branch, Unique, CaseKind, CaseArms, BareArms, ArmBody}
 
 abbrev pub mark_number : Punct → ℕ
 mark_number OpenParen = 0
@@ -150,13 +150,14 @@ rule_number NoEnd = 51
 rule_number LoopLabel = 52
 rule_number Statements = 53
 rule_number Statement = 54
-rule_number Assignment = 55
-rule_number Arrow = 56
-rule_number Choice = 57
-rule_number Else = 58
-rule_number Branch = 59
-rule_number Unique = 60
-rule_number CaseKind = 61
-rule_number CaseArms = 62
-rule_number BareArms = 63
-rule_number ArmBody = 64
+rule_number AfterTarget = 55
+rule_number Assignment = 56
+rule_number Arrow = 57
+rule_number Choice = 58
+rule_number Else = 59
+rule_number Branch = 60
+rule_number Unique = 61
+rule_number CaseKind = 62
+rule_number CaseArms = 63
+rule_number BareArms = 64
+rule_number ArmBody = 65

@@ -13,7 +13,7 @@ use Rattle.vast_rows.specs.Rows.{Row}
 use Rattle.vast_rows.specs.Symbols.{key, mark, op, word, macro_word, include_word, rule, ◌⟶◌, ◌⟹◌}
 use Rattle.vast_rows.specs.declared.action.Action.TheVariants.{Nothing, Yes, No, NoMore, OneMore, ModuleItem, IncludeItem, HeaderParameter, PortOf, DeclarationMember, AssignMember, ParameterMember, MacroMember, InstanceMember, AlwaysMember, ConditionalMember, FunctionMember, LoopMember, KindOf, SignOf, NameBefore, Packaged, Declares, GroupOf, Connects, EdgeOf, ChangeOf, Assigns, AssignsByWord, Chooses, UniqueCase, CaseOf, Conditional, NoArms, Arm, DefaultArm}
 use Rattle.vast_rows.specs.declared.action.Listed.TheVariants as listed
-use Rattle.vast_rows.specs.declared.rule.Rule.TheVariants.{File, FileItem, Parameters, MoreParameters, Parameter, Ports, MorePorts, Port, Direction, ModuleMembers, LoopMembers, Declaration, KindWord, Declarator, SignWord, AfterWord, OwnType, SignedName, GroupedName, AfterGroups, FirstGroups, Groups, BracketGroup, GroupEnd, Member, NetKind, NoWait, Awaited, AnyMacro, MacroArguments, Expressions, MoreExpressions, LastSemicolon, GivenList, Given, MoreGiven, Connections, Connection, Connected, MoreConnections, Events, OneEvent, MoreEvents, Inputs, Input, MoreInputs, Locals, Local, LocalKind, FunctionBody, LoneCase, NoEnd, LoopLabel, Statements, Statement, Assignment, Arrow, Choice, Else, Branch, Unique, CaseKind, CaseArms, BareArms, ArmBody}
+use Rattle.vast_rows.specs.declared.rule.Rule.TheVariants.{File, FileItem, Parameters, MoreParameters, Parameter, Ports, MorePorts, Port, Direction, ModuleMembers, LoopMembers, Declaration, KindWord, Declarator, SignWord, AfterWord, OwnType, SignedName, GroupedName, AfterGroups, FirstGroups, Groups, BracketGroup, GroupEnd, Member, NetKind, NoWait, Awaited, AnyMacro, MacroArguments, Expressions, MoreExpressions, LastSemicolon, GivenList, Given, MoreGiven, Connections, Connection, Connected, MoreConnections, Events, OneEvent, MoreEvents, Inputs, Input, MoreInputs, Locals, Local, LocalKind, FunctionBody, LoneCase, NoEnd, LoopLabel, Statements, Statement, AfterTarget, Assignment, Arrow, Choice, Else, Branch, Unique, CaseKind, CaseArms, BareArms, ArmBody}
 
 -- An expression, and what a value is assigned to.
 abbrev X : Item
@@ -144,10 +144,12 @@ page =
     -- statements
     ∷ (Statements ⟶ key EndKey ∷ [] ⟹ NoMore listed.Statement)
     ∷ (Statements ⟶ rule Statement ∷ rule Statements ∷ [] ⟹ OneMore listed.Statement)
-    ∷ (Statement ⟶ rule Assignment ∷ [])
+    ∷ (Statement ⟶ L ∷ rule AfterTarget ∷ [] ⟹ Assigns)
     ∷ (Statement ⟶ key AssignKey ∷ L ∷ mark Assign ∷ X ∷ mark Semicolon ∷ [] ⟹ AssignsByWord)
     ∷ (Statement ⟶ rule Choice ∷ [] ⟹ Chooses)
     ∷ (Statement ⟶ rule Unique ∷ rule CaseKind ∷ [])
+    ∷ (AfterTarget ⟶ rule Arrow ∷ X ∷ mark Semicolon ∷ [])
+    ∷ (AfterTarget ⟶ mark Semicolon ∷ [] ⟹ Nothing)
     ∷ (Assignment ⟶ L ∷ rule Arrow ∷ X ∷ mark Semicolon ∷ [] ⟹ Assigns)
     ∷ (Arrow ⟶ mark Assign ∷ [] ⟹ Yes)
     ∷ (Arrow ⟶ op LessEqual ∷ [] ⟹ No)

@@ -61,6 +61,7 @@ pub enum Rule {
     LoopLabel,
     Statements,
     Statement,
+    AfterTarget,
     Assignment,
     Arrow,
     Choice,

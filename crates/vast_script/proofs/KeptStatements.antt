@@ -10,7 +10,7 @@ use Rattle.vast_core.specs.declared.ast.scope.Scope.TheVariants.{Module as Scope
 use Rattle.vast_core.specs.declared.ast.scope.Scope.{Scope}
 use Rattle.vast_core.specs.declared.node.Member.TheVariants.{Conditional as ConditionalEntry}
 use Rattle.vast_core.specs.declared.node.Statement.{Statement}
-use Rattle.vast_core.specs.declared.node.Statement.TheVariants.{Assignment as AssignStatement, Continuous as ContinuousStatement, Conditional as ConditionalStatement, Case as CasesStatement, BlankLine as BlankStatement, Comment as CommentStatement, Inline as InlineStatement}
+use Rattle.vast_core.specs.declared.node.Statement.TheVariants.{Assignment as AssignStatement, Continuous as ContinuousStatement, Task as TaskStatement, Conditional as ConditionalStatement, Case as CasesStatement, BlankLine as BlankStatement, Comment as CommentStatement, Inline as InlineStatement}
 use Rattle.vast_core.specs.Bench.{type_of}
 use Rattle.vast_core.specs.Growth.{next_logic_ref, with_member, with_assignment}
 use Rattle.vast_core.specs.Artifacts.{next_statement}
@@ -24,7 +24,7 @@ use Rattle.xlsynth_vast.specs.Functions.{may_be_function, with_function_member, 
 use Rattle.xlsynth_vast.specs.Inspections.{block_at, then_block_at, body_at, result_at}
 use Rattle.vast_script.specs.declared.answer.Answer.TheVariants.{VastFunction, LogicRef, VastAlwaysBase, VastStatementBlock, VastStatement, Conditional, CaseStatement, Nothing}
 use Rattle.vast_script.specs.declared.step.StatementStep.{StatementStep}
-use Rattle.vast_script.specs.declared.step.StatementStep.TheVariants.{AddFunction, FunctionAddInput, FunctionAddLogicInput, FunctionAddReg, FunctionAddLogic, FunctionBody, FunctionResult, AddAlwaysFf, AddAlwaysAt, AddAlwaysComb, AddAlwaysStar, AddAlwaysLatch, AddInitial, StatementBlock, BlockAddBlockingAssignment, BlockAddNonblockingAssignment, BlockAddContinuousAssignment, BlockAddCommentText, BlockAddInlineText, BlockAddBlankLine, AddConditional, BlockAddCond, ConditionalThenBlock, ConditionalAddElseIf, ConditionalAddElse, BlockAddCase, BlockAddCasez, BlockAddCasex, CaseAddItem, CaseAddDefault, CaseSetUnique}
+use Rattle.vast_script.specs.declared.step.StatementStep.TheVariants.{AddFunction, FunctionAddInput, FunctionAddLogicInput, FunctionAddReg, FunctionAddLogic, FunctionBody, FunctionResult, AddAlwaysFf, AddAlwaysAt, AddAlwaysComb, AddAlwaysStar, AddAlwaysLatch, AddInitial, BlockAddTaskCall, StatementBlock, BlockAddBlockingAssignment, BlockAddNonblockingAssignment, BlockAddContinuousAssignment, BlockAddCommentText, BlockAddInlineText, BlockAddBlankLine, AddConditional, BlockAddCond, ConditionalThenBlock, ConditionalAddElseIf, ConditionalAddElse, BlockAddCase, BlockAddCasez, BlockAddCasex, CaseAddItem, CaseAddDefault, CaseSetUnique}
 use Rattle.vast_script.specs.Outcome.{Made, provided, allowed, holding}
 use Rattle.vast_script.specs.Kinds.{a_module, a_function, a_type, an_expr, an_always, a_block, a_conditional, a_case, Kind}
 use Rattle.vast_script.specs.Arguments.{one, two, three, one_and_many}
@@ -72,6 +72,7 @@ statement-keeps (StatementBlock always) = λ b answers. given-keeps b (one an_al
 statement-keeps (BlockAddBlockingAssignment block left right) = block_add_assignment-keeps false block left right
 statement-keeps (BlockAddNonblockingAssignment block left right) = block_add_assignment-keeps true block left right
 statement-keeps (BlockAddContinuousAssignment block left right) = λ b answers. given-keeps b (three a_block an_expr an_expr b answers block left right) (λ (block, left, right). Made (VastStatement (next_statement b)) (with_statement block (ContinuousStatement (next_statement b)) (with_assignment (record { lhs = left; rhs = right; nonblocking = false }) b))) (λ (block, left, right). keeps-then b (with_assignment (record { lhs = left; rhs = right; nonblocking = false }) b) _ (assignment-kept (record { lhs = left; rhs = right; nonblocking = false }) b) (statement-kept block (ContinuousStatement (next_statement b)) (with_assignment (record { lhs = left; rhs = right; nonblocking = false }) b)))
+statement-keeps (BlockAddTaskCall block call) = λ b answers. given-keeps b (two a_block an_expr b answers block call) (λ (block, call). Made Nothing (with_statement block (TaskStatement call) b)) (λ (block, call). statement-kept block (TaskStatement call) b)
 statement-keeps (BlockAddCommentText block text) = block_add-keeps (CommentStatement (string_bytes text)) block
 statement-keeps (BlockAddInlineText block text) = block_add-keeps (InlineStatement (string_bytes text)) block
 statement-keeps (BlockAddBlankLine block) = block_add-keeps BlankStatement block

@@ -168,6 +168,10 @@ pub(crate) fn replay_statement(
             )?;
             statement(file.block_add_continuous_assignment(owner, &left, &right))
         }
+        StatementStep::BlockAddTaskCall(owner, call) => {
+            let (owner, call): (VastStatementBlock, Expr) = two(file, answers, *owner, *call)?;
+            nothing(file.block_add_task_call(owner, &call))
+        }
         StatementStep::BlockAddCommentText(owner, text) => {
             let owner: VastStatementBlock = one(file, answers, *owner)?;
             nothing(file.block_add_comment_text(owner, text))

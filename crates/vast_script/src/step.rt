@@ -187,6 +187,7 @@ pub enum StatementStep {
     AddAlwaysStar(usize),
     AddAlwaysLatch(usize),
     AddInitial(usize),
+    BlockAddTaskCall(usize, usize),
 }
 
 /// Calls of parts that are made beforehand, and that add them to modules.

@@ -806,6 +806,12 @@ pub fn make(file: &mut VastFile, answers: &Answers, line: &Line) -> Result<Answe
             let owner = answers.handle(&words[0])?;
             Ok(Answer::VastAlwaysBase(file.add_initial(owner)?))
         }
+        "BlockAddTaskCall" => {
+            let block = answers.handle(&words[0])?;
+            let call = answers.handle(&words[1])?;
+            file.block_add_task_call(block, &call);
+            Ok(Answer::Nothing)
+        }
         "MakeDef" => {
             let name = words[0].text();
             let kind = kind_of(&words[1]);

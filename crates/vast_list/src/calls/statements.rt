@@ -54,6 +54,7 @@ pub(super) fn statement_step(
         28 => arguments.one(StatementStep::AddAlwaysStar),
         29 => arguments.one(StatementStep::AddAlwaysLatch),
         30 => arguments.one(StatementStep::AddInitial),
+        31 => arguments.two(StatementStep::BlockAddTaskCall),
         _ => Err(arguments.misfit(Problem::UnknownCall)),
     }
 }

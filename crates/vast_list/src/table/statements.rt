@@ -1,13 +1,13 @@
 //! Calls of functions, always blocks, conditionals and statements.
 
 use super::by_name::{
-    ALWAYS, BLOCK, CASE, CONDITION, CONDITIONAL, DATA_TYPE, FUNCTION, LHS, NAME, OWNER, PATTERN,
-    RESULT_TYPE, RHS, SELECTOR, SENSITIVITY_LIST, TEXT, UNIQUE,
+    ALWAYS, BLOCK, CALL, CASE, CONDITION, CONDITIONAL, DATA_TYPE, FUNCTION, LHS, NAME, OWNER,
+    PATTERN, RESULT_TYPE, RHS, SELECTOR, SENSITIVITY_LIST, TEXT, UNIQUE,
 };
 use super::{CallRow, kinds};
 
 /// Calls of functions, always blocks, conditionals and statements.
-pub(crate) static CALLS: [CallRow; 31] = [
+pub(crate) static CALLS: [CallRow; 32] = [
     CallRow("AddFunction", &[OWNER, NAME, RESULT_TYPE], kinds::FUNCTION),
     CallRow(
         "FunctionAddInput",
@@ -71,4 +71,5 @@ pub(crate) static CALLS: [CallRow; 31] = [
     CallRow("AddAlwaysStar", &[OWNER], kinds::ALWAYS),
     CallRow("AddAlwaysLatch", &[OWNER], kinds::ALWAYS),
     CallRow("AddInitial", &[OWNER], kinds::ALWAYS),
+    CallRow("BlockAddTaskCall", &[BLOCK, CALL], kinds::NOTHING),
 ];

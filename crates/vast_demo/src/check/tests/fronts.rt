@@ -19,7 +19,7 @@ type Row = (
     &'static [Kind],
 );
 
-const ROWS: [Row; 11] = [
+const ROWS: [Row; 12] = [
     (
         "",
         "",
@@ -99,6 +99,13 @@ const ROWS: [Row; 11] = [
         false,
         &[Kind::Reserved(Key::Wire)],
         &[Kind::Mark(Mark::Comma)],
+    ),
+    (
+        "module m; initial begin $display(a) end",
+        "module m; initial begin $display(a) ",
+        false,
+        &[SEMICOLON, Kind::Mark(Mark::Assign)],
+        &[CLOSE, Kind::Reserved(Key::End)],
     ),
 ];
 
