@@ -46,7 +46,7 @@ left_spelled e p w = left_level e (and_left (is_left_side e) (is_plain e) p) (sp
 
 call_level : (e : ExprTree) → is_call e ≡ true → Spells (spelled_level e) (expr_tokens e) (normal e) → Spells 13 (expr_tokens e) (normal e)
 call_level (CallTree name arguments) h s = s
-call_level (MacroTree name arguments) h s = s
+call_level (MacroTree name given) h s = s
 call_level _ h s = absurd (cc h)
 
 call_spelled : (e : ExprTree) → (is_call e && is_plain e) ≡ true → is_well_formed e ≡ true → Spells 13 (expr_tokens e) (normal e)

@@ -20,7 +20,7 @@ is_left_side e = elim e [ NameTree name type ↦ true | IndexTree subject index 
 
 -- A call of a function or of a task, or the use of a macro.
 abbrev pub is_call : ExprTree → Bool
-is_call e = elim e [ CallTree name arguments ↦ true | MacroTree name arguments ↦ true | _ ↦ false ]
+is_call e = elim e [ CallTree name arguments ↦ true | MacroTree name given ↦ true | _ ↦ false ]
 
 abbrev pub is_plain_assignment : (left right : ExprTree) → Bool
 is_plain_assignment left right = (is_left_side left && is_plain left) && is_plain right
