@@ -62,6 +62,12 @@ def shown(crate, module="lib"):
     return words.union([module], modules, *(shown(crate, it) for it in modules))
 
 
+def type_of(block):
+    """The type whose functions stand in an `impl` block, by the block's line."""
+    head = block.split(" for ", 1)[-1]
+    return re.findall(r"\w+", head.split(">", 1)[-1] if head.startswith("impl<") else head.removeprefix("impl"))[0]
+
+
 def is_public(function, module, words):
     """Whether other crates can call it: itself or its type is handed on under one of these words, or its module is public."""
     owner = re.findall(r"\w+", function.block.split(">", 1)[-1] if function.block.startswith("impl<") else function.block[4:])

@@ -1,4 +1,6 @@
 """Each call that makes an expression or a type, with the text that the layout gives it."""
+import re
+
 from sessions import FileTest, over_each
 from vast import Expression, LiteralFormat
 
@@ -182,11 +184,13 @@ class Types(FileTest):
             "wire unsigned k": file.make_int_type(),
             "wire [1:0][2:0][7:0] p": file.make_packed_array_type(8, [2, 3]),
             f"wire [7:0] q{'[0:1]' if verilog else '[2]'}": file.make_unpacked_array_type(8, [2]),
+            "wire [W - 1:0][7:0] r": file.make_packed_array_type_expr(8, [width]),
+            f"wire [7:0] v{'[0:W - 1]' if verilog else '[W]'}": file.make_unpacked_array_type_expr(8, [width]),
             "wire T e": file.make_extern_type("T"),
             "wire p::T x": file.make_extern_package_type("p", "T"),
         }
         for row, kind in rows.items():
-            file.add_wire(module, row.split("[0")[0].split("[2]")[0].split()[-1], kind)
+            file.add_wire(module, re.search(r"(\w+)(\[[^\]]*\])?$", row)[1], kind)
         self.assert_file(
             file,
             "module m #(",
