@@ -1187,6 +1187,33 @@ static inline int32_t vast_generate_add_macro_statement(vast_file *file, vast_lo
     return vast_call_make(file, NULL);
 }
 
+/* An `always @*` with an empty block, as the loop's last member. */
+static inline int32_t vast_generate_add_always_star(vast_file *file, vast_loop generate,
+                                                    vast_always *made)
+{
+    vast_call_begin(file, "GenerateAddAlwaysStar", 244);
+    vast_call_handle(file, generate.id);
+    return vast_call_make(file, made == NULL ? NULL : &made->id);
+}
+
+/* An `always_latch` with an empty block, as the loop's last member. */
+static inline int32_t vast_generate_add_always_latch(vast_file *file, vast_loop generate,
+                                                     vast_always *made)
+{
+    vast_call_begin(file, "GenerateAddAlwaysLatch", 260);
+    vast_call_handle(file, generate.id);
+    return vast_call_make(file, made == NULL ? NULL : &made->id);
+}
+
+/* An `initial` block with an empty block, as the loop's last member. */
+static inline int32_t vast_generate_add_initial(vast_file *file, vast_loop generate,
+                                                vast_always *made)
+{
+    vast_call_begin(file, "GenerateAddInitial", 276);
+    vast_call_handle(file, generate.id);
+    return vast_call_make(file, made == NULL ? NULL : &made->id);
+}
+
 /* Statements */
 
 /* A function without inputs and locals and with an empty body, as the module's last member.
@@ -1484,6 +1511,40 @@ static inline int32_t vast_case_set_unique(vast_file *file, vast_case case_state
     vast_call_begin(file, "CaseSetUnique", 437);
     vast_call_handle(file, case_statement.id);
     vast_call_truth(file, unique);
+    return vast_call_make(file, NULL);
+}
+
+/* An `always @*` with an empty block, as the module's last member. */
+static inline int32_t vast_add_always_star(vast_file *file, vast_module owner, vast_always *made)
+{
+    vast_call_begin(file, "AddAlwaysStar", 453);
+    vast_call_handle(file, owner.id);
+    return vast_call_make(file, made == NULL ? NULL : &made->id);
+}
+
+/* An `always_latch` with an empty block, as the module's last member. */
+static inline int32_t vast_add_always_latch(vast_file *file, vast_module owner, vast_always *made)
+{
+    vast_call_begin(file, "AddAlwaysLatch", 469);
+    vast_call_handle(file, owner.id);
+    return vast_call_make(file, made == NULL ? NULL : &made->id);
+}
+
+/* An `initial` block with an empty block, as the module's last member. */
+static inline int32_t vast_add_initial(vast_file *file, vast_module owner, vast_always *made)
+{
+    vast_call_begin(file, "AddInitial", 485);
+    vast_call_handle(file, owner.id);
+    return vast_call_make(file, made == NULL ? NULL : &made->id);
+}
+
+/* The statement `f(a, b);` of a call, as the block's last. */
+static inline int32_t vast_block_add_task_call(vast_file *file, vast_block block,
+                                               vast_expression call)
+{
+    vast_call_begin(file, "BlockAddTaskCall", 501);
+    vast_call_handle(file, block.id);
+    vast_call_handle(file, call.id);
     return vast_call_make(file, NULL);
 }
 

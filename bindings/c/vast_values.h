@@ -1159,6 +1159,36 @@ static inline void v_generate_add_macro_statement(vast_file *file, vast_loop gen
         file->fault = vast_generate_add_macro_statement(file, generate, statement);
 }
 
+/* `vast_generate_add_always_star`: an `always @*` with an empty block, as the loop's last
+ * member. */
+static inline vast_always v_generate_add_always_star(vast_file *file, vast_loop generate)
+{
+    vast_always answer = {{0, 0}};
+    if (file->fault == VAST_OK)
+        file->fault = vast_generate_add_always_star(file, generate, &answer);
+    return answer;
+}
+
+/* `vast_generate_add_always_latch`: an `always_latch` with an empty block, as the loop's last
+ * member. */
+static inline vast_always v_generate_add_always_latch(vast_file *file, vast_loop generate)
+{
+    vast_always answer = {{0, 0}};
+    if (file->fault == VAST_OK)
+        file->fault = vast_generate_add_always_latch(file, generate, &answer);
+    return answer;
+}
+
+/* `vast_generate_add_initial`: an `initial` block with an empty block, as the loop's last
+ * member. */
+static inline vast_always v_generate_add_initial(vast_file *file, vast_loop generate)
+{
+    vast_always answer = {{0, 0}};
+    if (file->fault == VAST_OK)
+        file->fault = vast_generate_add_initial(file, generate, &answer);
+    return answer;
+}
+
 /* `vast_add_function`: a function without inputs and locals and with an empty body, as the
  * module's last member. */
 static inline vast_function v_add_function(vast_file *file, vast_module owner, const char *name,
@@ -1461,6 +1491,42 @@ static inline void v_case_set_unique(vast_file *file, vast_case case_statement, 
     if (file->fault == VAST_OK)
         file->fault = vast_case_set_unique(file, case_statement, unique);
 }
+
+/* `vast_add_always_star`: an `always @*` with an empty block, as the module's last member. */
+static inline vast_always v_add_always_star(vast_file *file, vast_module owner)
+{
+    vast_always answer = {{0, 0}};
+    if (file->fault == VAST_OK)
+        file->fault = vast_add_always_star(file, owner, &answer);
+    return answer;
+}
+
+/* `vast_add_always_latch`: an `always_latch` with an empty block, as the module's last member. */
+static inline vast_always v_add_always_latch(vast_file *file, vast_module owner)
+{
+    vast_always answer = {{0, 0}};
+    if (file->fault == VAST_OK)
+        file->fault = vast_add_always_latch(file, owner, &answer);
+    return answer;
+}
+
+/* `vast_add_initial`: an `initial` block with an empty block, as the module's last member. */
+static inline vast_always v_add_initial(vast_file *file, vast_module owner)
+{
+    vast_always answer = {{0, 0}};
+    if (file->fault == VAST_OK)
+        file->fault = vast_add_initial(file, owner, &answer);
+    return answer;
+}
+
+/* `vast_block_add_task_call`: the statement `f(a, b);` of a call, as the block's last. */
+static inline void v_block_add_task_call(vast_file *file, vast_block block, vast_expression call)
+{
+    if (file->fault == VAST_OK)
+        file->fault = vast_block_add_task_call(file, block, call);
+}
+#define v_block_add_task_call(file, block, call) \
+    v_block_add_task_call(file, block, vast_expression_of(call))
 
 /* `vast_make_def`: a declaration's kind, type and name, which parameters can be made with. */
 static inline vast_definition v_make_def(vast_file *file, const char *name, vast_data_kind kind,

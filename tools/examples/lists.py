@@ -100,3 +100,7 @@ class List:
     def clocked(self, module, clk):
         """The block of an `always_ff @ (posedge clk)`, the module's next member."""
         return self.StatementBlock(self.AddAlwaysFf(module, [self.MakePosEdge(clk)]))
+
+    def call(self, block, name, arguments):
+        """The statement `name(arguments);` as the block's next."""
+        self.BlockAddTaskCall(block, self.MakeFunctionCall(name, arguments))

@@ -149,10 +149,7 @@ class Reader:
             self.maybe_cast()
         elif self.take("logic", "signed", "unsigned", "integer", "int"):
             self.cast()
-        elif self.take_kind("system"):
-            self.need("(")
-            self.joined_until(self.expression, ")")
-        elif self.take_kind("macro"):
+        elif self.take_kind("system") or self.take_kind("macro"):
             if self.take("("):
                 self.joined_until(self.expression, ")")
         elif self.take("'"):
@@ -256,11 +253,10 @@ class Reader:
             self.take(";")
         elif self.take_kind("name"):
             self.instance()
-        elif self.take("always_comb"):
+        elif self.take("always_comb", "always_latch", "initial"):
             self.block()
-        elif self.take("always_ff", "always"):
-            self.need("@", "(")
-            self.joined_until(self.event, ")", "or")
+        elif self.sees("always_ff", "always"):
+            self.awaited()
             self.block()
         elif self.take("function"):
             self.function()
@@ -270,6 +266,15 @@ class Reader:
             self.loop()
         else:
             raise NoFile
+
+    def awaited(self):
+        may_be_all = self.take("always")
+        if not may_be_all:
+            self.need("always_ff")
+        self.need("@")
+        if not (may_be_all and self.take("*")):
+            self.need("(")
+            self.joined_until(self.event, ")", "or")
 
     def loop(self):
         self.need("(", "genvar")
@@ -366,10 +371,15 @@ class Reader:
         elif self.sees("unique", "case", "casez", "casex"):
             self.case("case", "casez", "casex")
         else:
-            self.assignment()
+            self.postfix()
+            if not self.take(";"):
+                self.assigned()
 
     def assignment(self):
         self.postfix()
+        self.assigned()
+
+    def assigned(self):
         if not self.take("=", "<="):
             raise NoFile
         self.expression()

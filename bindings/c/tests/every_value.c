@@ -436,38 +436,48 @@ static int part_10(answers *have)
     v_generate_add_blank_line(&have->file, have->loop);
     CHECK(have->file.fault == VAST_OK);
     CHECK(is_written(have, "GenerateAddBlankLine 85", "\003\244\001U", 4));
-    have->function = v_add_function(&have->file, have->module, "name_95", have->type);
+    v_generate_add_always_star(&have->file, have->loop);
     CHECK(have->file.fault == VAST_OK);
-    CHECK(is_written(have, "AddFunction 2 \"name_95\" 1", "\013\005\002\007name_95\001", 12));
-    v_function_add_input(&have->file, have->function, "name_96", have->type);
+    CHECK(is_written(have, "GenerateAddAlwaysStar 85", "\003\364\001U", 4));
+    v_generate_add_always_latch(&have->file, have->loop);
     CHECK(have->file.fault == VAST_OK);
-    CHECK(is_written(have, "FunctionAddInput 95 \"name_96\" 1", "\013\025_\007name_96\001", 12));
-    v_function_add_logic_input(&have->file, have->function, "name_97", have->type);
+    CHECK(is_written(have, "GenerateAddAlwaysLatch 85", "\003\204\002U", 4));
+    v_generate_add_initial(&have->file, have->loop);
     CHECK(have->file.fault == VAST_OK);
-    CHECK(is_written(have, "FunctionAddLogicInput 95 \"name_97\" 1", "\013%_\007name_97\001", 12));
-    v_function_add_reg(&have->file, have->function, "name_98", have->type);
+    CHECK(is_written(have, "GenerateAddInitial 85", "\003\224\002U", 4));
+    have->function = v_add_function(&have->file, have->module, "name_98", have->type);
     CHECK(have->file.fault == VAST_OK);
-    CHECK(is_written(have, "FunctionAddReg 95 \"name_98\" 1", "\0135_\007name_98\001", 12));
-    v_function_add_logic(&have->file, have->function, "name_99", have->type);
+    CHECK(is_written(have, "AddFunction 2 \"name_98\" 1", "\013\005\002\007name_98\001", 12));
+    v_function_add_input(&have->file, have->function, "name_99", have->type);
     CHECK(have->file.fault == VAST_OK);
-    CHECK(is_written(have, "FunctionAddLogic 95 \"name_99\" 1", "\013E_\007name_99\001", 12));
+    CHECK(is_written(have, "FunctionAddInput 98 \"name_99\" 1", "\013\025b\007name_99\001", 12));
+    v_function_add_logic_input(&have->file, have->function, "name_100", have->type);
+    CHECK(have->file.fault == VAST_OK);
+    CHECK(is_written(have, "FunctionAddLogicInput 98 \"name_100\" 1", "\014%b\010name_100\001",
+                           13));
+    v_function_add_reg(&have->file, have->function, "name_101", have->type);
+    CHECK(have->file.fault == VAST_OK);
+    CHECK(is_written(have, "FunctionAddReg 98 \"name_101\" 1", "\0145b\010name_101\001", 13));
+    v_function_add_logic(&have->file, have->function, "name_102", have->type);
+    CHECK(have->file.fault == VAST_OK);
+    CHECK(is_written(have, "FunctionAddLogic 98 \"name_102\" 1", "\014Eb\010name_102\001", 13));
     have->block = v_function_body(&have->file, have->function);
     CHECK(have->file.fault == VAST_OK);
-    CHECK(is_written(have, "FunctionBody 95", "\002U_", 3));
+    CHECK(is_written(have, "FunctionBody 98", "\002Ub", 3));
+    return 0;
+}
+
+static int part_11(answers *have)
+{
     v_function_result(&have->file, have->function);
     CHECK(have->file.fault == VAST_OK);
-    CHECK(is_written(have, "FunctionResult 95", "\002e_", 3));
+    CHECK(is_written(have, "FunctionResult 98", "\002eb", 3));
     v_add_always_ff(&have->file, have->module, have->expressions, 2);
     CHECK(have->file.fault == VAST_OK);
     CHECK(is_written(have, "AddAlwaysFf 2 [ 3 3 ]", "\005u\002\002\003\003", 6));
     v_add_always_at(&have->file, have->module, have->expressions, 2);
     CHECK(have->file.fault == VAST_OK);
     CHECK(is_written(have, "AddAlwaysAt 2 [ 3 3 ]", "\006\205\001\002\002\003\003", 7));
-    return 0;
-}
-
-static int part_11(answers *have)
-{
     v_add_always_comb(&have->file, have->module);
     CHECK(have->file.fault == VAST_OK);
     CHECK(is_written(have, "AddAlwaysComb 2", "\003\225\001\002", 4));
@@ -476,34 +486,34 @@ static int part_11(answers *have)
     CHECK(is_written(have, "StatementBlock 88", "\003\245\001X", 4));
     v_block_add_blocking_assignment(&have->file, have->block, have->signal, have->expression);
     CHECK(have->file.fault == VAST_OK);
-    CHECK(is_written(have, "BlockAddBlockingAssignment 100 3 0", "\005\265\001d\003\000", 6));
+    CHECK(is_written(have, "BlockAddBlockingAssignment 103 3 0", "\005\265\001g\003\000", 6));
     v_block_add_nonblocking_assignment(&have->file, have->block, have->signal, have->expression);
     CHECK(have->file.fault == VAST_OK);
-    CHECK(is_written(have, "BlockAddNonblockingAssignment 100 3 0", "\005\305\001d\003\000", 6));
+    CHECK(is_written(have, "BlockAddNonblockingAssignment 103 3 0", "\005\305\001g\003\000", 6));
     v_block_add_continuous_assignment(&have->file, have->block, have->signal, have->expression);
     CHECK(have->file.fault == VAST_OK);
-    CHECK(is_written(have, "BlockAddContinuousAssignment 100 3 0", "\005\325\001d\003\000", 6));
-    v_block_add_comment_text(&have->file, have->block, "text_109");
+    CHECK(is_written(have, "BlockAddContinuousAssignment 103 3 0", "\005\325\001g\003\000", 6));
+    v_block_add_comment_text(&have->file, have->block, "text_112");
     CHECK(have->file.fault == VAST_OK);
-    CHECK(is_written(have, "BlockAddCommentText 100 \"text_109\"", "\014\345\001d\010text_109",
+    CHECK(is_written(have, "BlockAddCommentText 103 \"text_112\"", "\014\345\001g\010text_112",
                            13));
-    v_block_add_inline_text(&have->file, have->block, "text_110");
+    v_block_add_inline_text(&have->file, have->block, "text_113");
     CHECK(have->file.fault == VAST_OK);
-    CHECK(is_written(have, "BlockAddInlineText 100 \"text_110\"", "\014\365\001d\010text_110", 13));
-    v_block_add_blank_line(&have->file, have->block);
-    CHECK(have->file.fault == VAST_OK);
-    CHECK(is_written(have, "BlockAddBlankLine 100", "\003\205\002d", 4));
-    v_add_conditional(&have->file, have->module, have->signal);
-    CHECK(have->file.fault == VAST_OK);
-    CHECK(is_written(have, "AddConditional 2 3", "\004\225\002\002\003", 5));
-    v_block_add_cond(&have->file, have->block, have->signal);
-    CHECK(have->file.fault == VAST_OK);
-    CHECK(is_written(have, "BlockAddCond 100 3", "\004\245\002d\003", 5));
+    CHECK(is_written(have, "BlockAddInlineText 103 \"text_113\"", "\014\365\001g\010text_113", 13));
     return 0;
 }
 
 static int part_12(answers *have)
 {
+    v_block_add_blank_line(&have->file, have->block);
+    CHECK(have->file.fault == VAST_OK);
+    CHECK(is_written(have, "BlockAddBlankLine 103", "\003\205\002g", 4));
+    v_add_conditional(&have->file, have->module, have->signal);
+    CHECK(have->file.fault == VAST_OK);
+    CHECK(is_written(have, "AddConditional 2 3", "\004\225\002\002\003", 5));
+    v_block_add_cond(&have->file, have->block, have->signal);
+    CHECK(have->file.fault == VAST_OK);
+    CHECK(is_written(have, "BlockAddCond 103 3", "\004\245\002g\003", 5));
     v_conditional_then_block(&have->file, have->conditional);
     CHECK(have->file.fault == VAST_OK);
     CHECK(is_written(have, "ConditionalThenBlock 93", "\003\265\002]", 4));
@@ -515,123 +525,140 @@ static int part_12(answers *have)
     CHECK(is_written(have, "ConditionalAddElse 93", "\003\325\002]", 4));
     have->cases = v_block_add_case(&have->file, have->block, have->signal);
     CHECK(have->file.fault == VAST_OK);
-    CHECK(is_written(have, "BlockAddCase 100 3", "\004\345\002d\003", 5));
+    CHECK(is_written(have, "BlockAddCase 103 3", "\004\345\002g\003", 5));
     v_block_add_casez(&have->file, have->block, have->signal);
     CHECK(have->file.fault == VAST_OK);
-    CHECK(is_written(have, "BlockAddCasez 100 3", "\004\365\002d\003", 5));
+    CHECK(is_written(have, "BlockAddCasez 103 3", "\004\365\002g\003", 5));
     v_block_add_casex(&have->file, have->block, have->signal);
     CHECK(have->file.fault == VAST_OK);
-    CHECK(is_written(have, "BlockAddCasex 100 3", "\004\205\003d\003", 5));
+    CHECK(is_written(have, "BlockAddCasex 103 3", "\004\205\003g\003", 5));
     v_case_add_item(&have->file, have->cases, have->signal);
     CHECK(have->file.fault == VAST_OK);
-    CHECK(is_written(have, "CaseAddItem 117 3", "\004\225\003u\003", 5));
-    v_case_add_default(&have->file, have->cases);
-    CHECK(have->file.fault == VAST_OK);
-    CHECK(is_written(have, "CaseAddDefault 117", "\003\245\003u", 4));
-    v_case_set_unique(&have->file, have->cases, true);
-    CHECK(have->file.fault == VAST_OK);
-    CHECK(is_written(have, "CaseSetUnique 117 true", "\004\265\003u\001", 5));
-    have->definition = v_make_def(&have->file, "name_123", VAST_DATA_KIND_GENVAR, have->type);
-    CHECK(have->file.fault == VAST_OK);
-    CHECK(is_written(have, "MakeDef \"name_123\" Genvar 1", "\014\006\010name_123\007\001", 13));
+    CHECK(is_written(have, "CaseAddItem 120 3", "\004\225\003x\003", 5));
     return 0;
 }
 
 static int part_13(answers *have)
 {
+    v_case_add_default(&have->file, have->cases);
+    CHECK(have->file.fault == VAST_OK);
+    CHECK(is_written(have, "CaseAddDefault 120", "\003\245\003x", 4));
+    v_case_set_unique(&have->file, have->cases, true);
+    CHECK(have->file.fault == VAST_OK);
+    CHECK(is_written(have, "CaseSetUnique 120 true", "\004\265\003x\001", 5));
+    v_add_always_star(&have->file, have->module);
+    CHECK(have->file.fault == VAST_OK);
+    CHECK(is_written(have, "AddAlwaysStar 2", "\003\305\003\002", 4));
+    v_add_always_latch(&have->file, have->module);
+    CHECK(have->file.fault == VAST_OK);
+    CHECK(is_written(have, "AddAlwaysLatch 2", "\003\325\003\002", 4));
+    v_add_initial(&have->file, have->module);
+    CHECK(have->file.fault == VAST_OK);
+    CHECK(is_written(have, "AddInitial 2", "\003\345\003\002", 4));
+    v_block_add_task_call(&have->file, have->block, have->signal);
+    CHECK(have->file.fault == VAST_OK);
+    CHECK(is_written(have, "BlockAddTaskCall 103 3", "\004\365\003g\003", 5));
+    have->definition = v_make_def(&have->file, "name_130", VAST_DATA_KIND_GENVAR, have->type);
+    CHECK(have->file.fault == VAST_OK);
+    CHECK(is_written(have, "MakeDef \"name_130\" Genvar 1", "\014\006\010name_130\007\001", 13));
     v_add_parameter_with_def(&have->file, have->module, have->definition, have->signal);
     CHECK(have->file.fault == VAST_OK);
-    CHECK(is_written(have, "AddParameterWithDef 2 123 3", "\005\363\001\002{\003", 6));
+    CHECK(is_written(have, "AddParameterWithDef 2 130 3", "\006\363\001\002\202\001\003", 7));
     v_add_typed_localparam(&have->file, have->module, have->definition, have->signal);
     CHECK(have->file.fault == VAST_OK);
-    CHECK(is_written(have, "AddTypedLocalparam 2 123 3", "\005\243\002\002{\003", 6));
+    CHECK(is_written(have, "AddTypedLocalparam 2 130 3", "\006\243\002\002\202\001\003", 7));
     v_generate_add_typed_localparam(&have->file, have->loop, have->definition, have->signal);
     CHECK(have->file.fault == VAST_OK);
-    CHECK(is_written(have, "GenerateAddTypedLocalparam 85 123 3", "\004tU{\003", 5));
-    have->blank_line = v_make_blank_line(&have->file);
-    CHECK(have->file.fault == VAST_OK);
-    CHECK(is_written(have, "MakeBlankLine", "\001\026", 2));
-    v_add_blank_line(&have->file, have->blank_line);
-    CHECK(have->file.fault == VAST_OK);
-    CHECK(is_written(have, "AddBlankLine 127", "\002\023\177", 3));
-    have->comment = v_make_comment(&have->file, "text_129");
-    CHECK(have->file.fault == VAST_OK);
-    CHECK(is_written(have, "MakeComment \"text_129\"", "\012&\010text_129", 11));
-    v_generate_add_comment(&have->file, have->loop, have->comment);
-    CHECK(have->file.fault == VAST_OK);
-    CHECK(is_written(have, "GenerateAddComment 85 129", "\005\264\001U\201\001", 6));
-    have->inline_statement = v_make_inline_verilog_statement(&have->file, "text_131");
-    CHECK(have->file.fault == VAST_OK);
-    CHECK(is_written(have, "MakeInlineVerilogStatement \"text_131\"", "\0126\010text_131", 11));
-    v_generate_add_inline_statement(&have->file, have->loop, have->inline_statement);
-    CHECK(have->file.fault == VAST_OK);
-    CHECK(is_written(have, "GenerateAddInlineStatement 85 131", "\005\324\001U\203\001", 6));
-    have->macro_statement = v_make_macro_statement(&have->file, have->macro, true);
-    CHECK(have->file.fault == VAST_OK);
-    CHECK(is_written(have, "MakeMacroStatement 58 true", "\003F:\001", 4));
+    CHECK(is_written(have, "GenerateAddTypedLocalparam 85 130 3", "\005tU\202\001\003", 6));
     return 0;
 }
 
 static int part_14(answers *have)
 {
+    have->blank_line = v_make_blank_line(&have->file);
+    CHECK(have->file.fault == VAST_OK);
+    CHECK(is_written(have, "MakeBlankLine", "\001\026", 2));
+    v_add_blank_line(&have->file, have->blank_line);
+    CHECK(have->file.fault == VAST_OK);
+    CHECK(is_written(have, "AddBlankLine 134", "\003\023\206\001", 4));
+    have->comment = v_make_comment(&have->file, "text_136");
+    CHECK(have->file.fault == VAST_OK);
+    CHECK(is_written(have, "MakeComment \"text_136\"", "\012&\010text_136", 11));
+    v_generate_add_comment(&have->file, have->loop, have->comment);
+    CHECK(have->file.fault == VAST_OK);
+    CHECK(is_written(have, "GenerateAddComment 85 136", "\005\264\001U\210\001", 6));
+    have->inline_statement = v_make_inline_verilog_statement(&have->file, "text_138");
+    CHECK(have->file.fault == VAST_OK);
+    CHECK(is_written(have, "MakeInlineVerilogStatement \"text_138\"", "\0126\010text_138", 11));
+    v_generate_add_inline_statement(&have->file, have->loop, have->inline_statement);
+    CHECK(have->file.fault == VAST_OK);
+    CHECK(is_written(have, "GenerateAddInlineStatement 85 138", "\005\324\001U\212\001", 6));
+    have->macro_statement = v_make_macro_statement(&have->file, have->macro, true);
+    CHECK(have->file.fault == VAST_OK);
+    CHECK(is_written(have, "MakeMacroStatement 58 true", "\003F:\001", 4));
     v_generate_add_macro_statement(&have->file, have->loop, have->macro_statement);
     CHECK(have->file.fault == VAST_OK);
-    CHECK(is_written(have, "GenerateAddMacroStatement 85 133", "\005\344\001U\205\001", 6));
+    CHECK(is_written(have, "GenerateAddMacroStatement 85 140", "\005\344\001U\214\001", 6));
     have->assignment = v_make_continuous_assignment(&have->file, have->signal, have->expression);
     CHECK(have->file.fault == VAST_OK);
     CHECK(is_written(have, "MakeContinuousAssignment 3 0", "\003V\003\000", 4));
     v_make_nonblocking_assignment(&have->file, have->signal, have->expression);
     CHECK(have->file.fault == VAST_OK);
     CHECK(is_written(have, "MakeNonblockingAssignment 3 0", "\003f\003\000", 4));
-    v_make_blocking_assignment(&have->file, have->signal, have->expression);
-    CHECK(have->file.fault == VAST_OK);
-    CHECK(is_written(have, "MakeBlockingAssignment 3 0", "\003v\003\000", 4));
-    have->instantiation = v_make_instantiation(&have->file, "module_name_138", "instance_name_138",
-                                               have->strings, 2, have->expressions, 2,
-                                               have->strings, 2, have->options, 2);
-    CHECK(have->file.fault == VAST_OK);
-    CHECK(is_written(have,
-                           "MakeInstantiation \"module_name_138\" \"instance_name_138\" [ \"first\" \"second\" ] [ 3 3 ] [ \"first\" \"second\" ] [ + 3 - ]",
-                           "G\206\001\017module_name_138\021instance_name_138\002\005first\006second\002\003\003\002\005first\006second\002\001\003\000",
-                           72));
-    v_generate_add_instantiation(&have->file, have->loop, have->instantiation);
-    CHECK(have->file.fault == VAST_OK);
-    CHECK(is_written(have, "GenerateAddInstantiation 85 138", "\005\304\001U\212\001", 6));
-    v_add_member_instantiation(&have->file, have->module, have->instantiation);
-    CHECK(have->file.fault == VAST_OK);
-    CHECK(is_written(have, "AddMemberInstantiation 2 138", "\005\226\001\002\212\001", 6));
-    v_add_member_continuous_assignment(&have->file, have->module, have->assignment);
-    CHECK(have->file.fault == VAST_OK);
-    CHECK(is_written(have, "AddMemberContinuousAssignment 2 135", "\005\246\001\002\207\001", 6));
-    v_add_member_blank_line(&have->file, have->module, have->blank_line);
-    CHECK(have->file.fault == VAST_OK);
-    CHECK(is_written(have, "AddMemberBlankLine 2 127", "\004\266\001\002\177", 5));
-    v_add_member_comment(&have->file, have->module, have->comment);
-    CHECK(have->file.fault == VAST_OK);
-    CHECK(is_written(have, "AddMemberComment 2 129", "\005\306\001\002\201\001", 6));
     return 0;
 }
 
 static int part_15(answers *have)
 {
+    v_make_blocking_assignment(&have->file, have->signal, have->expression);
+    CHECK(have->file.fault == VAST_OK);
+    CHECK(is_written(have, "MakeBlockingAssignment 3 0", "\003v\003\000", 4));
+    have->instantiation = v_make_instantiation(&have->file, "module_name_145", "instance_name_145",
+                                               have->strings, 2, have->expressions, 2,
+                                               have->strings, 2, have->options, 2);
+    CHECK(have->file.fault == VAST_OK);
+    CHECK(is_written(have,
+                           "MakeInstantiation \"module_name_145\" \"instance_name_145\" [ \"first\" \"second\" ] [ 3 3 ] [ \"first\" \"second\" ] [ + 3 - ]",
+                           "G\206\001\017module_name_145\021instance_name_145\002\005first\006second\002\003\003\002\005first\006second\002\001\003\000",
+                           72));
+    v_generate_add_instantiation(&have->file, have->loop, have->instantiation);
+    CHECK(have->file.fault == VAST_OK);
+    CHECK(is_written(have, "GenerateAddInstantiation 85 145", "\005\304\001U\221\001", 6));
+    v_add_member_instantiation(&have->file, have->module, have->instantiation);
+    CHECK(have->file.fault == VAST_OK);
+    CHECK(is_written(have, "AddMemberInstantiation 2 145", "\005\226\001\002\221\001", 6));
+    v_add_member_continuous_assignment(&have->file, have->module, have->assignment);
+    CHECK(have->file.fault == VAST_OK);
+    CHECK(is_written(have, "AddMemberContinuousAssignment 2 142", "\005\246\001\002\216\001", 6));
+    v_add_member_blank_line(&have->file, have->module, have->blank_line);
+    CHECK(have->file.fault == VAST_OK);
+    CHECK(is_written(have, "AddMemberBlankLine 2 134", "\005\266\001\002\206\001", 6));
+    v_add_member_comment(&have->file, have->module, have->comment);
+    CHECK(have->file.fault == VAST_OK);
+    CHECK(is_written(have, "AddMemberComment 2 136", "\005\306\001\002\210\001", 6));
     v_add_member_inline_statement(&have->file, have->module, have->inline_statement);
     CHECK(have->file.fault == VAST_OK);
-    CHECK(is_written(have, "AddMemberInlineStatement 2 131", "\005\326\001\002\203\001", 6));
+    CHECK(is_written(have, "AddMemberInlineStatement 2 138", "\005\326\001\002\212\001", 6));
     v_add_member_macro_statement(&have->file, have->module, have->macro_statement);
     CHECK(have->file.fault == VAST_OK);
-    CHECK(is_written(have, "AddMemberMacroStatement 2 133", "\005\346\001\002\205\001", 6));
+    CHECK(is_written(have, "AddMemberMacroStatement 2 140", "\005\346\001\002\214\001", 6));
     have->truth = v_conditional_has_else(&have->file, have->conditional);
     CHECK(have->file.fault == VAST_OK);
     CHECK(is_written(have, "?ConditionalHasElse 93", "\002\007]", 3));
+    return 0;
+}
+
+static int part_16(answers *have)
+{
     have->text = v_emit_expression(&have->file, have->signal);
     CHECK(have->file.fault == VAST_OK);
     CHECK(is_written(have, "?EmitExpression 3", "\002'\003", 3));
     have->truth = v_file_is_plain(&have->file);
     CHECK(have->file.fault == VAST_OK);
     CHECK(is_written(have, "?FileIsPlain", "\0017", 2));
-    have->truth = v_is_system_verilog_keyword(&have->file, "identifier_149");
+    have->truth = v_is_system_verilog_keyword(&have->file, "identifier_156");
     CHECK(have->file.fault == VAST_OK);
-    CHECK(is_written(have, "?IsSystemVerilogKeyword \"identifier_149\"", "\020G\016identifier_149",
+    CHECK(is_written(have, "?IsSystemVerilogKeyword \"identifier_156\"", "\020G\016identifier_156",
                            17));
     have->text = v_logic_ref_name(&have->file, have->signal);
     CHECK(have->file.fault == VAST_OK);
@@ -645,20 +672,20 @@ static int part_15(answers *have)
     have->text = v_module_name(&have->file, have->module);
     CHECK(have->file.fault == VAST_OK);
     CHECK(is_written(have, "?ModuleName 2", "\003\207\001\002", 4));
-    return 0;
-}
-
-static int part_16(answers *have)
-{
     have->ports = v_module_output_ports(&have->file, have->module);
     CHECK(have->file.fault == VAST_OK);
     CHECK(is_written(have, "?ModuleOutputPorts 2", "\003\227\001\002", 4));
     have->ports = v_module_ports(&have->file, have->module);
     CHECK(have->file.fault == VAST_OK);
     CHECK(is_written(have, "?ModulePorts 2", "\003\247\001\002", 4));
-    have->truth = v_name_is_free(&have->file, have->module, "name_156");
+    have->truth = v_name_is_free(&have->file, have->module, "name_163");
     CHECK(have->file.fault == VAST_OK);
-    CHECK(is_written(have, "?NameIsFree 2 \"name_156\"", "\014\267\001\002\010name_156", 13));
+    CHECK(is_written(have, "?NameIsFree 2 \"name_163\"", "\014\267\001\002\010name_163", 13));
+    return 0;
+}
+
+static int part_17(answers *have)
+{
     have->truth = v_type_can_be_cast(&have->file, have->type);
     CHECK(have->file.fault == VAST_OK);
     CHECK(is_written(have, "?TypeCanBeCast 1", "\003\307\001\001", 4));
@@ -680,11 +707,6 @@ static int part_16(answers *have)
     have->truth = v_width_is_usable(&have->file, have->signal);
     CHECK(have->file.fault == VAST_OK);
     CHECK(is_written(have, "?WidthIsUsable 3", "\003\247\002\003", 4));
-    return 0;
-}
-
-static int part_17(answers *have)
-{
     v_add_registers(&have->file, have->signal, &have->reset, have->definitions, 2, have->loop);
     CHECK(have->file.fault == VAST_OK);
     CHECK(is_written(have, "!AddRegisters 3 + [ 3 true ] [ [ 3 0 + 3 - ] [ 3 0 - + 3 ] ] 85",
@@ -696,6 +718,11 @@ static int part_17(answers *have)
     v_bitwise_or_reduce_array_elements(&have->file, have->memory, have->integers, 1);
     CHECK(have->file.fault == VAST_OK);
     CHECK(is_written(have, "!BitwiseOrReduceArrayElements 77 [ 2 ]", "\004(M\001\004", 5));
+    return 0;
+}
+
+static int part_18(answers *have)
+{
     v_logical_and_reduce(&have->file, have->expressions, 2, true);
     CHECK(have->file.fault == VAST_OK);
     CHECK(is_written(have, "!LogicalAndReduce [ 3 3 ] true", "\0058\002\003\003\001", 6));
@@ -710,7 +737,8 @@ int main(void)
     static answers have; /* of all zeros, so the file is closed */
     static int (*const parts[])(answers *) = {part_0, part_1, part_2, part_3, part_4, part_5,
                                               part_6, part_7, part_8, part_9, part_10, part_11,
-                                              part_12, part_13, part_14, part_15, part_16, part_17};
+                                              part_12, part_13, part_14, part_15, part_16, part_17,
+                                              part_18};
     static int32_t (*const opened[])(vast_file *, int32_t) = {vast_file_open, vast_file_open_with_lint};
     vast_string text;
     for (size_t form = 0; form < 2; form++) {
@@ -718,7 +746,7 @@ int main(void)
         for (size_t part = 0; part < sizeof parts / sizeof parts[0]; part++)
             if (parts[part](&have))
                 return 1;
-        CHECK(have.file.count == 151 && vast_emit(&have.file, &text) == VAST_OK);
+        CHECK(have.file.count == 158 && vast_emit(&have.file, &text) == VAST_OK);
         vast_file_close(&have.file);
     }
     return 0;

@@ -1010,6 +1010,24 @@ class Calls(Core):
             statement = self._own(statement, MacroStatement)
         self._later(f"GenerateAddMacroStatement {generate.step} {statement.step}")
 
+    def generate_add_always_star(self, generate: GenerateLoop) -> AlwaysBase:
+        """An `always @*` with an empty block, as the loop's last member."""
+        if not (isinstance(generate, GenerateLoop) and generate.file is self):
+            generate = self._own(generate, GenerateLoop)
+        return self._later(f"GenerateAddAlwaysStar {generate.step}", AlwaysBase)
+
+    def generate_add_always_latch(self, generate: GenerateLoop) -> AlwaysBase:
+        """An `always_latch` with an empty block, as the loop's last member."""
+        if not (isinstance(generate, GenerateLoop) and generate.file is self):
+            generate = self._own(generate, GenerateLoop)
+        return self._later(f"GenerateAddAlwaysLatch {generate.step}", AlwaysBase)
+
+    def generate_add_initial(self, generate: GenerateLoop) -> AlwaysBase:
+        """An `initial` block with an empty block, as the loop's last member."""
+        if not (isinstance(generate, GenerateLoop) and generate.file is self):
+            generate = self._own(generate, GenerateLoop)
+        return self._later(f"GenerateAddInitial {generate.step}", AlwaysBase)
+
     def add_function(self, owner: Module, name: str, result_type: TypeLike) -> Function:
         """A function without inputs and locals and with an empty body, as the module's last member.
 
@@ -1293,6 +1311,32 @@ class Calls(Core):
         if not (isinstance(case, CaseStatement) and case.file is self):
             case = self._own(case, CaseStatement)
         self._now(f"CaseSetUnique {case.step} {truth(unique)}")
+
+    def add_always_star(self, owner: Module) -> AlwaysBase:
+        """An `always @*` with an empty block, as the module's last member."""
+        if not (isinstance(owner, Module) and owner.file is self):
+            owner = self._own(owner, Module)
+        return self._later(f"AddAlwaysStar {owner.step}", AlwaysBase)
+
+    def add_always_latch(self, owner: Module) -> AlwaysBase:
+        """An `always_latch` with an empty block, as the module's last member."""
+        if not (isinstance(owner, Module) and owner.file is self):
+            owner = self._own(owner, Module)
+        return self._later(f"AddAlwaysLatch {owner.step}", AlwaysBase)
+
+    def add_initial(self, owner: Module) -> AlwaysBase:
+        """An `initial` block with an empty block, as the module's last member."""
+        if not (isinstance(owner, Module) and owner.file is self):
+            owner = self._own(owner, Module)
+        return self._later(f"AddInitial {owner.step}", AlwaysBase)
+
+    def block_add_task_call(self, block: StatementBlock, call: Operand) -> None:
+        """The statement `f(a, b);` of a call, as the block's last."""
+        if not (isinstance(block, StatementBlock) and block.file is self):
+            block = self._own(block, StatementBlock)
+        if not (isinstance(call, Expression) and call.file is self):
+            call = self._value(call)
+        self._later(f"BlockAddTaskCall {block.step} {call.step}")
 
     def make_def(self, name: str, kind: DataKind, data_type: TypeLike) -> Def:
         """A declaration's kind, type and name, which parameters can be made with."""

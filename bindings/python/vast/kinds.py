@@ -404,6 +404,20 @@ class Module(ModuleWords):
         """`File.add_conditional`: a conditional with an empty block, as the module's last member."""
         return self.file.add_conditional(self, condition)
 
+    def add_always_star(self) -> AlwaysBase:
+        """`File.add_always_star`: an `always @*` with an empty block, as the module's last member."""
+        return self.file.add_always_star(self)
+
+    def add_always_latch(self) -> AlwaysBase:
+        """`File.add_always_latch`: an `always_latch` with an empty block, as the module's last
+        member.
+        """
+        return self.file.add_always_latch(self)
+
+    def add_initial(self) -> AlwaysBase:
+        """`File.add_initial`: an `initial` block with an empty block, as the module's last member."""
+        return self.file.add_initial(self)
+
     def add_member_instantiation(self, instantiation: Instantiation) -> None:
         """`File.add_member_instantiation`: the instantiation, as the module's last member."""
         return self.file.add_member_instantiation(self, instantiation)
@@ -704,6 +718,10 @@ class StatementBlock(BlockWords):
         """`File.block_add_casex`: a `casex` statement without arms, as the block's last statement."""
         return self.file.block_add_casex(self, selector)
 
+    def add_task_call(self, call: Operand) -> None:
+        """`File.block_add_task_call`: the statement `f(a, b);` of a call, as the block's last."""
+        return self.file.block_add_task_call(self, call)
+
 
 class Statement(Handle):
     """A handle of the kind `statement`."""
@@ -843,6 +861,24 @@ class GenerateLoop(LoopWords):
     def add_macro_statement(self, statement: MacroStatement) -> None:
         """`File.generate_add_macro_statement`: the use of a macro, as the loop's last member."""
         return self.file.generate_add_macro_statement(self, statement)
+
+    def add_always_star(self) -> AlwaysBase:
+        """`File.generate_add_always_star`: an `always @*` with an empty block, as the loop's last
+        member.
+        """
+        return self.file.generate_add_always_star(self)
+
+    def add_always_latch(self) -> AlwaysBase:
+        """`File.generate_add_always_latch`: an `always_latch` with an empty block, as the loop's
+        last member.
+        """
+        return self.file.generate_add_always_latch(self)
+
+    def add_initial(self) -> AlwaysBase:
+        """`File.generate_add_initial`: an `initial` block with an empty block, as the loop's last
+        member.
+        """
+        return self.file.generate_add_initial(self)
 
 
 class ParameterRef(Selectable):

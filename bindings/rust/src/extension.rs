@@ -3,8 +3,11 @@
 //! Written by tools/bindings_from_calls from the table of calls; not to be edited.
 
 use crate::calls::Call;
+use crate::error::VastError;
 use crate::file::VastFile;
-use crate::handles::{Expr, VastDataType};
+use crate::handles::{
+    Expr, GenerateLoop, VastAlwaysBase, VastDataType, VastModule, VastStatementBlock,
+};
 use crate::known::Width;
 
 /// Calls that the original has none of, as methods of a [`VastFile`] where this trait is in scope.
@@ -31,6 +34,53 @@ pub trait VastFileExtension {
         element: VastDataType,
         dimensions: &[&Expr],
     ) -> VastDataType;
+
+    /// An `always @*` with an empty block, as the loop's last member.
+    ///
+    /// # Errors
+    /// Where the library refuses the call, in its words.
+    fn generate_add_always_star(
+        &mut self,
+        generate: GenerateLoop,
+    ) -> Result<VastAlwaysBase, VastError>;
+
+    /// An `always_latch` with an empty block, as the loop's last member.
+    ///
+    /// # Errors
+    /// Where the library refuses the call, in its words.
+    fn generate_add_always_latch(
+        &mut self,
+        generate: GenerateLoop,
+    ) -> Result<VastAlwaysBase, VastError>;
+
+    /// An `initial` block with an empty block, as the loop's last member.
+    ///
+    /// # Errors
+    /// Where the library refuses the call, in its words.
+    fn generate_add_initial(&mut self, generate: GenerateLoop)
+        -> Result<VastAlwaysBase, VastError>;
+
+    /// An `always @*` with an empty block, as the module's last member.
+    ///
+    /// # Errors
+    /// Where the library refuses the call, in its words.
+    fn add_always_star(&mut self, owner: VastModule) -> Result<VastAlwaysBase, VastError>;
+
+    /// An `always_latch` with an empty block, as the module's last member.
+    ///
+    /// # Errors
+    /// Where the library refuses the call, in its words.
+    fn add_always_latch(&mut self, owner: VastModule) -> Result<VastAlwaysBase, VastError>;
+
+    /// An `initial` block with an empty block, as the module's last member.
+    ///
+    /// # Errors
+    /// Where the library refuses the call, in its words.
+    fn add_initial(&mut self, owner: VastModule) -> Result<VastAlwaysBase, VastError>;
+
+    /// The statement `f(a, b);` of a call, as the block's last: a task's or a system task's, made by
+    /// [`VastFile::make_function_call`], or the use of a macro. The original crate lacks it.
+    fn block_add_task_call(&mut self, block: VastStatementBlock, call: &Expr);
 }
 
 impl VastFileExtension for VastFile {
@@ -61,5 +111,68 @@ impl VastFileExtension for VastFile {
         );
         self.keep_width(made, Width::Element(element_step));
         VastDataType(made)
+    }
+
+    fn generate_add_always_star(
+        &mut self,
+        generate: GenerateLoop,
+    ) -> Result<VastAlwaysBase, VastError> {
+        let generate_step = self.own(generate.0);
+        Ok(VastAlwaysBase(
+            self.later(Call::GenerateAddAlwaysStar, |calls| {
+                calls.step(generate_step)
+            }),
+        ))
+    }
+
+    fn generate_add_always_latch(
+        &mut self,
+        generate: GenerateLoop,
+    ) -> Result<VastAlwaysBase, VastError> {
+        let generate_step = self.own(generate.0);
+        Ok(VastAlwaysBase(
+            self.later(Call::GenerateAddAlwaysLatch, |calls| {
+                calls.step(generate_step)
+            }),
+        ))
+    }
+
+    fn generate_add_initial(
+        &mut self,
+        generate: GenerateLoop,
+    ) -> Result<VastAlwaysBase, VastError> {
+        let generate_step = self.own(generate.0);
+        Ok(VastAlwaysBase(
+            self.later(Call::GenerateAddInitial, |calls| calls.step(generate_step)),
+        ))
+    }
+
+    fn add_always_star(&mut self, owner: VastModule) -> Result<VastAlwaysBase, VastError> {
+        let owner_step = self.own(owner.0);
+        Ok(VastAlwaysBase(self.later(Call::AddAlwaysStar, |calls| {
+            calls.step(owner_step)
+        })))
+    }
+
+    fn add_always_latch(&mut self, owner: VastModule) -> Result<VastAlwaysBase, VastError> {
+        let owner_step = self.own(owner.0);
+        Ok(VastAlwaysBase(self.later(Call::AddAlwaysLatch, |calls| {
+            calls.step(owner_step)
+        })))
+    }
+
+    fn add_initial(&mut self, owner: VastModule) -> Result<VastAlwaysBase, VastError> {
+        let owner_step = self.own(owner.0);
+        Ok(VastAlwaysBase(
+            self.later(Call::AddInitial, |calls| calls.step(owner_step)),
+        ))
+    }
+
+    fn block_add_task_call(&mut self, block: VastStatementBlock, call: &Expr) {
+        let block_step = self.own(block.0);
+        let call_step = self.own(call.0);
+        self.later(Call::BlockAddTaskCall, |calls| {
+            calls.step(block_step).step(call_step)
+        });
     }
 }

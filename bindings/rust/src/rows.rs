@@ -11,7 +11,7 @@ pub(crate) struct Row(
     pub(crate) &'static [Form],
 );
 
-pub(crate) static ROWS: [Row; 170] = [
+pub(crate) static ROWS: [Row; 177] = [
     Row(0, "MakeNot", &[Step]),
     Row(16, "MakeBitwiseNot", &[Step]),
     Row(32, "MakeNegate", &[Step]),
@@ -142,6 +142,9 @@ pub(crate) static ROWS: [Row; 170] = [
     Row(196, "GenerateAddInstantiation", &[Step, Step]),
     Row(212, "GenerateAddInlineStatement", &[Step, Step]),
     Row(228, "GenerateAddMacroStatement", &[Step, Step]),
+    Row(244, "GenerateAddAlwaysStar", &[Step]),
+    Row(260, "GenerateAddAlwaysLatch", &[Step]),
+    Row(276, "GenerateAddInitial", &[Step]),
     Row(5, "AddFunction", &[Step, Text, Step]),
     Row(21, "FunctionAddInput", &[Step, Text, Step]),
     Row(37, "FunctionAddLogicInput", &[Step, Text, Step]),
@@ -170,6 +173,10 @@ pub(crate) static ROWS: [Row; 170] = [
     Row(405, "CaseAddItem", &[Step, Step]),
     Row(421, "CaseAddDefault", &[Step]),
     Row(437, "CaseSetUnique", &[Step, Word(&["false", "true"])]),
+    Row(453, "AddAlwaysStar", &[Step]),
+    Row(469, "AddAlwaysLatch", &[Step]),
+    Row(485, "AddInitial", &[Step]),
+    Row(501, "BlockAddTaskCall", &[Step, Step]),
     Row(
         6,
         "MakeDef",

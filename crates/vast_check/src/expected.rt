@@ -8,11 +8,11 @@ use vast_rows::{Kind, Next};
 type Word = (Kind, &'static str, &'static [&'static str]);
 
 /// The kinds that are looked for, in the order in which they are told.
-static WORDS: [Word; 48] = [
+static WORDS: [Word; 49] = [
     (Kind::Reserved(Key::AlwaysComb), "a member", &[]),
     (Kind::Reserved(Key::Case), "a statement", &[]),
     (Kind::SystemWord, "a value", &["a statement"]),
-    (Kind::Operator(Sign::Times), "an operator", &[]),
+    (Kind::Operator(Sign::Divide), "an operator", &[]),
     (Kind::Mark(Mark::Semicolon), "';'", &[]),
     (
         Kind::Word,
@@ -78,6 +78,7 @@ static WORDS: [Word; 48] = [
     (Kind::Mark(Mark::At), "'@'", &[]),
     (Kind::Mark(Mark::PlusColon), "'+:'", &[]),
     (Kind::Mark(Mark::DoubleColon), "'::'", &["an operator"]),
+    (Kind::Operator(Sign::Times), "'*'", &["an operator"]),
     (Kind::Operator(Sign::Less), "'<'", &["an operator"]),
     (Kind::Operator(Sign::Plus), "'+'", &["an operator"]),
     (Kind::End, "end of file", &[]),

@@ -7,7 +7,7 @@ vast_check --same OLD NEW
 
 Tells of each file whether the grammar of emitted files derives it: `FILE: derived`, or the first token at which no rule
 of the grammar goes on, with its line, its column in characters, and what could stand there:
-`FILE:12:9: initial: expected a member or endmodule`. Without FILE, or where FILE is `-`, standard input is read.
+`FILE:12:9: final: expected a member or endmodule`. Without FILE, or where FILE is `-`, standard input is read.
 
 With --same it tells whether both files are derived as one tree, whatever their spaces, comments and redundant
 parentheses: `same`, or where they begin to differ, with the line of each there:

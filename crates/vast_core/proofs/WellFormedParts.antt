@@ -8,9 +8,9 @@ use Rattle.vast_literal.specs.WellFormedFile.{is_well_formed_maybe, is_macro, is
 use Rattle.vast_core.specs.Handles.{Expr, MacroRef, VastDataType, VastStatementBlock}
 use Rattle.vast_core.specs.declared.node.Assignment.{Assignment}
 use Rattle.vast_core.specs.Nodes.{Root, ExprRoot, TypeRoot, expr_in, expr_of_root, is_expr_root, is_root_of, is_macro as is_macro_root}
-use Rattle.vast_core.specs.Nests.{CaseArm, ElseIf, Statement, AssignStatement, ContinuousStatement, ConditionalStatement, CasesStatement}
+use Rattle.vast_core.specs.Nests.{CaseArm, ElseIf, Statement, AssignStatement, ContinuousStatement, TaskStatement, ConditionalStatement, CasesStatement}
 use Rattle.vast_core.specs.Bench.{Bench, OwnsExpr, OwnsType, OwnsMacroRef, AreWellFormed, tree_of, type_of, maybe_tree_of, trees_of}
-use Rattle.vast_core.specs.Sound.{Each, AssignmentSound, ElseIfSound, CaseArmSound, EventSound, RecordsSound, is_event}
+use Rattle.vast_core.specs.Sound.{Each, AssignmentSound, StatementSound, ElseIfSound, CaseArmSound, EventSound, RecordsSound, is_event}
 use Rattle.vast_core.specs.FileTree.{Family, BlockFamily, ConditionalFamily, CaseFamily, LoopFamily, NoFamily, block_in, conditional_statement, case_statement, conditional_member, loop_member, assigned_tree, continuous_tree, statement_in, statements_in, otherwise_in, alternates_in, arms_in}
 use Rattle.vast_core.proofs.WellFormed.{well_formed, type_well_formed}
 
@@ -107,17 +107,19 @@ continuous-good b w None h = refl
 continuous-good b w (Some a) h = both_true (expr-good b w a.lhs h.0) (expr-good b w a.rhs h.1)
 
 statement-good :
-    (b : Bench) → AreWellFormed b → RecordsSound b → (f : ℕ → Family) → ((i : ℕ) → IsGood (f i)) → (s : Statement) → is_well_formed_statement (statement_in b f s) ≡ true
-statement-good b w r f g (AssignStatement s) = assigned-good b w (slice_get b.assignments s.id.index) (Each-read (AssignmentSound b) b.assignments s.id.index r.assignments)
-statement-good b w r f g (ContinuousStatement s) = continuous-good b w (slice_get b.assignments s.id.index) (Each-read (AssignmentSound b) b.assignments s.id.index r.assignments)
-statement-good b w r f g (ConditionalStatement c) = conditional-good (f c.id.index) (g c.id.index)
-statement-good b w r f g (CasesStatement c) = case-good (f c.id.index) (g c.id.index)
-statement-good b w r f g _ = refl
+    (b : Bench) → AreWellFormed b → RecordsSound b → (f : ℕ → Family) → ((i : ℕ) → IsGood (f i)) → (n : ℕ) (s : Statement) → StatementSound b n s → is_well_formed_statement (statement_in b f s) ≡ true
+statement-good b w r f g n (AssignStatement s) h = assigned-good b w (slice_get b.assignments s.id.index) (Each-read (AssignmentSound b) b.assignments s.id.index r.assignments)
+statement-good b w r f g n (ContinuousStatement s) h = continuous-good b w (slice_get b.assignments s.id.index) (Each-read (AssignmentSound b) b.assignments s.id.index r.assignments)
+statement-good b w r f g n (TaskStatement call) h = expr-good b w call h
+statement-good b w r f g n (ConditionalStatement c) h = conditional-good (f c.id.index) (g c.id.index)
+statement-good b w r f g n (CasesStatement c) h = case-good (f c.id.index) (g c.id.index)
+statement-good b w r f g n _ h = refl
 
 pub statements-good :
-    (b : Bench) → AreWellFormed b → RecordsSound b → (f : ℕ → Family) → ((i : ℕ) → IsGood (f i)) → (ss : List Statement) → are_well_formed_statements (statements_in b f ss) ≡ true
-statements-good b w r f g [] = refl
-statements-good b w r f g (s ∷ ss) = both_true (statement-good b w r f g s) (statements-good b w r f g ss)
+    (b : Bench) → AreWellFormed b → RecordsSound b → (f : ℕ → Family) → ((i : ℕ) → IsGood (f i)) → (n : ℕ) (ss : List Statement) → Each (StatementSound b n) ss →
+    are_well_formed_statements (statements_in b f ss) ≡ true
+statements-good b w r f g n [] h = refl
+statements-good b w r f g n (s ∷ ss) h = both_true (statement-good b w r f g n s h.0) (statements-good b w r f g n ss h.1)
 
 otherwise-good : (f : ℕ → Family) → ((i : ℕ) → IsGood (f i)) → (o : Option VastStatementBlock) → are_well_formed_alternates (otherwise_in f o) ≡ true
 otherwise-good f g None = refl

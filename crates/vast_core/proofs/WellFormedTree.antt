@@ -113,7 +113,7 @@ loop_members-good b w s f g n (m ∷ ms) h = both_true (member-good b w s f g m 
 -- Containers, this many levels deep.
 
 nest-good : (b : Bench) → AreWellFormed b → FileSound b → (f : ℕ → Family) → ((i : ℕ) → IsGood (f i)) → (n : ℕ) (x : NestRecord) → NestSound b n x → IsGood (family b f (Some x))
-nest-good b w s f g n (BlockRecord statements) h = statements-good b w s.records f g statements
+nest-good b w s f g n (BlockRecord statements) h = statements-good b w s.records f g n statements h
 nest-good b w s f g n (ConditionalNestRecord c) h = (expr-good b w c.condition h.condition, block-good (f c.consequent.id.index) (g c.consequent.id.index), alternates-good b w f g n c.else_ifs c.otherwise h.else_ifs)
 nest-good b w s f g n (CaseNestRecord c) h = both_true (expr-good b w c.selector h.selector) (arms-good b w f g n c.arms h.arms)
 nest-good b w s f g n (LoopNestRecord l) h = both_true (both_true (expr-good b w l.start h.start) (expr-good b w l.end h.end)) (loop_members-good b w s f g n l.members h.members)

@@ -235,6 +235,8 @@ pub enum Statement {
     Assignment(VastStatement),
     /// `assign l = r`.
     Continuous(VastStatement),
+    /// A call.
+    Task(Expr),
     Conditional(Conditional),
     Case(CaseStatement),
     BlankLine,

@@ -17,7 +17,7 @@ use Rattle.vast_print.specs.Text.{expr_text}
 use Rattle.vast_print.specs.Statements.{begin_end, statement_page, statements_page, block_page}
 use Rattle.vast_print.specs.Declaration.{packed_text, unpacked_text, highest_index_text, with_dimensions, based_text, type_text, name_text, declaration_text}
 use Rattle.vast_print.specs.Page.{print_lines, print, no_lines, line, inner_lines, inner, lead_lines, lead, above, beside_lines, written_lines, written, beside}
-use Rattle.vast_print.specs.Members.{entries_page, always_text, events_text, more_events_text, member_page, members_page}
+use Rattle.vast_print.specs.Members.{entries_page, always_opening, always_text, events_text, more_events_text, member_page, members_page}
 use Rattle.vast_print.specs.Layout.{port_text, ports_page, opening_page, header_page, body_page, module_page, item_page, items_page, layout}
 use Rattle.xlsynth_vast.specs.declared.helpers.registers.Reset.{Reset}
 use Rattle.xlsynth_vast.specs.declared.helpers.registers.RegisterDefinition.{RegisterDefinition}
@@ -63,7 +63,7 @@ unfolding tree families expr_in type_in design_with digits signals_made state_ma
 whole = refl
 
 registers_printed : print (layout (design_with the_member)) ≡ registers_text
-unfolding registers_text design_with signals_made state_made values_made expr_in type_in print print_lines layout items_page item_page module_page header_page opening_page ports_page port_text entries_page body_page members_page member_page always_text events_text more_events_text begin_end statement_page statements_page block_page expr_text unary_operator_token declaration_text name_text type_text based_text packed_text unpacked_text highest_index_text with_dimensions spaced wrapped inner inner_lines lead lead_lines no_lines line above beside beside_lines written written_lines plain_text ◌⊕◌ digits
+unfolding registers_text design_with signals_made state_made values_made expr_in type_in print print_lines layout items_page item_page module_page header_page opening_page ports_page port_text entries_page body_page members_page member_page always_opening always_text events_text more_events_text begin_end statement_page statements_page block_page expr_text unary_operator_token declaration_text name_text type_text based_text packed_text unpacked_text highest_index_text with_dimensions spaced wrapped inner inner_lines lead lead_lines no_lines line above beside beside_lines written written_lines plain_text ◌⊕◌ digits
 registers_printed = refl
 
 -- The text after the registers are added.

@@ -4,12 +4,12 @@ use Rattle.vast_literal.specs.Tokens.{level, is_unary, Token, Reserved, Word, Sy
 use Rattle.vast_literal.proofs.Levels.{level_small}
 use Rattle.vast_expressions.specs.Signs.{Op, Punct, OpenParen, CloseParen, OpenBracket, CloseBracket, OpenBrace, CloseBrace, Comma, Colon, Question, DoubleColon, PlusColon, Apostrophe, Key}
 use Rattle.vast_literal.specs.NormalExpr.{NormalExpr, Name, Literal, Text, MacroAlone, Unary, Binary, Ternary, Index, Slice, PartSelect, Concat, Pattern, Replicated, Call, MacroCall, Cast, PackageCast, WordCast, NormalExprs, NoNormals, MoreNormals}
-use Rattle.vast_literal.specs.Grammar.{is_cast_word, Spells, up, ternary, binary, unary, index, slice, part_select, name, number, based, quoted, paren, call, system_call, concat, replicated, array_pattern, macro_alone, macro_call, number_cast, name_cast, package_cast, paren_cast, word_cast, SpellsList, none, some, SpellsJoined, last, next}
+use Rattle.vast_literal.specs.Grammar.{is_cast_word, Spells, up, ternary, binary, unary, index, slice, part_select, name, number, based, quoted, paren, call, system_alone, system_call, concat, replicated, array_pattern, macro_alone, macro_call, number_cast, name_cast, package_cast, paren_cast, word_cast, SpellsList, none, some, SpellsJoined, last, next}
 use Rattle.vast_expressions.specs.Events.{UnaryT, BinaryT, TernaryT, IndexT, SliceT, OneT, PushT, ConcatT, PatternT, ReplicatedT, CallT, MacroCallT, CastT, PackageCastT, WordCastT, Event, PartSelectE, Made, trace, traces, mores}
 use Rattle.vast_expressions.specs.Phrases.{Quiet}
-use Rattle.vast_expressions.specs.Rows.{Item, Emit, Expression, Operand, Rest, Right, Selects, Primary, MaybeCast, Arguments, More, Braces, BraceNext, Goes, code, operand_row, rest_row, selects_row, select_end_row, primary_row, word_row, macro_row, maybe_cast_row, type_name_row, arguments_row, more_row, braces_row, brace_next_row, Runs, done, goes, tells}
+use Rattle.vast_expressions.specs.Rows.{Item, Emit, Expression, Operand, Rest, Right, Selects, Primary, MaybeCast, Arguments, More, Braces, BraceNext, Goes, code, operand_row, rest_row, selects_row, select_end_row, primary_row, word_row, system_row, macro_row, maybe_cast_row, type_name_row, arguments_row, more_row, braces_row, brace_next_row, Runs, done, goes, tells}
 use Rattle.vast_expressions.proofs.Determined.{then}
-use Rattle.vast_expressions.proofs.Moves.{quieter, Binds, at_rest, at_right, binds_more, stop_rest, stop_right, unary_more, stop_selects, taken, emitted, stop_cast, word_runs, macro_runs, word_cast_row}
+use Rattle.vast_expressions.proofs.Moves.{quieter, Binds, at_rest, at_right, binds_more, stop_rest, stop_right, unary_more, stop_selects, taken, emitted, stop_cast, word_runs, system_runs, macro_runs, word_cast_row}
 
 -- no unary operator comes first
 abbrev pub Plain : List Token → Type 0
@@ -176,6 +176,10 @@ macro_alone_runs : (w : List ℕ) → IsRun 14 (MacroWord w ∷ []) (MacroAlone 
 unfolding trace operand_row arguments_row braces_row code primary_row
 macro_alone_runs w = of_primary _ _ (record { paren = λ rest. refl; brace = λ rest. refl; braces = λ rest. refl }) (λ rest. refl) (λ rest es q. macro_runs w rest es q)
 
+system_alone_runs : (w : List ℕ) → IsRun 14 (SystemWord w ∷ []) (Name w)
+unfolding trace operand_row arguments_row braces_row code primary_row
+system_alone_runs w = of_primary _ _ (record { paren = λ rest. refl; brace = λ rest. refl; braces = λ rest. refl }) (λ rest. refl) (λ rest es q. system_runs w rest es q)
+
 paren_runs : (ts : List Token) (t : NormalExpr) → IsRun 0 ts t → IsRun 14 (Mark OpenParen ∷ (ts ++ (Mark CloseParen ∷ []))) (t)
 unfolding trace operand_row arguments_row braces_row code primary_row
 paren_runs ts t h = of_primary _ _ (record { paren = λ rest. refl; brace = λ rest. refl; braces = λ rest. refl }) (λ rest. refl) (λ rest es q. simp append_assoc (goes refl (then (h.expression (Mark CloseParen ∷ rest) es tt) (taken CloseParen (stop_cast rest es q))) done))
@@ -266,9 +270,9 @@ call_runs : (ts : List Token) (xs : NormalExprs) (f : List ℕ) → ArgumentRuns
 unfolding trace operand_row arguments_row braces_row code primary_row word_row
 call_runs ts xs f h = of_primary _ _ (record { paren = λ rest. refl; brace = λ rest. refl; braces = λ rest. refl }) (λ rest. refl) (λ rest es q. simp append_assoc (tells refl (then (h.paren rest (Made CallT ∷ es)) (emitted CallT done)) done))
 
-system_runs : (ts : List Token) (xs : NormalExprs) (f : List ℕ) → ArgumentRuns ts xs → IsRun 14 (SystemWord f ∷ (Mark OpenParen ∷ (ts ++ (Mark CloseParen ∷ [])))) (Call f xs)
-unfolding trace operand_row arguments_row braces_row code primary_row
-system_runs ts xs f h = of_primary _ _ (record { paren = λ rest. refl; brace = λ rest. refl; braces = λ rest. refl }) (λ rest. refl) (λ rest es q. simp append_assoc (tells refl (taken OpenParen (then (h.paren rest (Made CallT ∷ es)) (emitted CallT done))) done))
+system_call_runs : (ts : List Token) (xs : NormalExprs) (f : List ℕ) → ArgumentRuns ts xs → IsRun 14 (SystemWord f ∷ (Mark OpenParen ∷ (ts ++ (Mark CloseParen ∷ [])))) (Call f xs)
+unfolding trace operand_row arguments_row braces_row code primary_row system_row
+system_call_runs ts xs f h = of_primary _ _ (record { paren = λ rest. refl; brace = λ rest. refl; braces = λ rest. refl }) (λ rest. refl) (λ rest es q. simp append_assoc (tells refl (then (h.paren rest (Made CallT ∷ es)) (emitted CallT done)) done))
 
 macro_call_runs : (ts : List Token) (xs : NormalExprs) (f : List ℕ) → ArgumentRuns ts xs → IsRun 14 (MacroWord f ∷ (Mark OpenParen ∷ (ts ++ (Mark CloseParen ∷ [])))) (MacroCall f xs)
 unfolding trace operand_row arguments_row braces_row code primary_row macro_row
@@ -302,7 +306,8 @@ mutual
   runs k ts t (paren e) = paren_runs _ _ (runs _ _ _ e)
   runs k ts t (macro_alone w) = macro_alone_runs w
   runs k ts t (call f es) = call_runs _ _ f (argument_runs _ _ es)
-  runs k ts t (system_call f es) = system_runs _ _ f (argument_runs _ _ es)
+  runs k ts t (system_call f es) = system_call_runs _ _ f (argument_runs _ _ es)
+  runs k ts t (system_alone f) = system_alone_runs f
   runs k ts t (macro_call f es) = macro_call_runs _ _ f (argument_runs _ _ es)
   runs k ts t (concat es) = concat_runs _ _ (argument_runs _ _ es)
   runs k ts t (replicated n es) = replicated_runs _ _ _ _ (runs _ _ _ n) (argument_runs _ _ es)

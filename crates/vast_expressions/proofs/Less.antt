@@ -4,7 +4,7 @@ use Rattle.vast_literal.specs.Tokens.{level, is_unary, Token, Reserved, Word, Sy
 use Rattle.vast_expressions.specs.Signs.{Op, Punct, OpenParen, CloseParen, OpenBracket, CloseBracket, OpenBrace, CloseBrace, Comma, Colon, Question, DoubleColon, PlusColon, Apostrophe}
 use Rattle.vast_expressions.specs.Events.{UnaryT, BinaryT, NoneT, OneT, WordCastT, Made}
 use Rattle.vast_literal.specs.Grammar.{is_cast_word}
-use Rattle.vast_expressions.specs.Rows.{Item, Take, Emit, Expression, Target, Rest, Right, Operand, Selects, SelectEnd, Primary, MaybeCast, TypeName, Arguments, More, Braces, BraceNext, Row, Stuck, Goes, Tells, row, code, only_if, or_else, take_row, operand_row, rest_row, right_row, selects_row, select_end_row, primary_row, word_row, macro_row, maybe_cast_row, type_name_row, arguments_row, more_row, braces_row, brace_next_row}
+use Rattle.vast_expressions.specs.Rows.{Item, Take, Emit, Expression, Target, Rest, Right, Operand, Selects, SelectEnd, Primary, MaybeCast, TypeName, Arguments, More, Braces, BraceNext, Row, Stuck, Goes, Tells, row, code, only_if, or_else, take_row, operand_row, rest_row, right_row, selects_row, select_end_row, primary_row, word_row, system_row, macro_row, maybe_cast_row, type_name_row, arguments_row, more_row, braces_row, brace_next_row}
 use Rattle.vast_expressions.proofs.Midway.{load, work}
 
 abbrev pub IsLess : Row → ℕ → Type 0
@@ -68,13 +68,18 @@ unfolding macro_row work load
 macro_less w (Mark OpenParen ∷ ts) = omega arith
 macro_less w _ = omega arith
 
+system_less : (w : List ℕ) (ts : List Token) → IsLess (system_row w ts) (17 + 16 * length ts)
+unfolding system_row work load
+system_less w (Mark OpenParen ∷ ts) = omega arith
+system_less w _ = omega arith
+
 same_bound : (r : Row) (m n : ℕ) → m ≡ n → IsLess r m → IsLess r n
 same_bound r m n e h = subst (λ v. IsLess r v) e h
 
 primary_less : (ts : List Token) → IsLess (primary_row ts) (work (Primary ∷ []) ts)
 unfolding primary_row work load
 primary_less (Word w ∷ ts) = same_bound (word_row w ts) (17 + 16 * length ts) (work (Primary ∷ []) (Word w ∷ ts)) (omega arith) (word_less w ts)
-primary_less (SystemWord w ∷ ts) = omega arith
+primary_less (SystemWord w ∷ ts) = same_bound (system_row w ts) (17 + 16 * length ts) (work (Primary ∷ []) (SystemWord w ∷ ts)) (omega arith) (system_less w ts)
 primary_less (MacroWord w ∷ ts) = same_bound (macro_row w ts) (17 + 16 * length ts) (work (Primary ∷ []) (MacroWord w ∷ ts)) (omega arith) (macro_less w ts)
 primary_less (Reserved k ∷ ts) = only_if_less (is_cast_word k) (Goes (Take Apostrophe ∷ Take OpenParen ∷ Expression ∷ Take CloseParen ∷ Emit (WordCastT k) ∷ []) ts) (work (Primary ∷ []) (Reserved k ∷ ts)) (omega arith)
 primary_less (Number w ∷ ts) = omega arith

@@ -4,9 +4,9 @@ use Rattle.vast_literal.specs.Tokens.{level, is_unary, Token, Reserved, Word, Sy
 use Rattle.vast_literal.proofs.Levels.{level_small, lower}
 use Rattle.vast_expressions.specs.Signs.{Op, Punct, OpenParen, CloseParen, OpenBracket, CloseBracket, OpenBrace, CloseBrace, Comma, Colon, Semicolon, Dot, Hash, At, Question, DoubleColon, PlusColon, Assign, Apostrophe}
 use Rattle.vast_literal.specs.NormalExpr.{NormalExpr, Name, Literal, Text, MacroAlone, Unary, Binary, Ternary, Index, Slice, PartSelect, Concat, Pattern, Replicated, Call, MacroCall, Cast, PackageCast, WordCast, NoNormals, MoreNormals}
-use Rattle.vast_literal.specs.Grammar.{is_cast_word, Spells, up, ternary, binary, unary, index, slice, part_select, name, number, based, quoted, paren, call, system_call, concat, replicated, array_pattern, macro_alone, macro_call, number_cast, name_cast, package_cast, paren_cast, word_cast, none, some, last, next}
+use Rattle.vast_literal.specs.Grammar.{is_cast_word, Spells, up, ternary, binary, unary, index, slice, part_select, name, number, based, quoted, paren, call, system_alone, system_call, concat, replicated, array_pattern, macro_alone, macro_call, number_cast, name_cast, package_cast, paren_cast, word_cast, none, some, last, next}
 use Rattle.vast_expressions.specs.Events.{UnaryT, BinaryT, TernaryT, NoneT, OneT, ConcatT, CallT, MacroCallT, PackageCastT, WordCastT, Event, WordE, Made, trace}
-use Rattle.vast_expressions.specs.Rows.{Item, Take, Emit, Expression, Target, Rest, Right, Operand, Selects, SelectEnd, Primary, MaybeCast, TypeName, Arguments, More, Braces, BraceNext, Goes, Tells, only_if, code, take_row, operand_row, rest_row, right_row, selects_row, select_end_row, word_row, macro_row, primary_row, maybe_cast_row, type_name_row, arguments_row, more_row, braces_row, brace_next_row, row, Runs, done, goes, tells}
+use Rattle.vast_expressions.specs.Rows.{Item, Take, Emit, Expression, Target, Rest, Right, Operand, Selects, SelectEnd, Primary, MaybeCast, TypeName, Arguments, More, Braces, BraceNext, Goes, Tells, only_if, code, take_row, operand_row, rest_row, right_row, selects_row, select_end_row, word_row, system_row, macro_row, primary_row, maybe_cast_row, type_name_row, arguments_row, more_row, braces_row, brace_next_row, row, Runs, done, goes, tells}
 use Rattle.vast_expressions.proofs.Meaning.{Extends, IsHead, Lists, Joins, Below, Climbs, Means, MeansAll, RowMeans, only_if_means, or_else_means, below_all, stays}
 
 -- a mark back from its number
@@ -321,12 +321,19 @@ macro_sound w (Mark OpenParen ∷ ts) us es fs (ds, e, m) = go m
         record { front = MacroWord w ∷ (Mark OpenParen ∷ (l.front ++ (Mark CloseParen ∷ []))); tree = MacroCall w l.trees; whole = simp append_assoc (cc (a, p, r)); told = cc (e, b, q, s); spelled = macro_call w l.spelled }
 macro_sound w ts us es fs m = token_sound (MacroWord w) (MacroAlone w) ts us es m.0 fs (macro_alone w) m.1 m.2
 
+system_sound : (w : List ℕ) (ts us : List Token) (es fs : List Event) → RowMeans (system_row w ts) es us fs → Extends 14 [] (SystemWord w ∷ ts) es us fs
+unfolding system_row trace
+system_sound w (Mark OpenParen ∷ ts) us es fs (ds, e, m) = go m
+  where
+    go : MeansAll (Arguments CloseParen ∷ Emit CallT ∷ []) ts ds us fs → Extends 14 [] (SystemWord w ∷ (Mark OpenParen ∷ ts)) es us fs
+    go (vs, gs, l, (xs, hs, (p, q), (r, s))) = let a = l.whole in let b = l.told in
+        record { front = SystemWord w ∷ (Mark OpenParen ∷ (l.front ++ (Mark CloseParen ∷ []))); tree = Call w l.trees; whole = simp append_assoc (cc (a, p, r)); told = cc (e, b, q, s); spelled = system_call w l.spelled }
+system_sound w ts us es fs m = token_sound (SystemWord w) (Name w) ts us es m.0 fs (system_alone w) m.1 m.2
+
 primary_sound : (ts us : List Token) (es fs : List Event) → RowMeans (primary_row ts) es us fs → Extends 14 [] ts es us fs
 unfolding primary_row trace
 primary_sound (Word w ∷ ts) us es fs m = word_sound w ts us es fs m
-primary_sound (SystemWord w ∷ ts) us es fs (ds, e, (ws, ks, (t, u), (vs, gs, l, (xs, hs, (p, q), (r, s))))) =
-    let a = l.whole in let b = l.told in
-    record { front = SystemWord w ∷ (Mark OpenParen ∷ (l.front ++ (Mark CloseParen ∷ []))); tree = Call w l.trees; whole = simp append_assoc (cc (a, p, r, t)); told = cc (e, b, q, s, u); spelled = system_call w l.spelled }
+primary_sound (SystemWord w ∷ ts) us es fs m = system_sound w ts us es fs m
 primary_sound (MacroWord w ∷ ts) us es fs m = macro_sound w ts us es fs m
 primary_sound (Reserved k ∷ ts) us es fs m = go (only_if_means (is_cast_word k) (Goes (Take Apostrophe ∷ Take OpenParen ∷ Expression ∷ Take CloseParen ∷ Emit (WordCastT k) ∷ []) ts) es fs us m)
   where

@@ -87,12 +87,16 @@ unfoldable pub macro_row : List ℕ → List Token → Row
 macro_row w (Mark OpenParen ∷ ts) = Tells (WordE w) (Arguments CloseParen ∷ Emit MacroCallT ∷ []) ts
 macro_row w ts = Tells (MacroE w) [] ts
 
+unfoldable pub system_row : List ℕ → List Token → Row
+system_row w (Mark OpenParen ∷ ts) = Tells (WordE w) (Arguments CloseParen ∷ Emit CallT ∷ []) ts
+system_row w ts = Tells (NameE w) [] ts
+
 abbrev pub cast_word_row : Key → List Token → Row
 cast_word_row k ts = only_if (is_cast_word k) (Goes (Take Apostrophe ∷ Take OpenParen ∷ Expression ∷ Take CloseParen ∷ Emit (WordCastT k) ∷ []) ts)
 
 unfoldable pub primary_row : List Token → Row
 primary_row (Word w ∷ ts) = word_row w ts
-primary_row (SystemWord w ∷ ts) = Tells (WordE w) (Take OpenParen ∷ Arguments CloseParen ∷ Emit CallT ∷ []) ts
+primary_row (SystemWord w ∷ ts) = system_row w ts
 primary_row (MacroWord w ∷ ts) = macro_row w ts
 primary_row (Reserved k ∷ ts) = cast_word_row k ts
 primary_row (Number w ∷ ts) = Tells (LiteralE w) (MaybeCast ∷ []) ts

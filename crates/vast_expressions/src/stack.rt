@@ -1,6 +1,6 @@
 //! A stack.
 
-ghost use Rattle.std.specs.Prelude.{◌≡◌, [], ◌∷◌, OnOk, OnErr, MatchOption};
+ghost use Rattle.std.specs.Prelude.{◌≡◌, [], ◌∷◌, ◌++◌, reverse, OnOk, OnErr, MatchOption};
 
 use std::alloc::{AllocError, Global};
 use std::marker::Model;
@@ -50,6 +50,21 @@ impl<T: Drop> Stack<T> {
         ensures err { OnErr result (self.new ≡ self.old) }
     {
         self.items.push(item)?;
+        Ok(())
+    }
+}
+
+impl<T: Copy> Stack<T> {
+    /// These on top, the last one on top of all.
+    ///
+    /// # Errors
+    /// Out of memory: the stack is as it was.
+    #[tactic(auto, using(crate::proofs::Stacked::pushes_all))]
+    pub(crate) fn push_all(&mut self, items: &[T]) -> Result<(), AllocError>
+        ensures ok { OnOk result (self.new ≡ reverse items.now ++ self.old) }
+        ensures err { OnErr result (self.new ≡ self.old) }
+    {
+        self.items.extend_from_slice(items)?;
         Ok(())
     }
 }

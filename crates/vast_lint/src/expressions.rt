@@ -14,19 +14,16 @@ const MOST_LITERAL_BITS: usize = 65536;
 /// More bits than a part select's or a vector's bounds of 32 bits can tell.
 pub(crate) const MOST_BITS: i64 = 2147483647;
 
-/// Tells an edge that stands as an operand.
+/// Tells what can't stand as an operand.
 pub(crate) fn operand(
     known: Known<'_>,
     number: usize,
     told: &mut StepFindings,
 ) -> Result<(), AllocError> {
-    if known.form(number) == Form::Edge {
-        told.show_other(Some(Rule::EdgeInExpression), number)?;
-    }
-    Ok(())
+    told.show_other(known.form(number).operand_rule(), number)
 }
 
-/// Tells the edges that stand among these operands.
+/// Tells what can't stand among these operands.
 pub(crate) fn operands(
     known: Known<'_>,
     numbers: &[usize],
@@ -267,9 +264,7 @@ fn other(
         ExpressionStep::MakeFunctionCall(name, arguments) => {
             operands(known, arguments, told)?;
             told.show_if(is_keyword(known.dialect, name), Rule::Keyword)?;
-            let is_bare = name.starts_with('$') && arguments.is_empty();
-            told.show_if(is_bare, Rule::SystemCallWithoutArguments)?;
-            Ok(Form::Computed)
+            Ok(Form::Call(name.starts_with('$') && arguments.is_empty()))
         }
         ExpressionStep::MakeTernary(condition, consequent, alternate) => {
             operands(known, &[*condition, *consequent, *alternate], told)?;

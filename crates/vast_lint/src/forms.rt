@@ -1,7 +1,7 @@
 //! What the lint keeps of expressions and types.
 
 ghost use Rattle.std.specs.Prelude.{◌≡◌, is_none};
-ghost use Rattle.vast_lint.specs.Internal.Forms.{is_left_side, is_selectable};
+ghost use Rattle.vast_lint.specs.Internal.Forms.{is_left_side, is_selectable, is_task};
 
 use crate::rule::Rule;
 
@@ -24,8 +24,10 @@ pub(crate) enum Form {
     Literal,
     /// A string, and whether it has a quote.
     Text(bool),
-    /// What an operator, a cast, a call, a replication or a select of such computes.
+    /// What an operator, a cast, a replication or a select of a computed value computes.
     Computed,
+    /// A call of a function or of a task, and whether it is a system call without arguments.
+    Call(bool),
     /// A concatenation, and whether each of its parts can stand on the left of an assignment.
     Concat(bool),
     Pattern,
@@ -74,12 +76,30 @@ impl Form {
         }
     }
 
+    /// The rule that tells such as a statement.
+    pub(crate) fn task_rule(self) -> Option<Rule>
+        ensures { is_none result ≡ is_task self }
+    {
+        match self {
+            Form::Call(_) | Form::Other => None,
+            _ => Some(Rule::TaskOfValue),
+        }
+    }
+
+    /// The rule that tells such as an operand.
+    pub(crate) fn operand_rule(self) -> Option<Rule> {
+        match self {
+            Form::Edge => Some(Rule::EdgeInExpression),
+            Form::Call(true) => Some(Rule::SystemCallWithoutArguments),
+            _ => None,
+        }
+    }
+
     /// The rule that tells such among the parts of a concatenation.
     pub(crate) fn part_rule(self) -> Option<Rule> {
         match self {
             Form::Number(_) | Form::Unsized => Some(Rule::UnsizedInConcat),
-            Form::Edge => Some(Rule::EdgeInExpression),
-            _ => None,
+            _ => self.operand_rule(),
         }
     }
 
@@ -88,8 +108,7 @@ impl Form {
         match self {
             Form::Signal(_) | Form::Bit | Form::Part => Some(Rule::ReplicationBySignal),
             Form::Number(times) if times < 0 => Some(Rule::NegativeReplication),
-            Form::Edge => Some(Rule::EdgeInExpression),
-            _ => None,
+            _ => self.operand_rule(),
         }
     }
 

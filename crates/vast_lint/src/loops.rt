@@ -34,7 +34,12 @@ pub(crate) fn generate(
             Ok(Fact::Other)
         }
         LoopStep::GenerateGenvar(_) => Ok(Fact::Expression(Form::Constant)),
-        LoopStep::GenerateAddAlwaysComb(_) => always_comb(known, told),
+        LoopStep::GenerateAddAlwaysComb(_) | LoopStep::GenerateAddAlwaysLatch(_) => {
+            always_comb(known, told)
+        }
+        LoopStep::GenerateAddAlwaysStar(_) | LoopStep::GenerateAddInitial(_) => {
+            Ok(Fact::Statements(false))
+        }
         LoopStep::GenerateAddAlwaysFf(_, events) => always_ff(known, events, told),
         LoopStep::GenerateAddAlwaysAt(_, events) => always_at(known, events, told),
         LoopStep::GenerateAddLocalparam(owner, name, value) => {

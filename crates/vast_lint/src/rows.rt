@@ -85,6 +85,10 @@ pub(crate) fn row_of(rule: Rule) -> Row {
         Rule::AssignmentInGenerate => {
             ("a procedure's assignment in a conditional of a module is no SystemVerilog", Tools::All)
         }
+        Rule::TaskOfValue => ("a statement of what is no call is no SystemVerilog", Tools::All),
+        Rule::TaskInGenerate => {
+            ("a procedure's call in a conditional of a module is no SystemVerilog", Tools::All)
+        }
         Rule::CasezInGenerate => {
             ("`casez` or `casex` in a conditional of a module is no SystemVerilog", Tools::IcarusAndVerilator)
         }
@@ -119,7 +123,7 @@ pub(crate) fn row_of(rule: Rule) -> Row {
         Rule::VerilogInt => ("`int` is no Verilog", Tools::All),
         Rule::VerilogFill => ("an unsized literal of one digit, as `'0`, is no Verilog", Tools::Nobody),
         Rule::VerilogCast => ("a cast is no Verilog", Tools::All),
-        Rule::VerilogAlways => ("`always_comb` and `always_ff` are no Verilog", Tools::All),
+        Rule::VerilogAlways => ("`always_comb`, `always_latch` and `always_ff` are no Verilog", Tools::All),
         Rule::VerilogLogic => ("`logic` is no Verilog", Tools::VerilatorAndYosys),
         Rule::VerilogPattern => ("an assignment pattern is no Verilog", Tools::All),
         Rule::VerilogType => ("a type's name in a declaration is no Verilog", Tools::All),

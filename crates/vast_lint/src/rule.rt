@@ -65,6 +65,8 @@ pub enum Rule {
     TwoDefaults,
     AssignInProcedure,
     AssignmentInGenerate,
+    TaskOfValue,
+    TaskInGenerate,
     CasezInGenerate,
     UniqueInGenerate,
     // Names, macros and comments

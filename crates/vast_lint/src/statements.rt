@@ -41,7 +41,12 @@ pub(crate) fn statement(
         StatementStep::FunctionResult(_) => Ok(Fact::Expression(Form::Signal(None))),
         StatementStep::AddAlwaysFf(_, events) => always_ff(known, events, told),
         StatementStep::AddAlwaysAt(_, events) => always_at(known, events, told),
-        StatementStep::AddAlwaysComb(_) => always_comb(known, told),
+        StatementStep::AddAlwaysComb(_) | StatementStep::AddAlwaysLatch(_) => {
+            always_comb(known, told)
+        }
+        StatementStep::AddAlwaysStar(_) | StatementStep::AddInitial(_) => {
+            Ok(Fact::Statements(false))
+        }
         StatementStep::CaseAddDefault(owner) => {
             declare_default(declared, *owner, told)?;
             Ok(Fact::Statements(known.is_generate(*owner)))
@@ -75,7 +80,7 @@ pub(crate) fn always_at(
     Ok(Fact::Statements(false))
 }
 
-/// An `always_comb`.
+/// An `always_comb` or `always_latch`.
 pub(crate) fn always_comb(known: Known<'_>, told: &mut StepFindings) -> Result<Fact, AllocError> {
     told.tell_if(known.is_verilog(), Rule::VerilogAlways)?;
     Ok(Fact::Statements(false))
@@ -107,6 +112,11 @@ fn in_block(
         StatementStep::BlockAddContinuousAssignment(owner, left, right) => {
             assignment(known, *left, *right, told)?;
             told.tell_if(!known.is_generate(*owner), Rule::AssignInProcedure)?;
+            Ok(Fact::Other)
+        }
+        StatementStep::BlockAddTaskCall(owner, call) => {
+            told.show_other(known.form(*call).task_rule(), *call)?;
+            told.tell_if(known.is_generate(*owner), Rule::TaskInGenerate)?;
             Ok(Fact::Other)
         }
         StatementStep::BlockAddCommentText(_, text) => {

@@ -17,9 +17,9 @@ use Rattle.vast_script.specs.declared.step.TypeStep.TheVariants.{MakeScalarType,
 use Rattle.vast_script.specs.declared.step.ModuleStep.{ModuleStep}
 use Rattle.vast_script.specs.declared.step.ModuleStep.TheVariants.{AddInclude, AddBlankLine, AddCommentText, AddModule, AddInput, AddOutput, AddInout, AddLogicInput, AddLogicOutput, AddWire, AddReg, AddLogic, AddParameterPort, AddTypedParameterPort, AddParameter, AddParameterWithDef, AddLocalparam, AddIntLocalparam, AddTypedLocalparam, HoistModuleDeclarations}
 use Rattle.vast_script.specs.declared.step.LoopStep.{LoopStep}
-use Rattle.vast_script.specs.declared.step.LoopStep.TheVariants.{AddGenerateLoop, GenerateAddGenerateLoop, GenerateGenvar, GenerateAddAlwaysComb, GenerateAddAlwaysFf, GenerateAddAlwaysAt, GenerateAddLocalparam, GenerateAddTypedLocalparam, GenerateAddContinuousAssignment, GenerateAddConditional, GenerateAddBlankLine, GenerateAddComment, GenerateAddInstantiation, GenerateAddInlineStatement, GenerateAddMacroStatement}
+use Rattle.vast_script.specs.declared.step.LoopStep.TheVariants.{AddGenerateLoop, GenerateAddGenerateLoop, GenerateGenvar, GenerateAddAlwaysComb, GenerateAddAlwaysStar, GenerateAddAlwaysLatch, GenerateAddInitial, GenerateAddAlwaysFf, GenerateAddAlwaysAt, GenerateAddLocalparam, GenerateAddTypedLocalparam, GenerateAddContinuousAssignment, GenerateAddConditional, GenerateAddBlankLine, GenerateAddComment, GenerateAddInstantiation, GenerateAddInlineStatement, GenerateAddMacroStatement}
 use Rattle.vast_script.specs.declared.step.StatementStep.{StatementStep}
-use Rattle.vast_script.specs.declared.step.StatementStep.TheVariants.{AddFunction, FunctionAddInput, FunctionAddLogicInput, FunctionAddReg, FunctionAddLogic, FunctionBody, FunctionResult, AddAlwaysFf, AddAlwaysAt, AddAlwaysComb, StatementBlock, BlockAddBlockingAssignment, BlockAddNonblockingAssignment, BlockAddContinuousAssignment, BlockAddCommentText, BlockAddInlineText, BlockAddBlankLine, AddConditional, BlockAddCond, ConditionalThenBlock, ConditionalAddElseIf, ConditionalAddElse, BlockAddCase, BlockAddCasez, BlockAddCasex, CaseAddItem, CaseAddDefault, CaseSetUnique}
+use Rattle.vast_script.specs.declared.step.StatementStep.TheVariants.{AddFunction, FunctionAddInput, FunctionAddLogicInput, FunctionAddReg, FunctionAddLogic, FunctionBody, FunctionResult, AddAlwaysFf, AddAlwaysAt, AddAlwaysComb, AddAlwaysStar, AddAlwaysLatch, AddInitial, BlockAddTaskCall, StatementBlock, BlockAddBlockingAssignment, BlockAddNonblockingAssignment, BlockAddContinuousAssignment, BlockAddCommentText, BlockAddInlineText, BlockAddBlankLine, AddConditional, BlockAddCond, ConditionalThenBlock, ConditionalAddElseIf, ConditionalAddElse, BlockAddCase, BlockAddCasez, BlockAddCasex, CaseAddItem, CaseAddDefault, CaseSetUnique}
 use Rattle.vast_script.specs.declared.step.ArtifactStep.{ArtifactStep}
 use Rattle.vast_script.specs.declared.step.ArtifactStep.TheVariants.{MakeDef, MakeBlankLine, MakeComment, MakeInlineVerilogStatement, MakeMacroStatement, MakeContinuousAssignment, MakeNonblockingAssignment, MakeBlockingAssignment, MakeInstantiation, AddMemberInstantiation, AddMemberContinuousAssignment, AddMemberBlankLine, AddMemberComment, AddMemberInlineStatement, AddMemberMacroStatement}
 use Rattle.vast_list.specs.declared.helpers.Helper.{Helper}
@@ -170,6 +170,9 @@ loop_pieces (AddGenerateLoop a b c d e) = place a ++ (text b ++ (place c ++ (pla
 loop_pieces (GenerateAddGenerateLoop a b c d e) = place a ++ (text b ++ (place c ++ (place d ++ optional text e)))
 loop_pieces (GenerateGenvar a) = place a
 loop_pieces (GenerateAddAlwaysComb a) = place a
+loop_pieces (GenerateAddAlwaysStar a) = place a
+loop_pieces (GenerateAddAlwaysLatch a) = place a
+loop_pieces (GenerateAddInitial a) = place a
 loop_pieces (GenerateAddAlwaysFf a b) = place a ++ listed place b.items
 loop_pieces (GenerateAddAlwaysAt a b) = place a ++ listed place b.items
 loop_pieces (GenerateAddLocalparam a b c) = place a ++ (text b ++ place c)
@@ -193,10 +196,14 @@ statement_pieces (FunctionResult a) = place a
 statement_pieces (AddAlwaysFf a b) = place a ++ listed place b.items
 statement_pieces (AddAlwaysAt a b) = place a ++ listed place b.items
 statement_pieces (AddAlwaysComb a) = place a
+statement_pieces (AddAlwaysStar a) = place a
+statement_pieces (AddAlwaysLatch a) = place a
+statement_pieces (AddInitial a) = place a
 statement_pieces (StatementBlock a) = place a
 statement_pieces (BlockAddBlockingAssignment a b c) = place a ++ (place b ++ place c)
 statement_pieces (BlockAddNonblockingAssignment a b c) = place a ++ (place b ++ place c)
 statement_pieces (BlockAddContinuousAssignment a b c) = place a ++ (place b ++ place c)
+statement_pieces (BlockAddTaskCall a b) = place a ++ place b
 statement_pieces (BlockAddCommentText a b) = place a ++ text b
 statement_pieces (BlockAddInlineText a b) = place a ++ text b
 statement_pieces (BlockAddBlankLine a) = place a

@@ -11,9 +11,9 @@ use Rattle.vast_script.specs.declared.step.TypeStep.TheVariants.{MakeScalarType,
 use Rattle.vast_script.specs.declared.step.ModuleStep.{ModuleStep}
 use Rattle.vast_script.specs.declared.step.ModuleStep.TheVariants.{AddInclude, AddBlankLine, AddCommentText, AddModule, AddInput, AddOutput, AddInout, AddLogicInput, AddLogicOutput, AddWire, AddReg, AddLogic, AddParameterPort, AddTypedParameterPort, AddParameter, AddParameterWithDef, AddLocalparam, AddIntLocalparam, AddTypedLocalparam, HoistModuleDeclarations}
 use Rattle.vast_script.specs.declared.step.LoopStep.{LoopStep}
-use Rattle.vast_script.specs.declared.step.LoopStep.TheVariants.{AddGenerateLoop, GenerateAddGenerateLoop, GenerateGenvar, GenerateAddAlwaysComb, GenerateAddAlwaysFf, GenerateAddAlwaysAt, GenerateAddLocalparam, GenerateAddTypedLocalparam, GenerateAddContinuousAssignment, GenerateAddConditional, GenerateAddBlankLine, GenerateAddComment, GenerateAddInstantiation, GenerateAddInlineStatement, GenerateAddMacroStatement}
+use Rattle.vast_script.specs.declared.step.LoopStep.TheVariants.{AddGenerateLoop, GenerateAddGenerateLoop, GenerateGenvar, GenerateAddAlwaysComb, GenerateAddAlwaysStar, GenerateAddAlwaysLatch, GenerateAddInitial, GenerateAddAlwaysFf, GenerateAddAlwaysAt, GenerateAddLocalparam, GenerateAddTypedLocalparam, GenerateAddContinuousAssignment, GenerateAddConditional, GenerateAddBlankLine, GenerateAddComment, GenerateAddInstantiation, GenerateAddInlineStatement, GenerateAddMacroStatement}
 use Rattle.vast_script.specs.declared.step.StatementStep.{StatementStep}
-use Rattle.vast_script.specs.declared.step.StatementStep.TheVariants.{AddFunction, FunctionAddInput, FunctionAddLogicInput, FunctionAddReg, FunctionAddLogic, FunctionBody, FunctionResult, AddAlwaysFf, AddAlwaysAt, AddAlwaysComb, StatementBlock, BlockAddBlockingAssignment, BlockAddNonblockingAssignment, BlockAddContinuousAssignment, BlockAddCommentText, BlockAddInlineText, BlockAddBlankLine, AddConditional, BlockAddCond, ConditionalThenBlock, ConditionalAddElseIf, ConditionalAddElse, BlockAddCase, BlockAddCasez, BlockAddCasex, CaseAddItem, CaseAddDefault, CaseSetUnique}
+use Rattle.vast_script.specs.declared.step.StatementStep.TheVariants.{AddFunction, FunctionAddInput, FunctionAddLogicInput, FunctionAddReg, FunctionAddLogic, FunctionBody, FunctionResult, AddAlwaysFf, AddAlwaysAt, AddAlwaysComb, AddAlwaysStar, AddAlwaysLatch, AddInitial, BlockAddTaskCall, StatementBlock, BlockAddBlockingAssignment, BlockAddNonblockingAssignment, BlockAddContinuousAssignment, BlockAddCommentText, BlockAddInlineText, BlockAddBlankLine, AddConditional, BlockAddCond, ConditionalThenBlock, ConditionalAddElseIf, ConditionalAddElse, BlockAddCase, BlockAddCasez, BlockAddCasex, CaseAddItem, CaseAddDefault, CaseSetUnique}
 use Rattle.vast_script.specs.declared.step.ArtifactStep.{ArtifactStep}
 use Rattle.vast_script.specs.declared.step.ArtifactStep.TheVariants.{MakeDef, MakeBlankLine, MakeComment, MakeInlineVerilogStatement, MakeMacroStatement, MakeContinuousAssignment, MakeNonblockingAssignment, MakeBlockingAssignment, MakeInstantiation, AddMemberInstantiation, AddMemberContinuousAssignment, AddMemberBlankLine, AddMemberComment, AddMemberInlineStatement, AddMemberMacroStatement}
 use Rattle.vast_list.specs.declared.helpers.Helper.{Helper}
@@ -122,6 +122,9 @@ loop_name (AddGenerateLoop a b c d e) = codes "AddGenerateLoop"
 loop_name (GenerateAddGenerateLoop a b c d e) = codes "GenerateAddGenerateLoop"
 loop_name (GenerateGenvar a) = codes "GenerateGenvar"
 loop_name (GenerateAddAlwaysComb a) = codes "GenerateAddAlwaysComb"
+loop_name (GenerateAddAlwaysStar a) = codes "GenerateAddAlwaysStar"
+loop_name (GenerateAddAlwaysLatch a) = codes "GenerateAddAlwaysLatch"
+loop_name (GenerateAddInitial a) = codes "GenerateAddInitial"
 loop_name (GenerateAddAlwaysFf a b) = codes "GenerateAddAlwaysFf"
 loop_name (GenerateAddAlwaysAt a b) = codes "GenerateAddAlwaysAt"
 loop_name (GenerateAddLocalparam a b c) = codes "GenerateAddLocalparam"
@@ -145,10 +148,14 @@ statement_name (FunctionResult a) = codes "FunctionResult"
 statement_name (AddAlwaysFf a b) = codes "AddAlwaysFf"
 statement_name (AddAlwaysAt a b) = codes "AddAlwaysAt"
 statement_name (AddAlwaysComb a) = codes "AddAlwaysComb"
+statement_name (AddAlwaysStar a) = codes "AddAlwaysStar"
+statement_name (AddAlwaysLatch a) = codes "AddAlwaysLatch"
+statement_name (AddInitial a) = codes "AddInitial"
 statement_name (StatementBlock a) = codes "StatementBlock"
 statement_name (BlockAddBlockingAssignment a b c) = codes "BlockAddBlockingAssignment"
 statement_name (BlockAddNonblockingAssignment a b c) = codes "BlockAddNonblockingAssignment"
 statement_name (BlockAddContinuousAssignment a b c) = codes "BlockAddContinuousAssignment"
+statement_name (BlockAddTaskCall a b) = codes "BlockAddTaskCall"
 statement_name (BlockAddCommentText a b) = codes "BlockAddCommentText"
 statement_name (BlockAddInlineText a b) = codes "BlockAddInlineText"
 statement_name (BlockAddBlankLine a) = codes "BlockAddBlankLine"

@@ -36,7 +36,8 @@ loop_names =
     codes "AddGenerateLoop" ∷ codes "GenerateAddGenerateLoop" ∷ codes "GenerateGenvar" ∷ codes "GenerateAddAlwaysComb" ∷ codes "GenerateAddAlwaysFf" ∷
     codes "GenerateAddAlwaysAt" ∷ codes "GenerateAddLocalparam" ∷ codes "GenerateAddTypedLocalparam" ∷ codes "GenerateAddContinuousAssignment" ∷
     codes "GenerateAddConditional" ∷ codes "GenerateAddBlankLine" ∷ codes "GenerateAddComment" ∷ codes "GenerateAddInstantiation" ∷
-    codes "GenerateAddInlineStatement" ∷ codes "GenerateAddMacroStatement" ∷ []
+    codes "GenerateAddInlineStatement" ∷ codes "GenerateAddMacroStatement" ∷ codes "GenerateAddAlwaysStar" ∷ codes "GenerateAddAlwaysLatch" ∷
+    codes "GenerateAddInitial" ∷ []
 
 abbrev pub statement_names : List (List ℕ)
 statement_names =
@@ -45,7 +46,8 @@ statement_names =
     codes "BlockAddBlockingAssignment" ∷ codes "BlockAddNonblockingAssignment" ∷ codes "BlockAddContinuousAssignment" ∷ codes "BlockAddCommentText" ∷
     codes "BlockAddInlineText" ∷ codes "BlockAddBlankLine" ∷ codes "AddConditional" ∷ codes "BlockAddCond" ∷ codes "ConditionalThenBlock" ∷
     codes "ConditionalAddElseIf" ∷ codes "ConditionalAddElse" ∷ codes "BlockAddCase" ∷ codes "BlockAddCasez" ∷ codes "BlockAddCasex" ∷
-    codes "CaseAddItem" ∷ codes "CaseAddDefault" ∷ codes "CaseSetUnique" ∷ []
+    codes "CaseAddItem" ∷ codes "CaseAddDefault" ∷ codes "CaseSetUnique" ∷ codes "AddAlwaysStar" ∷ codes "AddAlwaysLatch" ∷ codes "AddInitial" ∷
+    codes "BlockAddTaskCall" ∷ []
 
 abbrev pub artifact_names : List (List ℕ)
 artifact_names =

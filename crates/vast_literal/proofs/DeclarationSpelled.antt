@@ -1,20 +1,20 @@
 -- The tokens of a declaration's text spell its normal form.
-use Rattle.std.proofs.Common.{◌≡◌, ℕ, ℤ, pos, ◌-ℤ◌, List, [], ◌∷◌, ◌++◌, Bool, true, false, ◌&&◌, codes, Option, Some, None, refl, subst, append_assoc, append-nil, arith}
+use Rattle.std.proofs.Common.{◌≡◌, ℕ, ℤ, pos, ◌-ℤ◌, List, [], ◌∷◌, ◌++◌, Bool, true, false, ◌&&◌, eqb, codes, Option, Some, None, refl, subst, append_assoc, append-nil, arith}
 use Rattle.std.proofs.lemmas.Bool.{and_from}
 use Rattle.std.specs.Fmt.{signed_decimal}
 use Rattle.vast_literal.specs.Tokens.{Minus, level, WireKey, RegKey, LogicKey, IntegerKey, IntKey, GenvarKey, SignedKey, UnsignedKey, Token}
-use Rattle.vast_literal.specs.Tree.{Dialect, VerilogDialect, SystemVerilogDialect, ExprTree, Exprs, NoExprs, MoreExprs, NameTree, IndexTree, SliceTree, PartSelectTree, ConcatTree, TypeTree, ScalarTree, VectorTree, IntegerTree, IntTree, ExternalTree, PackageTree, PackedTree, UnpackedTree, Kind, RegKind, WireKind, LogicKind, IntegerKind, IntKind, UserKind, UntypedEnumKind, GenvarKind, Declaration}
-use Rattle.vast_literal.specs.NormalExpr.{scalar_sign, integer_sign, normal}
-use Rattle.vast_literal.specs.Grammar.{Spells, binary, number}
+use Rattle.vast_literal.specs.Tree.{Dialect, VerilogDialect, SystemVerilogDialect, ExprTree, Exprs, NoExprs, MoreExprs, NameTree, IndexTree, SliceTree, PartSelectTree, ConcatTree, MacroTree, CallTree, TypeTree, ScalarTree, VectorTree, IntegerTree, IntTree, ExternalTree, PackageTree, PackedTree, UnpackedTree, Kind, RegKind, WireKind, LogicKind, IntegerKind, IntKind, UserKind, UntypedEnumKind, GenvarKind, Declaration}
+use Rattle.vast_literal.specs.NormalExpr.{Name, scalar_sign, integer_sign, normal}
+use Rattle.vast_literal.specs.Grammar.{Spells, binary, number, name as a_name, system_alone}
 use Rattle.vast_literal.specs.FileGrammar.{IsMany, no_items, more_items, is_kind, is_sign, IsGroup, one, range, IsMaybe, absent, present, IsTypeName, no_type, own_type, packaged, IsDeclaration, declares}
 use Rattle.vast_literal.specs.Plain.{is_plain_name, is_plain, is_plain_type, are_plain}
-use Rattle.vast_literal.specs.Shape.{starts_with_minus, literal_value, highest_index_wraps, joined, base_of, packed_dimensions, unpacked_dimensions, port_kind}
-use Rattle.vast_literal.proofs.ExprTokens.{expr_tokens}
+use Rattle.vast_literal.specs.Shape.{name_alone, starts_with_minus, literal_value, highest_index_wraps, joined, base_of, packed_dimensions, unpacked_dimensions, port_kind}
+use Rattle.vast_literal.proofs.ExprTokens.{called_token, expr_tokens}
 use Rattle.vast_literal.specs.WellFormed.{is_well_formed, is_well_formed_type, are_well_formed}
-use Rattle.vast_literal.specs.NormalTree.{kind_key, package_of, type_name_of, sign_of, number_expr, zero_expr, highest_index_expr, vector_groups, packed_groups, unpacked_group, unpacked_groups, normal_declaration, normal_declared, normal_port_declaration}
-use Rattle.vast_literal.proofs.FileTokens.{maybe_tokens, type_name_tokens, number_tokens, zero_tokens, highest_index_tokens, vector_tokens, packed_tokens, unpacked_dimension_tokens, unpacked_tokens, declaration_tokens, declared_tokens, port_declaration_tokens}
-use Rattle.vast_literal.specs.PlainFile.{is_left_side, is_plain_declaration, is_plain_declared}
-use Rattle.vast_literal.proofs.ScanLaws.{and_left, and_right}
+use Rattle.vast_literal.specs.NormalTree.{normal_task, kind_key, package_of, type_name_of, sign_of, number_expr, zero_expr, highest_index_expr, vector_groups, packed_groups, unpacked_group, unpacked_groups, normal_declaration, normal_declared, normal_port_declaration}
+use Rattle.vast_literal.proofs.FileTokens.{called_tokens, maybe_tokens, type_name_tokens, number_tokens, zero_tokens, highest_index_tokens, vector_tokens, packed_tokens, unpacked_dimension_tokens, unpacked_tokens, declaration_tokens, declared_tokens, port_declaration_tokens}
+use Rattle.vast_literal.specs.PlainFile.{is_left_side, is_call, is_plain_declaration, is_plain_declared}
+use Rattle.vast_literal.proofs.ScanLaws.{and_left, and_right, by_test}
 use Rattle.vast_literal.proofs.Levels.{lower}
 use Rattle.vast_literal.proofs.Precedence.{literal_level, spelled_level, literal_bound, level_bound, highest_index_bound}
 use Rattle.vast_literal.proofs.Spelled.{wrapped_spells, literal_spells, low, spelled}
@@ -41,6 +41,27 @@ left_level _ h s = absurd (cc h)
 
 pub left_spelled : (e : ExprTree) → (is_left_side e && is_plain e) ≡ true → is_well_formed e ≡ true → Spells 13 (expr_tokens e) (normal e)
 left_spelled e p w = left_level e (and_left (is_left_side e) (is_plain e) p) (spelled e (and_right (is_left_side e) (is_plain e) p) w)
+
+-- a call as a statement
+
+call_level : (e : ExprTree) → is_call e ≡ true → Spells (spelled_level e) (expr_tokens e) (normal e) → Spells 13 (expr_tokens e) (normal e)
+call_level (CallTree name arguments) h s = s
+call_level (MacroTree name given) h s = s
+call_level _ h s = absurd (cc h)
+
+call_spelled : (e : ExprTree) → (is_call e && is_plain e) ≡ true → is_well_formed e ≡ true → Spells 13 (expr_tokens e) (normal e)
+call_spelled e p w = call_level e (and_left (is_call e) (is_plain e) p) (spelled e (and_right (is_call e) (is_plain e) p) w)
+
+alone_spelled : (name : List ℕ) → Spells 14 (called_token name ∷ []) (Name name)
+alone_spelled [] = a_name []
+alone_spelled (c ∷ cs) = by_test (eqb c 36) (λ e. rw e (system_alone (c ∷ cs))) (λ e. rw e (a_name (c ∷ cs)))
+
+pub task_spelled : (e : ExprTree) → (is_call e && is_plain e) ≡ true → is_well_formed e ≡ true → Spells 13 (called_tokens (name_alone e) (expr_tokens e)) (normal_task (name_alone e) (normal e))
+unfolding called_tokens normal_task
+task_spelled (CallTree name NoExprs) p w = lower 14 13 _ _ (omega arith) (omega arith) (alone_spelled name)
+task_spelled (CallTree name (MoreExprs part parts)) p w = call_spelled (CallTree name (MoreExprs part parts)) p w
+task_spelled (MacroTree name arguments) p w = call_spelled (MacroTree name arguments) p w
+task_spelled _ p w = absurd (cc p)
 
 -- numbers
 

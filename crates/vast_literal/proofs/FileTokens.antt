@@ -1,17 +1,17 @@
 -- The tokens that the printed page of a file has.
-use Rattle.std.specs.Prelude.{ℕ, ℤ, pos, ◌-ℤ◌, Bool, true, false, List, [], ◌∷◌, ◌++◌, codes, Option, Some, None, cond}
+use Rattle.std.specs.Prelude.{ℕ, ℤ, pos, ◌-ℤ◌, Bool, true, false, List, [], ◌∷◌, ◌++◌, codes, Option, Some, None, cond, if◌then◌else◌}
 use Rattle.std.specs.Fmt.{signed_decimal}
-use Rattle.vast_literal.specs.Tokens.{Less, LessEqual, Plus, Minus, Key, IfKey, ElseKey, EndCaseKey, DefaultKey, UniqueKey, BeginKey, EndKey, AssignKey, IntKey, GenvarKey, ModuleKey, EndModuleKey, ParameterKey, AlwaysCombKey, AlwaysFFKey, AlwaysKey, OrKey, FunctionKey, AutomaticKey, EndFunctionKey, InputKey, ForKey}
-use Rattle.vast_literal.specs.Tokens.{OpenParen, CloseParen, OpenBracket, CloseBracket, Comma, Colon, Semicolon, Dot, Hash, At, DoubleColon, Assign, Token, Reserved, Word, MacroWord, Number, Quoted, Operator, Mark}
+use Rattle.vast_literal.specs.Tokens.{Less, LessEqual, Plus, Minus, Key, IfKey, ElseKey, EndCaseKey, DefaultKey, UniqueKey, BeginKey, EndKey, AssignKey, IntKey, GenvarKey, ModuleKey, EndModuleKey, ParameterKey, OrKey, FunctionKey, AutomaticKey, EndFunctionKey, InputKey, ForKey}
+use Rattle.vast_literal.specs.Tokens.{OpenParen, CloseParen, OpenBracket, CloseBracket, Comma, Colon, Semicolon, Dot, Hash, DoubleColon, Assign, Token, Reserved, Word, MacroWord, Number, Quoted, Operator, Mark}
 use Rattle.vast_literal.specs.Tree.{Dialect, VerilogDialect, SystemVerilogDialect, ExprTree, Exprs, NoExprs, MoreExprs, MaybeExpr, NoExpr, SomeExpr, MaybeType, Untyped, Typed}
 use Rattle.vast_literal.specs.Tree.{LtOp, TypeTree, VectorTree, ExternalTree, PackageTree, Kind, Declaration}
-use Rattle.vast_literal.specs.Tree.{AssignForm, Blocking, Nonblocking, Continuous, CaseWord, StatementTree, AssignTree, CommentTree, BlankTree, InlineTree, ConditionalTree, CaseTree, Statements, NoStatements, MoreStatements, Alternates, NoElse, ElseIf, Else, CaseArms, NoCaseArms, CaseArm}
-use Rattle.vast_literal.specs.Tree.{AlwaysWord, AlwaysFFWord, AlwaysAtWord, AlwaysCombWord, ParameterName, PlainParameter, IntParameter, DefinedParameter, Connection, InstanceTree, FunctionTree}
+use Rattle.vast_literal.specs.Tree.{AssignForm, Blocking, Nonblocking, Continuous, CaseWord, StatementTree, AssignTree, TaskTree, CommentTree, BlankTree, InlineTree, ConditionalTree, CaseTree, Statements, NoStatements, MoreStatements, Alternates, NoElse, ElseIf, Else, CaseArms, NoCaseArms, CaseArm}
+use Rattle.vast_literal.specs.Tree.{AlwaysWord, ParameterName, PlainParameter, IntParameter, DefinedParameter, Connection, InstanceTree, FunctionTree}
 use Rattle.vast_literal.specs.Tree.{MemberTree, DeclarationMember, AssignMember, ParameterMember, CommentMember, BlankMember, InlineMember, MacroMember, InstanceMember, AlwaysMember, ConditionalMember, FunctionMember, LoopMember, Members, NoMembers, MoreMembers}
 use Rattle.vast_literal.specs.Tree.{PortTree, ParameterPortTree, ModuleTree, FileItemTree, ModuleItem, IncludeItem, CommentItem, BlankItem, FileTree}
 use Rattle.vast_literal.proofs.LiteralToken.{literal_tokens}
-use Rattle.vast_literal.specs.Shape.{right_child_wraps, highest_index_wraps, literal_value, base_of, packed_dimensions, unpacked_dimensions, port_kind, base_kind, result_kind, is_bare_arm, is_one_casez}
-use Rattle.vast_literal.proofs.ExprTokens.{wrapped_tokens, expr_tokens}
+use Rattle.vast_literal.specs.Shape.{right_child_wraps, highest_index_wraps, literal_value, base_of, packed_dimensions, unpacked_dimensions, port_kind, base_kind, result_kind, is_bare_arm, name_alone, is_one_casez, always_words, has_events}
+use Rattle.vast_literal.proofs.ExprTokens.{called_token, wrapped_tokens, expr_tokens}
 use Rattle.vast_literal.specs.NormalTree.{kind_key, sign_of, case_key, parameter_key, direction_key}
 
 -- Declarations.
@@ -77,6 +77,11 @@ assignment_tokens Blocking ls rs = ls ++ (Mark Assign ∷ (rs ++ (Mark Semicolon
 assignment_tokens Nonblocking ls rs = ls ++ (Operator LessEqual ∷ (rs ++ (Mark Semicolon ∷ [])))
 assignment_tokens Continuous ls rs = Reserved AssignKey ∷ (ls ++ (Mark Assign ∷ (rs ++ (Mark Semicolon ∷ []))))
 
+-- A call as a statement.
+unfoldable pub called_tokens : (alone : Option (List ℕ)) → List Token → List Token
+called_tokens None ts = ts
+called_tokens (Some name) ts = called_token name ∷ []
+
 -- Statements and `end`, and a block of them.
 abbrev pub ended : List Token → List Token
 ended ts = ts ++ (Reserved EndKey ∷ [])
@@ -95,6 +100,7 @@ label_tokens (SomeExpr label) = expr_tokens label
 unfoldable mutual
   pub statement_tokens : StatementTree → List Token
   statement_tokens (AssignTree form left right) = assignment_tokens form (expr_tokens left) (expr_tokens right)
+  statement_tokens (TaskTree call) = called_tokens (name_alone call) (expr_tokens call) ++ (Mark Semicolon ∷ [])
   statement_tokens (CommentTree text) = []
   statement_tokens BlankTree = []
   statement_tokens (InlineTree text) = []
@@ -166,9 +172,7 @@ event_tokens NoExprs = []
 event_tokens (MoreExprs event events) = expr_tokens event ++ more_event_tokens events
 
 unfoldable pub always_tokens : AlwaysWord → Exprs → List Token → List Token
-always_tokens AlwaysFFWord events body = Reserved AlwaysFFKey ∷ (Mark At ∷ (Mark OpenParen ∷ (event_tokens events ++ (Mark CloseParen ∷ body))))
-always_tokens AlwaysAtWord events body = Reserved AlwaysKey ∷ (Mark At ∷ (Mark OpenParen ∷ (event_tokens events ++ (Mark CloseParen ∷ body))))
-always_tokens AlwaysCombWord events body = Reserved AlwaysCombKey ∷ body
+always_tokens word events body = always_words word ++ (if has_events word then event_tokens events ++ (Mark CloseParen ∷ body) else body)
 
 unfoldable pub each_input : Dialect → List Declaration → List (List Token)
 each_input dialect [] = []

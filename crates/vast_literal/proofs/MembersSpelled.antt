@@ -1,11 +1,11 @@
 -- The tokens of a member's page spell its normal form.
 use Rattle.std.proofs.Common.{◌≡◌, ℕ, List, [], ◌∷◌, ◌++◌, map, Bool, true, false, ◌&&◌, Option, Some, None, IsTrue, refl, append_assoc, append-nil, arith}
-use Rattle.vast_literal.specs.Tokens.{Less, level, OpenParen, CloseParen, Comma, Semicolon, Dot, Key, BeginKey, EndKey, WireKey, RegKey, LogicKey, IntKey, AlwaysFFKey, AlwaysKey, PosedgeKey, NegedgeKey, OrKey, Token, Reserved, Word, Operator, Mark}
-use Rattle.vast_literal.specs.Tree.{Dialect, LtOp, ExprTree, NameTree, PosEdgeTree, NegEdgeTree, MacroTree, MaybeExpr, NoExpr, SomeExpr, Exprs, NoExprs, MoreExprs, NoArguments, SomeArguments, Kind, RegKind, WireKind, LogicKind, Declaration, Continuous, AlwaysWord, AlwaysFFWord, AlwaysAtWord, AlwaysCombWord, ParameterName, PlainParameter, IntParameter, DefinedParameter, Connection, InstanceTree, FunctionTree, MemberTree, DeclarationMember, AssignMember, ParameterMember, CommentMember, BlankMember, InlineMember, MacroMember, InstanceMember, AlwaysMember, ConditionalMember, FunctionMember, LoopMember, Members, NoMembers, MoreMembers}
+use Rattle.vast_literal.specs.Tokens.{Less, level, OpenParen, CloseParen, Comma, Semicolon, Dot, Key, BeginKey, EndKey, WireKey, RegKey, LogicKey, IntKey, PosedgeKey, NegedgeKey, OrKey, Token, Reserved, Word, Operator, Mark}
+use Rattle.vast_literal.specs.Tree.{Dialect, LtOp, ExprTree, NameTree, PosEdgeTree, NegEdgeTree, MacroTree, MaybeExpr, NoExpr, SomeExpr, Exprs, NoExprs, MoreExprs, NoArguments, SomeArguments, Kind, RegKind, WireKind, LogicKind, Declaration, Continuous, AlwaysWord, AlwaysFFWord, AlwaysAtWord, AlwaysCombWord, AlwaysStarWord, AlwaysLatchWord, InitialWord, ParameterName, PlainParameter, IntParameter, DefinedParameter, Connection, InstanceTree, FunctionTree, MemberTree, DeclarationMember, AssignMember, ParameterMember, CommentMember, BlankMember, InlineMember, MacroMember, InstanceMember, AlwaysMember, ConditionalMember, FunctionMember, LoopMember, Members, NoMembers, MoreMembers}
 use Rattle.vast_literal.specs.NormalExpr.{NormalExpr, Name, Binary, binary_operator_token, normal}
 use Rattle.vast_literal.specs.NormalFile.{NormalStatements, Event, AssignPart, InstancePart, NormalMembers}
 use Rattle.vast_literal.specs.Grammar.{Spells, binary, name}
-use Rattle.vast_literal.specs.FileGrammar.{IsMany, no_items, more_items, IsJoined, last_item, next_item, IsList, empty, full, IsStatements, is_kind, absent, present, no_type, IsDeclaration, declares, is_member_kind, is_local_kind, is_parameter_word, is_clocked, is_edge, IsEvent, edge, plain, IsInput, input, IsDeclared, declared, IsGiven, given, IsConnection, connected, unconnected, IsGivenList, no_parameters, with_parameters, IsSemicolon, with_one, without, IsLabel, no_label, labelled, IsMember, declaration, continuous, parameter, macro, macro_with, instance, combinational, clocked, conditional, function, loop, IsMembers, closed, and_member}
+use Rattle.vast_literal.specs.FileGrammar.{IsMany, no_items, more_items, IsJoined, last_item, next_item, IsList, empty, full, IsStatements, is_kind, absent, present, no_type, IsDeclaration, declares, is_member_kind, is_local_kind, is_parameter_word, is_edge, IsEvent, edge, plain, IsInput, input, IsDeclared, declared, IsGiven, given, IsConnection, connected, unconnected, IsGivenList, no_parameters, with_parameters, IsSemicolon, with_one, without, IsLabel, no_label, labelled, IsMember, declaration, continuous, parameter, macro, macro_with, instance, unclocked, clocked, conditional, function, loop, IsMembers, closed, and_member}
 use Rattle.vast_literal.specs.Plain.{is_plain_name, is_plain, are_plain}
 use Rattle.vast_literal.specs.Shape.{right_child_wraps, result_kind}
 use Rattle.vast_literal.proofs.ExprTokens.{wrapped_tokens, expr_tokens}
@@ -104,10 +104,13 @@ events_spelled NoExprs p w = empty
 events_spelled (MoreExprs e es) p w = full (more_events_spelled es (event_spelled e (and_left _ _ p) (and_left _ _ w)) (and_right (is_plain_event e) (are_plain_events es) p) (and_right (is_well_formed_event e) (are_well_formed_events es) w))
 
 always_spelled : (word : AlwaysWord) (es : Exprs) {bs : List Token} {b : NormalStatements} → are_plain_awaited word es ≡ true → are_well_formed_events es ≡ true → IsStatements bs b → IsMember (always_tokens word es (Reserved BeginKey ∷ bs)) (normal_always word es b)
-unfolding always_tokens normal_always is_clocked
-always_spelled AlwaysFFWord es p w h = clocked AlwaysFFKey refl (events_spelled es p w) h
-always_spelled AlwaysAtWord es p w h = clocked AlwaysKey refl (events_spelled es p w) h
-always_spelled AlwaysCombWord es p w h = combinational h
+unfolding always_tokens normal_always
+always_spelled AlwaysFFWord es p w h = clocked AlwaysFFWord refl (events_spelled es p w) h
+always_spelled AlwaysAtWord es p w h = clocked AlwaysAtWord refl (events_spelled es p w) h
+always_spelled AlwaysCombWord es p w h = unclocked AlwaysCombWord refl h
+always_spelled AlwaysStarWord es p w h = unclocked AlwaysStarWord refl h
+always_spelled AlwaysLatchWord es p w h = unclocked AlwaysLatchWord refl h
+always_spelled InitialWord es p w h = unclocked InitialWord refl h
 
 -- declarations
 

@@ -1,11 +1,11 @@
 -- The tokens of a statement's page spell its normal form.
 use Rattle.std.proofs.Common.{◌≡◌, List, ◌∷◌, ◌++◌, Bool, true, false, cond, ◌&&◌, append_assoc, append-nil}
 use Rattle.vast_literal.specs.Tokens.{OpenParen, CloseParen, Colon, IfKey, BeginKey, Token, Reserved, Mark}
-use Rattle.vast_literal.specs.Tree.{MaybeExpr, NoExpr, SomeExpr, AssignForm, Blocking, Nonblocking, Continuous, CaseWord, CaseExact, CaseZ, CaseX, StatementTree, AssignTree, CommentTree, BlankTree, InlineTree, ConditionalTree, CaseTree, Statements, NoStatements, MoreStatements, Alternates, NoElse, ElseIf, Else, CaseArms, NoCaseArms, CaseArm}
+use Rattle.vast_literal.specs.Tree.{MaybeExpr, NoExpr, SomeExpr, AssignForm, Blocking, Nonblocking, Continuous, CaseWord, CaseExact, CaseZ, CaseX, StatementTree, AssignTree, TaskTree, CommentTree, BlankTree, InlineTree, ConditionalTree, CaseTree, Statements, NoStatements, MoreStatements, Alternates, NoElse, ElseIf, Else, CaseArms, NoCaseArms, CaseArm}
 use Rattle.vast_literal.specs.NormalExpr.{NormalExpr}
 use Rattle.vast_literal.specs.NormalFile.{NormalStatements, Labels, Label}
 use Rattle.vast_literal.specs.Grammar.{Spells}
-use Rattle.vast_literal.specs.FileGrammar.{arrow, assignment, IsUnique, unique, not_unique, IsCase, case_word, casez_word, casex_word, IsStatement, simple, assigned, choice, cases, cased, assigns, IsStatements, done, then, IsChoice, only, otherwise, or, IsLabels, no_labels, label, default, IsBody, body, bare, IsFunctionBody, block_body, casez_body}
+use Rattle.vast_literal.specs.FileGrammar.{arrow, assignment, IsUnique, unique, not_unique, IsCase, case_word, casez_word, casex_word, IsStatement, simple, assigned, task, choice, cases, cased, assigns, IsStatements, done, then, IsChoice, only, otherwise, or, IsLabels, no_labels, label, default, IsBody, body, bare, IsFunctionBody, block_body, casez_body}
 use Rattle.vast_literal.specs.WellFormed.{is_well_formed}
 use Rattle.vast_literal.specs.NormalTree.{case_key, normal_assignment, normal_label, normal_before, normal_statements, normal_choice, normal_arms}
 use Rattle.vast_literal.specs.Shape.{is_one_assignment, is_bare_arm, is_one_casez}
@@ -13,7 +13,7 @@ use Rattle.vast_literal.proofs.FileTokens.{assignment_tokens, ended, block_token
 use Rattle.vast_literal.specs.PlainFile.{is_plain_maybe, is_left_side, is_plain_assignment, is_plain_statement, are_plain_statements, are_plain_alternates, are_plain_arms}
 use Rattle.vast_literal.specs.WellFormedFile.{is_well_formed_maybe, is_well_formed_statement, are_well_formed_statements, are_well_formed_alternates, are_well_formed_arms}
 use Rattle.vast_literal.proofs.ScanLaws.{and_left, and_right, by_test}
-use Rattle.vast_literal.proofs.DeclarationSpelled.{value_spelled, left_spelled}
+use Rattle.vast_literal.proofs.DeclarationSpelled.{value_spelled, left_spelled, task_spelled}
 use Rattle.vast_literal.specs.Plain.{is_plain}
 
 -- The cases of a word may have bare arms.
@@ -78,6 +78,7 @@ mutual
 
   before_spelled : (s : StatementTree) {us : List Token} {xs : NormalStatements} → is_plain_statement s ≡ true → is_well_formed_statement s ≡ true → IsStatements us xs → IsStatements (statement_tokens s ++ us) (normal_before s xs)
   before_spelled (AssignTree form l r) p w rest = then (assignment_spelled form (left_spelled l (and_left (is_left_side l && is_plain l) (is_plain r) p) (and_left _ _ w)) (value_spelled r (and_right (is_left_side l && is_plain l) (is_plain r) p) (and_right (is_well_formed l) (is_well_formed r) w))) rest
+  before_spelled (TaskTree call) p w rest = then (task (task_spelled call p w)) rest
   before_spelled (CommentTree text) p w rest = rest
   before_spelled BlankTree p w rest = rest
   before_spelled (InlineTree text) p w rest = rest

@@ -1,10 +1,12 @@
 -- The grammar of files, over that of expressions: which token lists spell which statements, declarations, members, modules and files.
 use Rattle.std.specs.Prelude.{◌≡◌, ℕ, List, [], ◌∷◌, ◌++◌, Bool, true, false, codes, Option, Some, None, IsTrue, if◌then◌else◌}
-use Rattle.vast_literal.specs.Tokens.{Less, LessEqual, Plus, Key, IfKey, ElseKey, CaseKey, CasezKey, CasexKey, EndCaseKey, DefaultKey, UniqueKey, BeginKey, EndKey, AssignKey, WireKey, RegKey, LogicKey, IntegerKey, IntKey, GenvarKey, SignedKey, UnsignedKey, ModuleKey, EndModuleKey, ParameterKey, LocalparamKey, AlwaysCombKey, AlwaysFFKey, AlwaysKey, PosedgeKey, NegedgeKey, OrKey, FunctionKey, AutomaticKey, EndFunctionKey, InputKey, OutputKey, InOutKey, ForKey}
-use Rattle.vast_literal.specs.Tokens.{OpenParen, CloseParen, OpenBracket, CloseBracket, Comma, Colon, Semicolon, Dot, Hash, At, DoubleColon, Assign, Token, Reserved, Word, MacroWord, Number, Quoted, Operator, Mark}
+use Rattle.vast_literal.specs.Tokens.{Less, LessEqual, Plus, Key, IfKey, ElseKey, CaseKey, CasezKey, CasexKey, EndCaseKey, DefaultKey, UniqueKey, BeginKey, EndKey, AssignKey, WireKey, RegKey, LogicKey, IntegerKey, IntKey, GenvarKey, SignedKey, UnsignedKey, ModuleKey, EndModuleKey, ParameterKey, LocalparamKey, PosedgeKey, NegedgeKey, OrKey, FunctionKey, AutomaticKey, EndFunctionKey, InputKey, OutputKey, InOutKey, ForKey}
+use Rattle.vast_literal.specs.Tokens.{OpenParen, CloseParen, OpenBracket, CloseBracket, Comma, Colon, Semicolon, Dot, Hash, DoubleColon, Assign, Token, Reserved, Word, MacroWord, Number, Quoted, Operator, Mark}
+use Rattle.vast_literal.specs.Tree.{AlwaysWord}
+use Rattle.vast_literal.specs.Shape.{always_words, has_events}
 use Rattle.vast_literal.specs.Lexemes.{Lexes}
 use Rattle.vast_literal.specs.NormalExpr.{NormalExpr, Name, Binary, NormalExprs}
-use Rattle.vast_literal.specs.NormalFile.{NormalStatement, BlockingStatement, NonblockingStatement, AssignStatement, ChoiceStatement, CaseStatement, NormalStatements, Done, Then, Arms, Only, Otherwise, Or, Labels, NoLabels, Label, Group, One, Range, NormalDeclaration, Event, EdgeEvent, NameEvent, NormalConnection, NormalMember, DeclarationPart, AssignPart, ParameterPart, MacroPart, InstancePart, AlwaysPart, ConditionalPart, FunctionPart, LoopPart, NormalMembers, NoParts, MoreParts, NormalParameter, NormalPort, NormalItem, ModulePart, IncludePart, NormalFile}
+use Rattle.vast_literal.specs.NormalFile.{NormalStatement, BlockingStatement, NonblockingStatement, AssignStatement, TaskStatement, ChoiceStatement, CaseStatement, NormalStatements, Done, Then, Arms, Only, Otherwise, Or, Labels, NoLabels, Label, Group, One, Range, NormalDeclaration, Event, EdgeEvent, NameEvent, NormalConnection, NormalMember, DeclarationPart, AssignPart, ParameterPart, MacroPart, InstancePart, AlwaysPart, ConditionalPart, FunctionPart, LoopPart, NormalMembers, NoParts, MoreParts, NormalParameter, NormalPort, NormalItem, ModulePart, IncludePart, NormalFile}
 use Rattle.vast_literal.specs.Grammar.{Spells, SpellsList}
 
 -- Lists.
@@ -50,6 +52,8 @@ mutual
     -- assign L = X ;
     assigned : {ls rs : List Token} {l r : NormalExpr} → Spells 13 ls l → Spells 0 rs r →
         IsStatement (Reserved AssignKey ∷ (ls ++ (Mark Assign ∷ (rs ++ (Mark Semicolon ∷ []))))) (AssignStatement l r)
+    -- F ;
+    task : {ts : List Token} {x : NormalExpr} → Spells 13 ts x → IsStatement (ts ++ (Mark Semicolon ∷ [])) (TaskStatement x)
     choice : {ts : List Token} {a : Arms} → IsChoice ts a → IsStatement ts (ChoiceStatement a)
     cases : {ts : List Token} {s : NormalStatement} (k : Key) {bare_arms : Bool} → IsCase k bare_arms → IsCases k bare_arms ts s → IsStatement ts s
 
@@ -134,10 +138,6 @@ is_local_kind key = elim key [ RegKey ↦ true | LogicKey ↦ true | _ ↦ false
 unfoldable pub is_parameter_word : Key → Bool
 is_parameter_word key = elim key [ ParameterKey ↦ true | LocalparamKey ↦ true | _ ↦ false ]
 
--- The always blocks that wait for events.
-unfoldable pub is_clocked : Key → Bool
-is_clocked key = elim key [ AlwaysFFKey ↦ true | AlwaysKey ↦ true | _ ↦ false ]
-
 unfoldable pub is_edge : Key → Bool
 is_edge key = elim key [ PosedgeKey ↦ true | NegedgeKey ↦ true | _ ↦ false ]
 
@@ -201,11 +201,12 @@ mutual
     -- M # ( .. ) I ( .. ) ;
     instance : {ps cs : List Token} {p c : List NormalConnection} (m i : List ℕ) → IsGivenList ps p → IsList IsConnection (Mark Comma) cs c →
         IsMember (Word m ∷ (ps ++ (Word i ∷ (Mark OpenParen ∷ (cs ++ (Mark CloseParen ∷ (Mark Semicolon ∷ []))))))) (InstancePart m p i c)
-    -- always_comb B
-    combinational : {bs : List Token} {b : NormalStatements} → IsStatements bs b → IsMember (Reserved AlwaysCombKey ∷ (Reserved BeginKey ∷ bs)) (AlwaysPart AlwaysCombKey [] b)
+    -- always_comb B, always @ * B, always_latch B and initial B
+    unclocked : {bs : List Token} {b : NormalStatements} (w : AlwaysWord) → has_events w ≡ false → IsStatements bs b →
+        IsMember (always_words w ++ (Reserved BeginKey ∷ bs)) (AlwaysPart w [] b)
     -- always_ff @ ( events ) B and always @ ( events ) B
-    clocked : {es bs : List Token} {e : List Event} {b : NormalStatements} (k : Key) → IsTrue (is_clocked k) → IsList IsEvent (Reserved OrKey) es e → IsStatements bs b →
-        IsMember (Reserved k ∷ (Mark At ∷ (Mark OpenParen ∷ (es ++ (Mark CloseParen ∷ (Reserved BeginKey ∷ bs)))))) (AlwaysPart k e b)
+    clocked : {es bs : List Token} {e : List Event} {b : NormalStatements} (w : AlwaysWord) → IsTrue (has_events w) → IsList IsEvent (Reserved OrKey) es e → IsStatements bs b →
+        IsMember (always_words w ++ (es ++ (Mark CloseParen ∷ (Reserved BeginKey ∷ bs)))) (AlwaysPart w e b)
     conditional : {ts : List Token} {a : Arms} → IsChoice ts a → IsMember ts (ConditionalPart a)
     -- function automatic decl ( inputs ) ; locals body endfunction
     function : {ds is ls bs : List Token} {d : NormalDeclaration} {i l : List NormalDeclaration} {b : NormalStatements} →

@@ -1,12 +1,14 @@
 -- Normal files: what of a file's tree its tokens tell. Comments, blank lines and the dialect are gone.
 use Rattle.std.specs.Prelude.{ℕ, Bool, List, Option}
 use Rattle.vast_literal.specs.Tokens.{Key}
+use Rattle.vast_literal.specs.Tree.{AlwaysWord}
 use Rattle.vast_literal.specs.NormalExpr.{NormalExpr, NormalExprs}
 
 -- Statements of a block. An arm of a case and the body of a function are blocks too.
 mutual
   pub data NormalStatement : Type 0 where
     BlockingStatement NonblockingStatement AssignStatement : (left right : NormalExpr) → NormalStatement
+    TaskStatement : (call : NormalExpr) → NormalStatement
     ChoiceStatement : Arms → NormalStatement
     CaseStatement : (unique : Bool) (word : Key) (selector : NormalExpr) → Labels → NormalStatement
 
@@ -58,7 +60,7 @@ mutual
     ParameterPart : (word : Key) → NormalDeclaration → (value : NormalExpr) → NormalMember
     MacroPart : (name : List ℕ) (arguments : Option NormalExprs) (semicolon : Bool) → NormalMember
     InstancePart : (module_name : List ℕ) (parameters : List NormalConnection) (instance_name : List ℕ) (connections : List NormalConnection) → NormalMember
-    AlwaysPart : (word : Key) → List Event → (body : NormalStatements) → NormalMember
+    AlwaysPart : AlwaysWord → List Event → (body : NormalStatements) → NormalMember
     ConditionalPart : Arms → NormalMember
     FunctionPart : (result : NormalDeclaration) (inputs locals : List NormalDeclaration) (body : NormalStatements) → NormalMember
     LoopPart : (genvar : List ℕ) (start end : NormalExpr) (label : Option (List ℕ)) → NormalMembers → NormalMember

@@ -2,17 +2,17 @@
 -- others an inline text, which may stand for anything, is left out, and a name that is no identifier stands as it is written.
 use Rattle.std.specs.Prelude.{ℕ, ℤ, pos, ◌-ℤ◌, Bool, List, [], ◌∷◌, ◌++◌, map, codes, Option, Some, None, if◌then◌else◌}
 use Rattle.std.specs.Fmt.{signed_decimal}
-use Rattle.vast_literal.specs.Tokens.{Minus, Key, CaseKey, CasezKey, CasexKey, WireKey, RegKey, LogicKey, IntegerKey, IntKey, GenvarKey, ParameterKey, LocalparamKey, AlwaysCombKey, AlwaysFFKey, AlwaysKey, PosedgeKey, NegedgeKey, InputKey, OutputKey, InOutKey}
+use Rattle.vast_literal.specs.Tokens.{Minus, Key, CaseKey, CasezKey, CasexKey, WireKey, RegKey, LogicKey, IntegerKey, IntKey, GenvarKey, ParameterKey, LocalparamKey, PosedgeKey, NegedgeKey, InputKey, OutputKey, InOutKey}
 use Rattle.vast_literal.specs.Tree.{Dialect, VerilogDialect, SystemVerilogDialect, ExprTree, NameTree, PosEdgeTree, NegEdgeTree, MacroTree, Exprs, NoExprs, MoreExprs, MaybeExpr, NoExpr, SomeExpr, MaybeExprs, NoArguments, SomeArguments, MaybeType, Untyped, Typed}
 use Rattle.vast_literal.specs.Tree.{TypeTree, ScalarTree, VectorTree, IntegerTree, IntTree, ExternalTree, PackageTree}
 use Rattle.vast_literal.specs.Tree.{Kind, RegKind, WireKind, LogicKind, IntegerKind, IntKind, GenvarKind, Declaration}
-use Rattle.vast_literal.specs.Tree.{AssignForm, Blocking, Nonblocking, Continuous, CaseWord, CaseExact, CaseZ, CaseX, StatementTree, AssignTree, ConditionalTree, CaseTree, Statements, NoStatements, MoreStatements, Alternates, NoElse, ElseIf, Else, CaseArms, NoCaseArms, CaseArm}
-use Rattle.vast_literal.specs.Tree.{AlwaysWord, AlwaysFFWord, AlwaysAtWord, AlwaysCombWord, ParameterName, PlainParameter, IntParameter, DefinedParameter, Connection, FunctionTree}
+use Rattle.vast_literal.specs.Tree.{AssignForm, Blocking, Nonblocking, Continuous, CaseWord, CaseExact, CaseZ, CaseX, StatementTree, AssignTree, TaskTree, ConditionalTree, CaseTree, Statements, NoStatements, MoreStatements, Alternates, NoElse, ElseIf, Else, CaseArms, NoCaseArms, CaseArm}
+use Rattle.vast_literal.specs.Tree.{AlwaysWord, ParameterName, PlainParameter, IntParameter, DefinedParameter, Connection, FunctionTree}
 use Rattle.vast_literal.specs.Tree.{MemberTree, DeclarationMember, AssignMember, ParameterMember, MacroMember, InstanceMember, AlwaysMember, ConditionalMember, FunctionMember, LoopMember, Members, NoMembers, MoreMembers}
 use Rattle.vast_literal.specs.Tree.{PortDirection, InputDirection, OutputDirection, InOutDirection, PortTree, ParameterPortTree, ModuleTree, FileItemTree, ModuleItem, IncludeItem, FileTree}
-use Rattle.vast_literal.specs.Shape.{literal_value, base_of, packed_dimensions, unpacked_dimensions, port_kind, base_kind, result_kind}
-use Rattle.vast_literal.specs.NormalExpr.{NormalExpr, Literal, Binary, NormalExprs, normal_literal, scalar_sign, integer_sign, normal, normals}
-use Rattle.vast_literal.specs.NormalFile.{NormalStatement, BlockingStatement, NonblockingStatement, AssignStatement, ChoiceStatement, CaseStatement, NormalStatements, Done, Then, Arms, Only, Otherwise, Or, Labels, NoLabels, Label, Group, One, Range, NormalDeclaration, Event, EdgeEvent, NameEvent, NormalConnection, NormalMember, DeclarationPart, AssignPart, ParameterPart, MacroPart, InstancePart, AlwaysPart, ConditionalPart, FunctionPart, LoopPart, NormalMembers, NoParts, MoreParts, NormalParameter, NormalPort, NormalModule, NormalItem, ModulePart, IncludePart, NormalFile}
+use Rattle.vast_literal.specs.Shape.{literal_value, base_of, packed_dimensions, unpacked_dimensions, port_kind, base_kind, result_kind, name_alone, has_events}
+use Rattle.vast_literal.specs.NormalExpr.{NormalExpr, Name, Literal, Binary, NormalExprs, normal_literal, scalar_sign, integer_sign, normal, normals}
+use Rattle.vast_literal.specs.NormalFile.{NormalStatement, BlockingStatement, NonblockingStatement, AssignStatement, TaskStatement, ChoiceStatement, CaseStatement, NormalStatements, Done, Then, Arms, Only, Otherwise, Or, Labels, NoLabels, Label, Group, One, Range, NormalDeclaration, Event, EdgeEvent, NameEvent, NormalConnection, NormalMember, DeclarationPart, AssignPart, ParameterPart, MacroPart, InstancePart, AlwaysPart, ConditionalPart, FunctionPart, LoopPart, NormalMembers, NoParts, MoreParts, NormalParameter, NormalPort, NormalModule, NormalItem, ModulePart, IncludePart, NormalFile}
 
 -- Declarations.
 
@@ -106,6 +106,11 @@ normal_assignment Blocking left right = BlockingStatement left right
 normal_assignment Nonblocking left right = NonblockingStatement left right
 normal_assignment Continuous left right = AssignStatement left right
 
+-- A call as a statement.
+unfoldable pub normal_task : (alone : Option (List ℕ)) → (call : NormalExpr) → NormalExpr
+normal_task None call = call
+normal_task (Some name) call = Name name
+
 unfoldable pub normal_label : MaybeExpr → Option NormalExpr
 normal_label NoExpr = None
 normal_label (SomeExpr label) = Some (normal label)
@@ -114,6 +119,7 @@ unfoldable mutual
   -- A statement before others.
   pub normal_before : StatementTree → NormalStatements → NormalStatements
   normal_before (AssignTree form left right) rest = Then (normal_assignment form (normal left) (normal right)) rest
+  normal_before (TaskTree call) rest = Then (TaskStatement (normal_task (name_alone call) (normal call))) rest
   normal_before (ConditionalTree condition consequent alternates) rest = Then (ChoiceStatement (normal_choice (normal condition) (normal_statements consequent) alternates)) rest
   normal_before (CaseTree unique word selector arms) rest = Then (CaseStatement unique (case_key word) (normal selector) (normal_arms arms)) rest
   normal_before _ rest = rest
@@ -165,11 +171,9 @@ unfoldable pub normal_events : Exprs → List Event
 normal_events NoExprs = []
 normal_events (MoreExprs event events) = normal_event event ∷ normal_events events
 
--- A combinational block waits for no events.
+-- A block without a list of events has none.
 unfoldable pub normal_always : AlwaysWord → Exprs → NormalStatements → NormalMember
-normal_always AlwaysFFWord events body = AlwaysPart AlwaysFFKey (normal_events events) body
-normal_always AlwaysAtWord events body = AlwaysPart AlwaysKey (normal_events events) body
-normal_always AlwaysCombWord events body = AlwaysPart AlwaysCombKey [] body
+normal_always word events body = AlwaysPart word (if has_events word then normal_events events else []) body
 
 unfoldable pub normal_function : Dialect → FunctionTree → NormalMember
 normal_function dialect f = FunctionPart (normal_declaration dialect (result_kind dialect f.result) f.result f.name) (map (normal_port_declaration dialect) f.inputs) (map (normal_declared dialect) f.locals) (normal_statements f.body)

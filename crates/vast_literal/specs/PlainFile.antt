@@ -1,12 +1,13 @@
 -- Plain files: all names that are printed are identifiers and no keywords, and nothing stands where it has no meaning.
-use Rattle.std.specs.Prelude.{ℕ, List, [], ◌∷◌, Bool, true, false, not, ◌&&◌, ◌||◌, eqb, Option, Some, None}
-use Rattle.vast_literal.specs.Tree.{ExprTree, NameTree, IndexTree, SliceTree, PartSelectTree, ConcatTree, PosEdgeTree, NegEdgeTree, TypeTree}
+use Rattle.std.specs.Prelude.{ℕ, List, [], ◌∷◌, Bool, true, false, not, ◌&&◌, ◌||◌, eqb, Option, Some, None, if◌then◌else◌}
+use Rattle.vast_literal.specs.Tree.{ExprTree, NameTree, IndexTree, SliceTree, PartSelectTree, ConcatTree, PosEdgeTree, NegEdgeTree, MacroTree, CallTree, TypeTree}
 use Rattle.vast_literal.specs.Tree.{MaybeExpr, NoExpr, SomeExpr, Exprs, NoExprs, MoreExprs, MaybeType, Untyped, Typed, Declaration}
-use Rattle.vast_literal.specs.Tree.{StatementTree, AssignTree, InlineTree, ConditionalTree, CaseTree, Statements, NoStatements, MoreStatements, Alternates, NoElse, ElseIf, Else, CaseArms, NoCaseArms, CaseArm}
-use Rattle.vast_literal.specs.Tree.{AlwaysWord, AlwaysCombWord, ParameterName, PlainParameter, IntParameter, DefinedParameter, Connection, InstanceTree, FunctionTree}
+use Rattle.vast_literal.specs.Tree.{StatementTree, AssignTree, TaskTree, InlineTree, ConditionalTree, CaseTree, Statements, NoStatements, MoreStatements, Alternates, NoElse, ElseIf, Else, CaseArms, NoCaseArms, CaseArm}
+use Rattle.vast_literal.specs.Tree.{AlwaysWord, ParameterName, PlainParameter, IntParameter, DefinedParameter, Connection, InstanceTree, FunctionTree}
 use Rattle.vast_literal.specs.Tree.{MemberTree, DeclarationMember, AssignMember, ParameterMember, InlineMember, MacroMember, InstanceMember, AlwaysMember, ConditionalMember, FunctionMember, LoopMember, Members, NoMembers, MoreMembers}
 use Rattle.vast_literal.specs.Tree.{PortTree, ParameterPortTree, ModuleTree, FileItemTree, ModuleItem, IncludeItem, FileTree}
 use Rattle.vast_literal.specs.LiteralToken.{every}
+use Rattle.vast_literal.specs.Shape.{has_events}
 use Rattle.vast_literal.specs.Plain.{is_plain_name, is_plain, is_plain_type}
 
 abbrev pub is_plain_maybe : MaybeExpr → Bool
@@ -16,6 +17,10 @@ is_plain_maybe (SomeExpr value) = is_plain value
 -- A name, a select or a concatenation.
 abbrev pub is_left_side : ExprTree → Bool
 is_left_side e = elim e [ NameTree name type ↦ true | IndexTree subject index ↦ true | SliceTree subject high low ↦ true | PartSelectTree subject start width ↦ true | ConcatTree count parts ↦ true | _ ↦ false ]
+
+-- A call of a function or of a task, or the use of a macro.
+abbrev pub is_call : ExprTree → Bool
+is_call e = elim e [ CallTree name arguments ↦ true | MacroTree name given ↦ true | _ ↦ false ]
 
 abbrev pub is_plain_assignment : (left right : ExprTree) → Bool
 is_plain_assignment left right = (is_left_side left && is_plain left) && is_plain right
@@ -30,6 +35,7 @@ abbrev mutual
   -- No inline text stands in the statement, and its names are plain.
   pub is_plain_statement : StatementTree → Bool
   is_plain_statement (AssignTree form left right) = is_plain_assignment left right
+  is_plain_statement (TaskTree call) = is_call call && is_plain call
   is_plain_statement (InlineTree text) = false
   is_plain_statement (ConditionalTree condition consequent alternates) = is_plain condition && (are_plain_statements consequent && are_plain_alternates alternates)
   is_plain_statement (CaseTree unique word selector arms) = is_plain selector && are_plain_arms arms
@@ -58,10 +64,9 @@ abbrev pub are_plain_events : Exprs → Bool
 are_plain_events NoExprs = true
 are_plain_events (MoreExprs event events) = is_plain_event event && are_plain_events events
 
--- The events that are printed are plain; a combinational block prints none.
+-- The events that are printed are plain.
 abbrev pub are_plain_awaited : AlwaysWord → Exprs → Bool
-are_plain_awaited AlwaysCombWord events = true
-are_plain_awaited _ events = are_plain_events events
+are_plain_awaited word events = if has_events word then are_plain_events events else true
 
 abbrev pub is_plain_parameter_name : ParameterName → Bool
 is_plain_parameter_name (PlainParameter name) = is_plain_name name
@@ -123,7 +128,7 @@ are_plain_items (IncludeItem path ∷ items) = every is_path_byte path && are_pl
 are_plain_items (_ ∷ items) = are_plain_items items
 
 -- The names of the file's modules, instances, ports, connections, parameters, labels, packages, types and macros are plain, no
--- inline text stands in it, edges stand only in the lists of events, and left sides are names, selects and concatenations. What
--- isn't printed is not asked: the types of names, and events that a combinational block has.
+-- inline text stands in it, edges stand only in the lists of events, left sides are names, selects and concatenations, and what
+-- stands as a statement by itself is a call. What isn't printed is not asked: the types of names, and events that aren't listed.
 abbrev pub is_plain_file : FileTree → Bool
 is_plain_file f = are_plain_items f.items

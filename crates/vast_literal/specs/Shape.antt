@@ -1,13 +1,14 @@
 -- What the shape of a tree decides: where parentheses stand, which selects are left out, which dimensions an
--- array has, with which kind something is declared, and which arms stand bare. The layout, the tokens of its text and the normal form go by these.
+-- array has, with which kind something is declared, which arms and calls stand bare, and how an always block begins. The layout, the tokens of its text and the normal form go by these.
 use Rattle.std.specs.Prelude.{ℕ, ℤ, pos, Bool, true, false, cond, ◌&&◌, ◌||◌, ◌==◌, List, [], ◌∷◌, Option, Some, None, nat_lt, nat_le}
-use Rattle.vast_literal.specs.Tokens.{Op, LogicOr, LogicAnd, BitOr, BitXor, BitAnd, NotEqual, CaseNotEqual, Equal, CaseEqual, GreaterEqual, Greater, LessEqual, Less, ShiftLeft, ShiftRightSigned, ShiftRight, Plus, Minus, Times, Divide, Modulo, Power}
+use Rattle.vast_literal.specs.Tokens.{Op, LogicOr, LogicAnd, BitOr, BitXor, BitAnd, NotEqual, CaseNotEqual, Equal, CaseEqual, GreaterEqual, Greater, LessEqual, Less, ShiftLeft, ShiftRightSigned, ShiftRight, Plus, Minus, Times, Divide, Modulo, Power, OpenParen, At, AlwaysCombKey, AlwaysFFKey, AlwaysKey, AlwaysLatchKey, InitialKey, Token, Reserved, Operator, Mark}
 use Rattle.vast_literal.specs.Tree.{UnaryOp, NegateOp, BitwiseNotOp, LogicalNotOp}
 use Rattle.vast_literal.specs.Tree.{BinaryOp, AddOp, SubOp, MulOp, DivOp, ModOp, PowerOp, BitwiseAndOp, BitwiseOrOp, BitwiseXorOp, ShllOp, ShraOp, ShrlOp, NeOp, CaseNeOp, EqOp, CaseEqOp, GeOp, GtOp, LeOp, LtOp, LogicalAndOp, LogicalOrOp, NeXOp, EqXOp}
-use Rattle.vast_literal.specs.Tree.{ExprTree, NameTree, LiteralTree, UnaryTree, BinaryTree, TernaryTree, WidthCastTree}
+use Rattle.vast_literal.specs.Tree.{ExprTree, NameTree, LiteralTree, UnaryTree, BinaryTree, TernaryTree, WidthCastTree, CallTree}
 use Rattle.vast_literal.specs.Tree.{TypeTree, ScalarTree, VectorTree, IntegerTree, IntTree, ExternalTree, PackageTree, PackedTree, UnpackedTree, MaybeType, Untyped, Typed, Exprs, NoExprs, MoreExprs}
 use Rattle.vast_literal.specs.Tree.{Dialect, VerilogDialect, SystemVerilogDialect, Kind, LogicKind, IntegerKind, IntKind, UserKind}
 use Rattle.vast_literal.specs.Tree.{StatementTree, AssignTree, CaseTree, Statements, NoStatements, MoreStatements, Blocking, Nonblocking, CaseWord, CaseZ}
+use Rattle.vast_literal.specs.Tree.{AlwaysWord, AlwaysFFWord, AlwaysAtWord, AlwaysCombWord, AlwaysStarWord, AlwaysLatchWord, InitialWord}
 
 -- The token of a binary operator and its precedence: one of a higher precedence binds its operands more tightly (IEEE
 -- 1800-2017, table 11-2). The comparisons with x are the case comparisons.
@@ -192,6 +193,11 @@ abbrev pub is_bare_arm : CaseWord → Statements → Bool
 is_bare_arm CaseZ block = is_one_assignment block
 is_bare_arm _ block = false
 
+-- A call without arguments, whose name alone stands as a statement.
+abbrev pub name_alone : ExprTree → Option (List ℕ)
+name_alone (CallTree name NoExprs) = Some name
+name_alone _ = None
+
 -- One casez, which stands without `begin` and `end` as the body of a function.
 abbrev pub is_casez : StatementTree → Bool
 is_casez (CaseTree unique CaseZ e arms) = true
@@ -201,3 +207,18 @@ is_casez _ = false
 abbrev pub is_one_casez : Statements → Bool
 is_one_casez (MoreStatements s NoStatements) = is_casez s
 is_one_casez _ = false
+
+-- How an always block begins, and whether a list of what it waits for stands behind that.
+abbrev pub always_row : AlwaysWord → List Token × Bool
+always_row AlwaysFFWord = (Reserved AlwaysFFKey ∷ Mark At ∷ Mark OpenParen ∷ [], true)
+always_row AlwaysAtWord = (Reserved AlwaysKey ∷ Mark At ∷ Mark OpenParen ∷ [], true)
+always_row AlwaysCombWord = (Reserved AlwaysCombKey ∷ [], false)
+always_row AlwaysStarWord = (Reserved AlwaysKey ∷ Mark At ∷ Operator Times ∷ [], false)
+always_row AlwaysLatchWord = (Reserved AlwaysLatchKey ∷ [], false)
+always_row InitialWord = (Reserved InitialKey ∷ [], false)
+
+abbrev pub always_words : AlwaysWord → List Token
+always_words word = (always_row word).0
+
+abbrev pub has_events : AlwaysWord → Bool
+has_events word = (always_row word).1

@@ -15,7 +15,7 @@ pub use Rattle.vast_literal.specs.declared.kind.AssignmentForm.TheVariants.{Bloc
 pub use Rattle.vast_literal.specs.declared.kind.CaseKind.{CaseKind as CaseWord}
 pub use Rattle.vast_literal.specs.declared.kind.CaseKind.TheVariants.{Case as CaseExact, CaseZ, CaseX}
 pub use Rattle.vast_literal.specs.declared.kind.AlwaysKind.{AlwaysKind as AlwaysWord}
-pub use Rattle.vast_literal.specs.declared.kind.AlwaysKind.TheVariants.{AlwaysFF as AlwaysFFWord, AlwaysAt as AlwaysAtWord, AlwaysComb as AlwaysCombWord}
+pub use Rattle.vast_literal.specs.declared.kind.AlwaysKind.TheVariants.{AlwaysFF as AlwaysFFWord, AlwaysAt as AlwaysAtWord, AlwaysComb as AlwaysCombWord, AlwaysStar as AlwaysStarWord, AlwaysLatch as AlwaysLatchWord, Initial as InitialWord}
 pub use Rattle.vast_literal.specs.declared.kind.ModulePortDirection.{ModulePortDirection as PortDirection}
 pub use Rattle.vast_literal.specs.declared.kind.ModulePortDirection.TheVariants.{Input as InputDirection, Output as OutputDirection, InOut as InOutDirection}
 
@@ -77,6 +77,8 @@ pub record Declaration : Type 0 where
 mutual
   pub data StatementTree : Type 0 where
     AssignTree : (form : AssignForm) (left right : ExprTree) → StatementTree
+    -- A call as a statement.
+    TaskTree : (call : ExprTree) → StatementTree
     CommentTree InlineTree : (text : List ℕ) → StatementTree
     BlankTree : StatementTree
     ConditionalTree : (condition : ExprTree) (consequent : Statements) (alternates : Alternates) → StatementTree

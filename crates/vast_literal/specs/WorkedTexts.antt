@@ -1,6 +1,7 @@
 -- Worked statements, proved in the law `worked_texts`: what the grammar derives from some texts, and the normal forms of some trees.
 use Rattle.std.specs.Prelude.{◌≡◌, ℕ, pos, negsuc, List, [], ◌∷◌, true, false, codes, Some, None}
-use Rattle.vast_literal.specs.Tokens.{Minus, LessEqual, Power, CasezKey, WireKey, AlwaysCombKey}
+use Rattle.vast_literal.specs.Tokens.{Minus, LessEqual, Power, CasezKey, WireKey}
+use Rattle.vast_literal.specs.Tree.{AlwaysCombWord}
 use Rattle.vast_literal.specs.NormalExpr.{NormalExpr, Name, Literal, Unary, Binary, Ternary, Concat, Replicated, Cast, NormalExprs, NoNormals, MoreNormals, normal}
 use Rattle.vast_literal.specs.NormalFile.{BlockingStatement, NonblockingStatement, CaseStatement, Done, Then, NoLabels, Label, Range, NormalMember, DeclarationPart, AlwaysPart, FunctionPart, NoParts, MoreParts, ModulePart, NormalFile}
 use Rattle.vast_literal.specs.Tree.{SubOp, PowerOp, ExprTree, NameTree, LiteralTree, BinaryTree, WidthCastTree, TypeCastTree, TypeTree, VectorTree, ExternalTree, Untyped}
@@ -42,11 +43,11 @@ module_of x = record { items = ModulePart (record { name = codes "m"; parameters
 
 -- x is given the comparison of a with b
 unfoldable pub given_comparison : NormalMember
-given_comparison = AlwaysPart AlwaysCombKey [] (Then (NonblockingStatement (Name (codes "x")) (Binary LessEqual (Name (codes "a")) (Name (codes "b")))) Done)
+given_comparison = AlwaysPart AlwaysCombWord [] (Then (NonblockingStatement (Name (codes "x")) (Binary LessEqual (Name (codes "a")) (Name (codes "b")))) Done)
 
 -- an arm whose label is a ternary
 unfoldable pub ternary_label : NormalMember
-ternary_label = AlwaysPart AlwaysCombKey [] (Then (CaseStatement false CasezKey (Name (codes "s")) (Label (Some (Ternary (Name (codes "a")) (Name (codes "b")) (Name (codes "c")))) (Then (BlockingStatement (Name (codes "x")) (Literal (codes "1"))) Done) NoLabels)) Done)
+ternary_label = AlwaysPart AlwaysCombWord [] (Then (CaseStatement false CasezKey (Name (codes "s")) (Label (Some (Ternary (Name (codes "a")) (Name (codes "b")) (Name (codes "c")))) (Then (BlockingStatement (Name (codes "x")) (Literal (codes "1"))) Done) NoLabels)) Done)
 
 -- a wire x of two elements of the type t
 unfoldable pub typed_wire : NormalMember

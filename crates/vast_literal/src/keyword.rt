@@ -14,8 +14,8 @@ macro_rules! keywords {
         $take! {
             $($first;)?
             "accept_on", "alias", "always" Always, "always_comb" AlwaysComb, "always_ff" AlwaysFF,
-            "always_latch", "and", "assert", "assign" Assign, "assume", "automatic" Automatic,
-            "before", "begin" Begin, "bind", "bins", "binsof", "bit", "break", "buf", "bufif0",
+            "always_latch" AlwaysLatch, "and", "assert", "assign" Assign, "assume",
+            "automatic" Automatic, "before", "begin" Begin, "bind", "bins", "binsof", "bit", "break", "buf", "bufif0",
             "bufif1", "byte", "case" Case, "casex" Casex, "casez" Casez, "cell", "chandle",
             "checker", "class", "clocking", "cmos", "config", "const", "constraint", "context",
             "continue", "cover", "covergroup", "coverpoint", "cross", "deassign",
@@ -27,8 +27,8 @@ macro_rules! keywords {
             "expect", "export", "extends", "extern", "final", "first_match", "for" For, "force",
             "foreach", "forever", "fork", "forkjoin", "function" Function, "generate",
             "genvar" Genvar, "global", "highz0", "highz1", "if" If, "iff", "ifnone", "ignore_bins",
-            "illegal_bins", "implements", "implies", "import", "incdir", "include", "initial",
-            "inout" InOut, "input" Input, "inside", "instance", "int" Int, "integer" Integer,
+            "illegal_bins", "implements", "implies", "import", "incdir", "include",
+            "initial" Initial, "inout" InOut, "input" Input, "inside", "instance", "int" Int, "integer" Integer,
             "interconnect", "interface", "intersect", "join", "join_any", "join_none", "large",
             "let", "liblist", "library", "local", "localparam" Localparam, "logic" Logic,
             "longint", "macromodule", "matches", "medium", "modport", "module" Module, "nand",

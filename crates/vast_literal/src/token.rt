@@ -95,6 +95,8 @@ pub enum Key {
     Output,
     InOut,
     For,
+    AlwaysLatch,
+    Initial,
 }
 
 impl Sign {

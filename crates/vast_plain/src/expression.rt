@@ -3,7 +3,7 @@
 ghost use Rattle.std.specs.Prelude.{◌≡◌, ◌+◌, ◌&&◌, All, IfSome};
 ghost use Rattle.vast_literal.specs.Tree.{ConcatTree, TypeCastTree};
 ghost use Rattle.vast_literal.specs.Plain.{are_plain, is_plain};
-ghost use Rattle.vast_literal.specs.PlainFile.{is_left_side, is_plain_maybe, is_plain_event};
+ghost use Rattle.vast_literal.specs.PlainFile.{is_call, is_left_side, is_plain_maybe, is_plain_event};
 ghost use Rattle.vast_core.specs.Bench.{OwnsExpr, OwnsType, tree_of, trees_of, maybe_tree_of, type_of};
 ghost use Rattle.vast_core.specs.View.{bench};
 ghost use Rattle.vast_plain.specs.Internal.Values.{Answers, Begins, BeginsExpr, exprs_weight};
@@ -174,6 +174,19 @@ pub(crate) fn is_left_side(ast: &Ast, e: Expr) -> bool
         ExprNode::Slice(_, _, _) => true,
         ExprNode::PartSelect(_, _, _) => true,
         ExprNode::Concat(_, _) => true,
+        _ => false,
+    }
+}
+
+/// Whether the expression is a call of a function or a task, or the use of a macro.
+pub(crate) fn is_call(ast: &Ast, e: Expr) -> bool
+    requires { OwnsExpr (bench ast.now) e }
+    ensures { result ≡ is_call (tree_of (bench ast.now) e) }
+{
+    match ast.expr(e) {
+        ExprNode::Call(_, _) => true,
+        ExprNode::Macro(_) => true,
+        ExprNode::MacroCall(_, _) => true,
         _ => false,
     }
 }

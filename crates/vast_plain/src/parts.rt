@@ -105,15 +105,15 @@ fn are_plain_events(ast: &Ast, events: &[Expr]) -> Result<bool, AllocError>
     Ok(true)
 }
 
-/// Whether the events that are printed are plain; a combinational block prints none.
+/// Whether the events that are printed are plain.
 fn are_plain_awaited(ast: &Ast, kind: AlwaysKind, events: &[Expr]) -> Result<bool, AllocError>
     requires { All (EventSound (bench ast.now)) events.now }
     ensures { Answers (are_plain_awaited kind (trees_of (bench ast.now) events.now)) result }
 {
-    match kind {
-        AlwaysKind::AlwaysFF => are_plain_events(ast, events),
-        AlwaysKind::AlwaysAt => are_plain_events(ast, events),
-        AlwaysKind::AlwaysComb => Ok(true),
+    if kind.has_events() {
+        are_plain_events(ast, events)
+    } else {
+        Ok(true)
     }
 }
 

@@ -1,7 +1,7 @@
 //! Blocks and statements.
 
 ghost use Rattle.std.specs.Prelude.{◌&&◌, IfSome};
-ghost use Rattle.vast_literal.specs.PlainFile.{is_plain_maybe, is_plain_assignment, is_plain_statement, are_plain_statements};
+ghost use Rattle.vast_literal.specs.PlainFile.{is_call, is_plain_maybe, is_plain_assignment, is_plain_statement, are_plain_statements};
 ghost use Rattle.vast_core.specs.Bench.{OwnsBlock, OwnsCase, OwnsConditional, OwnsExpr, tree_of, maybe_tree_of};
 ghost use Rattle.vast_core.specs.Internal.Entries.{OwnsEntry};
 ghost use Rattle.vast_core.specs.FileTree.{families, statement_in, conditional_statement, case_statement, block_tree};
@@ -9,7 +9,7 @@ ghost use Rattle.vast_core.specs.View.{bench};
 ghost use Rattle.vast_plain.specs.Internal.Values.{Answers};
 ghost use Rattle.vast_literal.specs.Plain.{is_plain};
 
-use crate::expression::{is_left_side, is_plain_maybe, is_plain_value};
+use crate::expression::{is_call, is_left_side, is_plain_maybe, is_plain_value};
 use std::alloc::AllocError;
 use vast_core::{
     Assignment, Ast, CaseArm, CaseStatement, Conditional, Expr, Statement, VastStatementBlock,
@@ -28,6 +28,15 @@ pub(crate) fn is_plain_assignment(ast: &Ast, assignment: &Assignment) -> Result<
             && is_plain_value(ast, assignment.lhs)?
             && is_plain_value(ast, assignment.rhs)?,
     )
+}
+
+/// Whether the expression is a call, and plain.
+fn is_plain_task(ast: &Ast, call: Expr) -> Result<bool, AllocError>
+    requires { OwnsExpr (bench ast.now) call }
+    ensures { Answers (is_call (tree_of (bench ast.now) call)
+        && is_plain (tree_of (bench ast.now) call)) result }
+{
+    Ok(is_call(ast, call) && is_plain_value(ast, call)?)
 }
 
 /// Whether each statement of the block is plain.
@@ -56,6 +65,7 @@ fn is_plain_statement(ast: &Ast, statement: &Statement) -> Result<bool, AllocErr
     match statement {
         Statement::Assignment(s) => is_plain_assignment(ast, ast.assignment(*s)),
         Statement::Continuous(s) => is_plain_assignment(ast, ast.assignment(*s)),
+        Statement::Task(call) => is_plain_task(ast, *call),
         Statement::Conditional(c) => is_plain_conditional(ast, *c),
         Statement::Case(c) => is_plain_case(ast, *c),
         Statement::BlankLine => Ok(true),

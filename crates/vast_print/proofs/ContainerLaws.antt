@@ -1,17 +1,18 @@
 -- Laws of writing the containers, functions and always blocks of the arena, and what they hold.
 use Rattle.std.proofs.Common.{◌≡◌, ◌<◌, ℕ, zero, suc, ◌+◌, Bool, true, false, List, [], ◌∷◌, length, refl, sym, ◌∙◌, codes, arith, Option, Some, None, slice_get, All}
-use Rattle.vast_literal.specs.Tree.{ExprTree, NoExpr, SomeExpr, NoStatements, MoreStatements, StatementTree, AssignTree, AssignMember}
+use Rattle.vast_literal.specs.Tree.{ExprTree, CallTree, NoExpr, SomeExpr, NoStatements, MoreStatements, StatementTree, AssignTree, AssignMember}
 use Rattle.vast_literal.specs.declared.kind.VastFileType.{VastFileType as Dialect}
 use Rattle.vast_literal.specs.declared.kind.AssignmentForm.TheVariants.{Blocking, Nonblocking, Continuous}
 use Rattle.vast_literal.specs.declared.kind.CaseKind.{CaseKind as CaseWord}
 use Rattle.vast_literal.specs.declared.kind.CaseKind.TheVariants.{Case as CaseExact, CaseZ, CaseX}
-use Rattle.vast_literal.specs.Shape.{is_bare_arm, is_one_assignment, is_one_casez}
+use Rattle.vast_literal.specs.Shape.{is_bare_arm, is_one_assignment, is_one_casez, name_alone}
+use Rattle.vast_core.specs.declared.handle.Expr.{Expr}
 use Rattle.vast_core.specs.declared.handle.VastStatement.{VastStatement}
 use Rattle.vast_core.specs.declared.node.Assignment.{Assignment}
 use Rattle.vast_core.specs.declared.node.Statement.{Statement}
 use Rattle.vast_core.specs.Sound.{StatementSound}
 use Rattle.vast_core.proofs.Lists.{below-of}
-use Rattle.vast_core.specs.Bench.{Bench, OwnsStatement, tree_of}
+use Rattle.vast_core.specs.Bench.{Bench, OwnsStatement, tree_of, trees_of}
 use Rattle.vast_core.specs.Nests.{NestRecord, BlockRecord}
 use Rattle.vast_core.specs.declared.node.Statement.TheVariants.{Assignment as AssignStatement, Continuous as ContinuousStatement, Conditional as ConditionalStatement, Case as CasesStatement}
 use Rattle.vast_core.specs.FileTree.{Family, BlockFamily, family, unfolded, families, conditional_statement, case_statement, conditional_member, form_of, assigned_tree, continuous_tree, statement_in, statements_tree}
@@ -20,15 +21,15 @@ use Rattle.vast_print.specs.Printed.{plain_text, ◌⊕◌}
 use Rattle.vast_print.specs.Page.{written}
 use Rattle.vast_print.specs.Output.{Output, word, next, indented, inline}
 use Rattle.vast_print.specs.Text.{expr_text}
-use Rattle.vast_print.specs.Statements.{assignment_operator, label_text, statement_page, statements_page, block_page}
+use Rattle.vast_print.specs.Statements.{assignment_operator, called_text, label_text, statement_page, statements_page, block_page}
 use Rattle.vast_print.specs.Internal.Statements.{arm_body_page}
 use Rattle.vast_print.specs.Members.{member_page}
 use Rattle.vast_print.proofs.Lines.{word-nothing, word-word}
 use Rattle.vast_print.proofs.OutputLaws.{inline-word, indented-blank, indented-written, inline-line, inline-then, inline-above-none}
-use Rattle.vast_print.proofs.StatementLaws.{indented-assign, inline-assign, indented-arm, indented-comment, indented-blank-statement, indented-inline, indented-conditional, indented-case, inline-no-else, inline-else, inline-block-none, inline-block, inline-arm-block, inline-else-if-arm, indented-arms, indented-arms-none}
+use Rattle.vast_print.proofs.StatementLaws.{indented-assign, inline-assign, indented-task, indented-arm, indented-comment, indented-blank-statement, indented-inline, indented-conditional, indented-case, inline-no-else, inline-else, inline-block-none, inline-block, inline-arm-block, inline-else-if-arm, indented-arms, indented-arms-none}
 use Rattle.vast_print.proofs.ListLaws.{indented-no-statements, indented-statements, indented-no-locals, indented-locals}
 use Rattle.vast_print.proofs.SeparatedLaws.{inline-no-inputs, inline-inputs, inline-no-events, inline-events}
-use Rattle.vast_print.proofs.MemberLaws.{indented-always, inline-always-ff, inline-always-at, inline-always-comb, indented-declaration, indented-comment-member, indented-blank-member, indented-inline-member, indented-macro, indented-local, indented-function, indented-function-member, indented-body-block, indented-body-casez, indented-loop, inline-loop, inline-label-text, inline-no-label, inline-input-text}
+use Rattle.vast_print.proofs.MemberLaws.{indented-always, inline-always-events, inline-always-alone, indented-declaration, indented-comment-member, indented-blank-member, indented-inline-member, indented-macro, indented-local, indented-function, indented-function-member, indented-body-block, indented-body-casez, indented-loop, inline-loop, inline-label-text, inline-no-label, inline-input-text}
 use Rattle.vast_print.proofs.ArenaLaws.{stops, declarations, listed}
 use Rattle.vast_print.proofs.Left.{left}
 
@@ -51,6 +52,26 @@ unfolding member_page statement_page
 indented-assign-same d k dialect l r = refl
 
 pub ruleset assignments = (indented-assign, stops)
+
+pub ruleset tasks = (indented-task, stops)
+
+-- calls without arguments and with some
+
+called-alone : (call : ExprTree) (name : List ℕ) → name_alone call ≡ Some name → called_text (name_alone call) call ≡ plain_text name
+called-alone call name h = rw h refl
+
+called-whole : (call : ExprTree) → name_alone call ≡ None → called_text (name_alone call) call ≡ expr_text call
+called-whole call h = rw h refl
+
+alone-named : (b : Bench) (name : List ℕ) (arguments : List Expr) → length arguments ≡ 0 → name_alone (CallTree name (trees_of b arguments)) ≡ Some name
+alone-named b name [] h = refl
+alone-named b name (x ∷ xs) h = absurd (omega arith)
+
+not-alone : (b : Bench) (name : List ℕ) (arguments : List Expr) → (length arguments ≡ 0 → ⊥) → name_alone (CallTree name (trees_of b arguments)) ≡ None
+not-alone b name [] h = absurd (h refl)
+not-alone b name (x ∷ xs) h = refl
+
+pub ruleset alone = (alone-named, not-alone, called-alone, called-whole, stops)
 
 -- blocks
 
@@ -170,7 +191,7 @@ pub ruleset cases = (indented-case, indented-arms-none, indented-arms, indented-
 
 -- always blocks
 
-pub ruleset always = (indented-always, inline-always-ff, inline-always-at, inline-always-comb, stops)
+pub ruleset always = (indented-always, inline-always-events, inline-always-alone, stops)
 
 -- functions
 

@@ -1,12 +1,13 @@
 -- Instances and always blocks have the tokens that the grammar reads.
 use Rattle.std.proofs.Common.{◌≡◌, ℕ, List, [], ◌∷◌, ◌++◌, map, true, ◌&&◌, refl, append_assoc, codes}
-use Rattle.vast_literal.specs.Tokens.{key_text, Reserved, Mark, Word}
+use Rattle.vast_literal.specs.Tokens.{key_text, Reserved, Operator, Mark, Word}
+use Rattle.vast_literal.specs.declared.token.Sign.TheVariants.{Times}
 use Rattle.vast_literal.specs.declared.token.Mark.TheVariants.{OpenParen, At}
 use Rattle.vast_literal.specs.declared.token.Key.{Key}
-use Rattle.vast_literal.specs.declared.token.Key.TheVariants.{AlwaysComb as AlwaysCombKey, AlwaysFF as AlwaysFFKey, Always as AlwaysKey, Posedge as PosedgeKey, Negedge as NegedgeKey, Or as OrKey}
+use Rattle.vast_literal.specs.declared.token.Key.TheVariants.{AlwaysComb as AlwaysCombKey, AlwaysFF as AlwaysFFKey, Always as AlwaysKey, AlwaysLatch as AlwaysLatchKey, Initial as InitialKey, Posedge as PosedgeKey, Negedge as NegedgeKey, Or as OrKey}
 use Rattle.vast_literal.specs.Tree.{ExprTree, NameTree, PosEdgeTree, NegEdgeTree, Exprs, NoExprs, MoreExprs, Connection, InstanceTree, Statements}
 use Rattle.vast_literal.specs.declared.kind.AlwaysKind.{AlwaysKind as AlwaysWord}
-use Rattle.vast_literal.specs.declared.kind.AlwaysKind.TheVariants.{AlwaysFF as AlwaysFFWord, AlwaysAt as AlwaysAtWord, AlwaysComb as AlwaysCombWord}
+use Rattle.vast_literal.specs.declared.kind.AlwaysKind.TheVariants.{AlwaysFF as AlwaysFFWord, AlwaysAt as AlwaysAtWord, AlwaysComb as AlwaysCombWord, AlwaysStar as AlwaysStarWord, AlwaysLatch as AlwaysLatchWord, Initial as InitialWord}
 use Rattle.vast_literal.specs.Scan.{scan}
 use Rattle.vast_literal.specs.Plain.{is_plain_name}
 use Rattle.vast_literal.specs.PlainFile.{is_plain_event, are_plain_events, are_plain_awaited, are_plain_connections, is_plain_instance}
@@ -20,7 +21,7 @@ use Rattle.vast_literal.proofs.Words.{key_reads, name_reads}
 use Rattle.vast_print.specs.Text.{expr_text}
 use Rattle.vast_print.specs.Page.{beside, written}
 use Rattle.vast_print.specs.Statements.{block_page}
-use Rattle.vast_print.specs.Members.{connection_text, instance_head_page, instance_page, more_events_text, events_text, always_text}
+use Rattle.vast_print.specs.Members.{connection_text, instance_head_page, instance_page, more_events_text, events_text, always_opening, always_text}
 use Rattle.vast_print.proofs.TextReads.{Prints, nothing_reads, Rest, printed_assoc, leftward, stands, rest_none, after, after_free, ended_by, closed, enclosing, goes_on, rest_more}
 use Rattle.vast_print.proofs.ExprReads.{expr_reads}
 use Rattle.vast_print.proofs.PageReads.{Whole, Open, page_regrouped, whole_above, whole_written, open_free, space_divides, space_open, close_space, key_space}
@@ -76,9 +77,19 @@ at_open = record { free = record { at = λ rest. refl }; stop = λ rest. refl }
 key_at : (k : Key) → Free (key_text k ++ (32 ∷ 64 ∷ 32 ∷ 40 ∷ [])) (Reserved k ∷ Mark At ∷ Mark OpenParen ∷ [])
 key_at k = reads_end (key_reads k) at_open
 
+star_open : Divides (codes " @* ") (Mark At ∷ Operator Times ∷ [])
+unfolding scan
+star_open = record { free = record { at = λ rest. refl }; stop = λ rest. refl }
+
+key_star : Free (key_text AlwaysKey ++ codes " @* ") (Reserved AlwaysKey ∷ Mark At ∷ Operator Times ∷ [])
+key_star = reads_end (key_reads AlwaysKey) star_open
+
 pub always_open : (word : AlwaysWord) (es : Exprs) (b : Statements) → are_plain_awaited word es ≡ true → are_well_formed_events es ≡ true → Open (block_page b) (block_tokens (statements_tokens b)) →
     Open (beside (written (always_text word es)) (block_page b)) (always_tokens word es (block_tokens (statements_tokens b)))
-unfolding always_text always_tokens key_text
+unfolding always_opening always_text always_tokens key_text
 always_open AlwaysFFWord es b p w h = page_regrouped (open_free (leftward _ _ _ (after_free (stands _ (key_at AlwaysFFKey)) (ended_by (events_read es p w) close_space))) h) (simp append_assoc)
 always_open AlwaysAtWord es b p w h = page_regrouped (open_free (leftward _ _ _ (after_free (stands _ (key_at AlwaysKey)) (ended_by (events_read es p w) close_space))) h) (simp append_assoc)
 always_open AlwaysCombWord es b p w h = open_free (stands _ (key_space AlwaysCombKey)) h
+always_open AlwaysStarWord es b p w h = open_free (stands _ key_star) h
+always_open AlwaysLatchWord es b p w h = open_free (stands _ (key_space AlwaysLatchKey)) h
+always_open InitialWord es b p w h = open_free (stands _ (key_space InitialKey)) h

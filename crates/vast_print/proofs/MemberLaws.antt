@@ -4,17 +4,17 @@ use Rattle.vast_literal.specs.Tree.{ExprTree, NoExpr, SomeExpr, Exprs, Declarati
 use Rattle.vast_literal.specs.declared.kind.VastFileType.{VastFileType as Dialect}
 use Rattle.vast_literal.specs.declared.operator.BinaryOperator.TheVariants.{Lt as LtOp}
 use Rattle.vast_literal.specs.declared.kind.AlwaysKind.{AlwaysKind as AlwaysWord}
-use Rattle.vast_literal.specs.declared.kind.AlwaysKind.TheVariants.{AlwaysFF as AlwaysFFWord, AlwaysAt as AlwaysAtWord, AlwaysComb as AlwaysCombWord}
-use Rattle.vast_literal.specs.Shape.{result_kind, right_child_wraps, is_one_casez}
-use Rattle.vast_print.specs.Internal.Words.{endfunction_word, always_ff_opening, always_at_opening, always_comb_opening, function_opening, for_opening, step_word}
+use Rattle.vast_literal.specs.declared.kind.AlwaysKind.TheVariants.{AlwaysFF as AlwaysFFWord}
+use Rattle.vast_literal.specs.Shape.{result_kind, right_child_wraps, is_one_casez, has_events}
+use Rattle.vast_print.specs.Internal.Words.{endfunction_word, function_opening, for_opening, step_word}
 use Rattle.vast_print.specs.Printed.{plain_text, wrapped}
 use Rattle.vast_print.specs.Page.{written, commented}
 use Rattle.vast_print.specs.Output.{Output, word, next, indented, inline}
 use Rattle.vast_print.specs.Text.{expr_text}
 use Rattle.vast_print.specs.Declaration.{declaration_text, port_declaration_text}
 use Rattle.vast_print.specs.Statements.{statements_page, block_page}
-use Rattle.vast_print.specs.Members.{entries_page, parameter_word, parameter_text, semicolon_text, connection_text, connections_page, instance_head_page, instance_page, events_text, always_text, input_text, inputs_text, local_page, locals_page, function_body_page, function_page, loop_label_text, loop_text, member_page, members_page}
-use Rattle.vast_print.proofs.Lines.{word-word}
+use Rattle.vast_print.specs.Members.{entries_page, parameter_word, parameter_text, semicolon_text, connection_text, connections_page, instance_head_page, instance_page, events_text, always_opening, always_text, input_text, inputs_text, local_page, locals_page, function_body_page, function_page, loop_label_text, loop_text, member_page, members_page}
+use Rattle.vast_print.proofs.Lines.{word-word, unbroken}
 use Rattle.vast_print.proofs.OutputLaws.{indented-line, indented-none, indented-blank, indented-above, indented-beside, indented-inner, indented-written, inline-then, inline-empty, inline-word}
 use Rattle.vast_print.proofs.StatementLaws.{indented-block}
 
@@ -127,17 +127,19 @@ pub indented-always : (d : ℕ) (k : Output) (dialect : Dialect) (w : AlwaysWord
 unfolding member_page
 indented-always d k dialect w events s = indented-beside d k (always_text w events) (block_page s)
 
-pub inline-always-ff : (d : ℕ) (k : Output) (events : Exprs) → inline d k (written (always_text AlwaysFFWord events)) ≡ word (inline d (word k always_ff_opening) (written (events_text events))) (codes ") ")
-unfolding always_text always_ff_opening
-inline-always-ff d k events = simp (inline-then, inline-word)
+opening-unbroken : (w : AlwaysWord) → unbroken (always_opening w) ≡ true
+unfolding always_opening
+opening-unbroken AlwaysFFWord = refl
+opening-unbroken _ = refl
 
-pub inline-always-at : (d : ℕ) (k : Output) (events : Exprs) → inline d k (written (always_text AlwaysAtWord events)) ≡ word (inline d (word k always_at_opening) (written (events_text events))) (codes ") ")
-unfolding always_text always_at_opening
-inline-always-at d k events = simp (inline-then, inline-word)
+pub inline-always-events : (d : ℕ) (k : Output) (w : AlwaysWord) (events : Exprs) → has_events w ≡ true →
+    inline d k (written (always_text w events)) ≡ word (inline d (word k (always_opening w)) (written (events_text events))) (codes ") ")
+unfolding always_text
+inline-always-events d k w events h = rw h (simp (inline-then, inline-word, opening-unbroken))
 
-pub inline-always-comb : (d : ℕ) (k : Output) (events : Exprs) → inline d k (written (always_text AlwaysCombWord events)) ≡ word k always_comb_opening
-unfolding always_text always_comb_opening
-inline-always-comb d k events = simp inline-word
+pub inline-always-alone : (d : ℕ) (k : Output) (w : AlwaysWord) (events : Exprs) → has_events w ≡ false → inline d k (written (always_text w events)) ≡ word k (always_opening w)
+unfolding always_text
+inline-always-alone d k w events h = rw h (simp (inline-word, opening-unbroken))
 
 -- functions
 

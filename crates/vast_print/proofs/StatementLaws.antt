@@ -1,16 +1,16 @@
 -- Laws of writing statements, one for each case.
 use Rattle.std.proofs.Common.{◌≡◌, ℕ, ◌+◌, Bool, true, false, List, [], refl, sym, ◌∙◌, codes}
-use Rattle.vast_literal.specs.Tree.{ExprTree, MaybeExpr, StatementTree, AssignTree, CommentTree, BlankTree, InlineTree, ConditionalTree, CaseTree, Statements, NoStatements, MoreStatements, Alternates, NoElse, ElseIf, Else, CaseArms, NoCaseArms, CaseArm}
+use Rattle.vast_literal.specs.Tree.{ExprTree, MaybeExpr, StatementTree, AssignTree, TaskTree, CommentTree, BlankTree, InlineTree, ConditionalTree, CaseTree, Statements, NoStatements, MoreStatements, Alternates, NoElse, ElseIf, Else, CaseArms, NoCaseArms, CaseArm}
 use Rattle.vast_literal.specs.declared.kind.AssignmentForm.{AssignmentForm as AssignForm}
 use Rattle.vast_literal.specs.declared.kind.AssignmentForm.TheVariants.{Blocking, Nonblocking, Continuous}
 use Rattle.vast_literal.specs.declared.kind.CaseKind.{CaseKind as CaseWord}
 use Rattle.vast_literal.specs.declared.kind.CaseKind.TheVariants.{Case as CaseExact, CaseZ, CaseX}
-use Rattle.vast_literal.specs.Shape.{is_bare_arm}
+use Rattle.vast_literal.specs.Shape.{is_bare_arm, name_alone}
 use Rattle.vast_print.specs.Printed.{plain_text, ◌⊕◌}
 use Rattle.vast_print.specs.Page.{line, inner, above, written, commented}
 use Rattle.vast_print.specs.Output.{Output, word, next, indented, inline}
 use Rattle.vast_print.specs.Text.{expr_text}
-use Rattle.vast_print.specs.Statements.{assign_opening, assignment_operator, case_word, unique_word, label_text, begin_end, statement_page, statements_page, block_page, alternates_page, arms_page}
+use Rattle.vast_print.specs.Statements.{assign_opening, assignment_operator, called_text, case_word, unique_word, label_text, begin_end, statement_page, statements_page, block_page, alternates_page, arms_page}
 use Rattle.vast_print.specs.Internal.Statements.{arm_body_page, arm_page}
 use Rattle.vast_print.proofs.OutputLaws.{indented-line, inline-line, indented-none, inline-none, indented-blank, indented-above, inline-above, inline-beside, indented-beside, indented-line-above, indented-inner, indented-written, inline-then, inline-word}
 
@@ -35,6 +35,10 @@ pub inline-assign : (d : ℕ) (k : Output) (form : AssignForm) (l r : ExprTree) 
     ≡ word (inline d (word (inline d (word k (assign_opening form)) (written (expr_text l))) (assignment_operator form)) (written (expr_text r))) (codes ";")
 unfolding statement_page
 inline-assign d k form l r = simp (inline-then, inline-opening, inline-sign, inline-word)
+
+pub indented-task : (d : ℕ) (k : Output) (call : ExprTree) → indented d k (statement_page (TaskTree call)) ≡ word (inline d (next d k) (written (called_text (name_alone call) call))) (codes ";")
+unfolding statement_page
+indented-task d k call = indented-written d k _ ∙ simp (inline-then, inline-word)
 
 pub indented-comment : (d : ℕ) (k : Output) (text : List ℕ) → indented d k (statement_page (CommentTree text)) ≡ indented d k (commented (written (plain_text text)))
 unfolding statement_page

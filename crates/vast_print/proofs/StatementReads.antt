@@ -4,28 +4,30 @@ use Rattle.vast_literal.specs.Tokens.{Token, key_text, Reserved, Mark, Operator}
 use Rattle.vast_literal.specs.declared.token.Sign.TheVariants.{LessEqual}
 use Rattle.vast_literal.specs.declared.token.Mark.TheVariants.{OpenParen, Colon}
 use Rattle.vast_literal.specs.declared.token.Key.TheVariants.{If as IfKey, Case as CaseKey, Casez as CasezKey, Casex as CasexKey, EndCase as EndCaseKey, Default as DefaultKey, Unique as UniqueKey, Assign as AssignKey}
-use Rattle.vast_literal.specs.Tree.{ExprTree, MaybeExpr, NoExpr, SomeExpr, StatementTree, AssignTree, CommentTree, BlankTree, InlineTree, ConditionalTree, CaseTree, Statements, NoStatements, MoreStatements, Alternates, NoElse, ElseIf, Else, CaseArms, NoCaseArms, CaseArm}
+use Rattle.vast_literal.specs.Tree.{ExprTree, MacroTree, CallTree, NoExprs, MoreExprs, MaybeExpr, NoExpr, SomeExpr, StatementTree, AssignTree, TaskTree, CommentTree, BlankTree, InlineTree, ConditionalTree, CaseTree, Statements, NoStatements, MoreStatements, Alternates, NoElse, ElseIf, Else, CaseArms, NoCaseArms, CaseArm}
 use Rattle.vast_literal.specs.declared.kind.AssignmentForm.{AssignmentForm as AssignForm}
 use Rattle.vast_literal.specs.declared.kind.AssignmentForm.TheVariants.{Blocking, Nonblocking, Continuous}
 use Rattle.vast_literal.specs.declared.kind.CaseKind.{CaseKind as CaseWord}
 use Rattle.vast_literal.specs.declared.kind.CaseKind.TheVariants.{Case as CaseExact, CaseZ, CaseX}
-use Rattle.vast_literal.specs.PlainFile.{is_plain_maybe, is_plain_assignment, is_plain_statement, are_plain_statements, are_plain_alternates, are_plain_arms}
+use Rattle.vast_literal.specs.PlainFile.{is_call, is_plain_maybe, is_plain_assignment, is_plain_statement, are_plain_statements, are_plain_alternates, are_plain_arms}
+use Rattle.vast_literal.specs.Plain.{is_called_name, is_plain, are_plain}
 use Rattle.vast_literal.specs.WellFormed.{is_well_formed}
+use Rattle.vast_literal.proofs.ExprTokens.{expr_tokens}
 use Rattle.vast_literal.specs.WellFormedFile.{is_well_formed_maybe, is_well_formed_statement, are_well_formed_statements, are_well_formed_alternates, are_well_formed_arms}
 use Rattle.vast_literal.specs.NormalTree.{case_key}
-use Rattle.vast_literal.proofs.FileTokens.{assignment_tokens, block_tokens, unique_tokens, label_tokens, statement_tokens, statements_tokens, alternates_tokens, arms_tokens}
+use Rattle.vast_literal.proofs.FileTokens.{called_tokens, assignment_tokens, block_tokens, unique_tokens, label_tokens, statement_tokens, statements_tokens, alternates_tokens, arms_tokens}
 use Rattle.vast_literal.proofs.TokenReads.{Free, Divides, Reads}
 use Rattle.vast_print.proofs.FaultLaws.{halves, first_none}
 use Rattle.vast_literal.proofs.Pieces.{operator_divides, close_paren}
-use Rattle.vast_literal.proofs.Words.{key_reads}
-use Rattle.vast_literal.specs.Shape.{is_bare_arm, is_one_assignment}
+use Rattle.vast_literal.proofs.Words.{key_reads, called_reads}
+use Rattle.vast_literal.specs.Shape.{is_bare_arm, is_one_assignment, name_alone}
 use Rattle.vast_print.specs.Printed.{Printed}
 use Rattle.vast_print.specs.Page.{Page, no_lines, above}
-use Rattle.vast_print.specs.Statements.{assign_text, case_word, unique_word, label_text, statement_page, statements_page, block_page, alternates_page, arms_page}
+use Rattle.vast_print.specs.Statements.{assign_text, called_text, case_word, unique_word, label_text, statement_page, statements_page, block_page, alternates_page, arms_page}
 use Rattle.vast_print.proofs.ExprReads.{expr_reads}
 use Rattle.vast_print.proofs.TextReads.{Prints, printed_assoc, leftward, stands, nothing, after, after_free, ended_by, closed, enclosing}
 use Rattle.vast_print.proofs.PageReads.{Whole, Open, Follows, page_regrouped, whole_above, whole_inner, whole_none, whole, whole_line, open_written, whole_written, open_free, open_follows, follows_none, follows_written, follows_line, whole_blank, whole_comment, equals, semicolon, close_space, label_colon, key_space, key_open, else_divides, else_if_divides, condition_divides, open_empty, open_block}
-use Rattle.vast_literal.proofs.ScanLaws.{by_test}
+use Rattle.vast_literal.proofs.ScanLaws.{and_left, and_right, by_test}
 
 less_equal : Divides (32 ∷ 60 ∷ 61 ∷ 32 ∷ []) (Operator LessEqual ∷ [])
 less_equal = operator_divides LessEqual
@@ -94,11 +96,20 @@ arm_body_open : (word : CaseWord) (b : Statements) → are_plain_statements b �
     Open (cond (is_bare_arm word b) (statements_page b) (block_page b)) (cond (is_bare_arm word b) (statements_tokens b) (block_tokens (statements_tokens b)))
 arm_body_open word b p w h = by_test (is_bare_arm word b) (λ e. rw e (single_open b (is_bare word b e) p w)) (λ e. rw e (block_open b h))
 
+-- a call as a statement
+task_reads : (call : ExprTree) → (is_call call && is_plain call) ≡ true → is_well_formed call ≡ true → Prints Reads (called_text (name_alone call) call) (called_tokens (name_alone call) (expr_tokens call))
+unfolding called_tokens
+task_reads (CallTree name NoExprs) p w = stands _ (called_reads name (and_left (is_called_name name) (are_plain NoExprs) (and_right (is_call (CallTree name NoExprs)) (is_plain (CallTree name NoExprs)) p)))
+task_reads (CallTree name (MoreExprs e es)) p w = let call : ExprTree = CallTree name (MoreExprs e es) in expr_reads call (and_right (is_call call) (is_plain call) p) w
+task_reads (MacroTree name arguments) p w = let call : ExprTree = MacroTree name arguments in expr_reads call (and_right (is_call call) (is_plain call) p) w
+task_reads _ p w = absurd (cc p)
+
 mutual
   unfolding statement_page statement_tokens open_arms key_text
 
   pub statement_whole : (s : StatementTree) → is_plain_statement s ≡ true → is_well_formed_statement s ≡ true → Whole (statement_page s) (statement_tokens s)
   statement_whole (AssignTree form l r) p w = whole (assignment_open form l r p w)
+  statement_whole (TaskTree call) p w = whole_written (closed (task_reads call p w) semicolon)
   statement_whole (CommentTree text) p w = whole_comment text
   statement_whole BlankTree p w = whole_blank
   statement_whole (InlineTree text) p w = absurd (cc p)

@@ -7,9 +7,9 @@ use Rattle.vast_literal.specs.Tree.{ConditionalTree, Statements}
 use Rattle.vast_literal.specs.declared.kind.AssignmentForm.TheVariants.{Continuous}
 use Rattle.vast_literal.specs.Tree.{ParameterName, PlainParameter, IntParameter, DefinedParameter, Connection, InstanceTree, FunctionTree}
 use Rattle.vast_literal.specs.declared.kind.AlwaysKind.{AlwaysKind as AlwaysWord}
-use Rattle.vast_literal.specs.declared.kind.AlwaysKind.TheVariants.{AlwaysFF as AlwaysFFWord, AlwaysAt as AlwaysAtWord, AlwaysComb as AlwaysCombWord}
+use Rattle.vast_literal.specs.declared.kind.AlwaysKind.TheVariants.{AlwaysFF as AlwaysFFWord, AlwaysAt as AlwaysAtWord, AlwaysComb as AlwaysCombWord, AlwaysStar as AlwaysStarWord, AlwaysLatch as AlwaysLatchWord, Initial as InitialWord}
 use Rattle.vast_literal.specs.Tree.{MemberTree, DeclarationMember, AssignMember, ParameterMember, CommentMember, BlankMember, InlineMember, MacroMember, InstanceMember, AlwaysMember, ConditionalMember, FunctionMember, LoopMember, Members, NoMembers, MoreMembers}
-use Rattle.vast_literal.specs.Shape.{result_kind, right_child_wraps, is_one_casez}
+use Rattle.vast_literal.specs.Shape.{result_kind, right_child_wraps, is_one_casez, has_events}
 use Rattle.vast_print.specs.Printed.{Printed, plain_text, ◌⊕◌, wrapped}
 use Rattle.vast_print.specs.Text.{expr_text}
 use Rattle.vast_print.specs.Declaration.{declaration_text, declared_text, port_declaration_text}
@@ -67,10 +67,17 @@ unfoldable pub events_text : Exprs → Printed
 events_text NoExprs = plain_text []
 events_text (MoreExprs e es) = expr_text e ⊕ more_events_text es
 
+-- the words before the events, or before the block
+unfoldable pub always_opening : AlwaysWord → List ℕ
+always_opening AlwaysFFWord = codes "always_ff @ ("
+always_opening AlwaysAtWord = codes "always @ ("
+always_opening AlwaysCombWord = codes "always_comb "
+always_opening AlwaysStarWord = codes "always @* "
+always_opening AlwaysLatchWord = codes "always_latch "
+always_opening InitialWord = codes "initial "
+
 unfoldable pub always_text : AlwaysWord → Exprs → Printed
-always_text AlwaysFFWord events = plain_text (codes "always_ff @ (") ⊕ events_text events ⊕ plain_text (codes ") ")
-always_text AlwaysAtWord events = plain_text (codes "always @ (") ⊕ events_text events ⊕ plain_text (codes ") ")
-always_text AlwaysCombWord events = plain_text (codes "always_comb ")
+always_text word events = if has_events word then plain_text (always_opening word) ⊕ events_text events ⊕ plain_text (codes ") ") else plain_text (always_opening word)
 
 unfoldable pub input_text : Dialect → Declaration → Printed
 input_text dialect d = plain_text (codes "input ") ⊕ port_declaration_text dialect d

@@ -1,12 +1,12 @@
 -- The pages of statements.
-use Rattle.std.specs.Prelude.{ℕ, Bool, List, [], codes, cond, if◌then◌else◌}
-use Rattle.vast_literal.specs.Tree.{MaybeExpr, NoExpr, SomeExpr}
+use Rattle.std.specs.Prelude.{ℕ, Bool, List, [], codes, cond, Option, Some, None, if◌then◌else◌}
+use Rattle.vast_literal.specs.Tree.{ExprTree, MaybeExpr, NoExpr, SomeExpr}
 use Rattle.vast_literal.specs.declared.kind.AssignmentForm.{AssignmentForm as AssignForm}
 use Rattle.vast_literal.specs.declared.kind.AssignmentForm.TheVariants.{Nonblocking, Continuous}
 use Rattle.vast_literal.specs.declared.kind.CaseKind.{CaseKind as CaseWord}
 use Rattle.vast_literal.specs.declared.kind.CaseKind.TheVariants.{Case as CaseExact, CaseZ, CaseX}
-use Rattle.vast_literal.specs.Tree.{StatementTree, AssignTree, CommentTree, BlankTree, InlineTree, ConditionalTree, CaseTree, Statements, NoStatements, MoreStatements, Alternates, NoElse, ElseIf, Else, CaseArms, NoCaseArms, CaseArm}
-use Rattle.vast_literal.specs.Shape.{is_bare_arm}
+use Rattle.vast_literal.specs.Tree.{StatementTree, AssignTree, TaskTree, CommentTree, BlankTree, InlineTree, ConditionalTree, CaseTree, Statements, NoStatements, MoreStatements, Alternates, NoElse, ElseIf, Else, CaseArms, NoCaseArms, CaseArm}
+use Rattle.vast_literal.specs.Shape.{is_bare_arm, name_alone}
 use Rattle.vast_print.specs.Printed.{Printed, plain_text, ◌⊕◌}
 use Rattle.vast_print.specs.Text.{expr_text}
 use Rattle.vast_print.specs.Page.{Page, no_lines, line, inner, above, beside, written, commented}
@@ -34,6 +34,14 @@ abbrev pub label_text : MaybeExpr → Printed
 label_text NoExpr = plain_text (codes "default")
 label_text (SomeExpr e) = expr_text e
 
+-- a call as a statement
+abbrev pub called_text : Option (List ℕ) → ExprTree → Printed
+called_text None call = expr_text call
+called_text (Some name) call = plain_text name
+
+abbrev pub task_text : ExprTree → Printed
+task_text call = called_text (name_alone call) call ⊕ plain_text (codes ";")
+
 -- `begin` and `end` round the lines, which stand deeper
 unfoldable pub begin_end : Page → Page
 begin_end p = above (line (codes "begin")) (above (inner p) (line (codes "end")))
@@ -41,6 +49,7 @@ begin_end p = above (line (codes "begin")) (above (inner p) (line (codes "end"))
 unfoldable mutual
   pub statement_page : StatementTree → Page
   statement_page (AssignTree form l r) = written (assign_text form (expr_text l) (expr_text r))
+  statement_page (TaskTree call) = written (task_text call)
   statement_page (CommentTree text) = commented (written (plain_text text))
   statement_page BlankTree = line []
   statement_page (InlineTree text) = written (plain_text text)

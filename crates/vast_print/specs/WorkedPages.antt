@@ -1,15 +1,15 @@
 -- Worked declarations, members and files, proved in the law `worked_texts`.
 use Rattle.std.specs.Prelude.{◌≡◌, ℕ, pos, Bool, true, false, List, [], ◌∷◌, Some, None, codes}
-use Rattle.vast_literal.specs.Tree.{LiteralTree, BinaryTree}
+use Rattle.vast_literal.specs.Tree.{LiteralTree, StringTree, BinaryTree, CallTree}
 use Rattle.vast_literal.specs.declared.kind.VastFileType.TheVariants.{Verilog as VerilogDialect, SystemVerilog as SystemVerilogDialect}
 use Rattle.vast_literal.specs.declared.operator.BinaryOperator.TheVariants.{LogicalOr as LogicalOrOp}
 use Rattle.vast_literal.specs.Tree.{TypeTree, ScalarTree, VectorTree, PackedTree, UnpackedTree}
 use Rattle.vast_literal.specs.declared.kind.DataKind.TheVariants.{Wire as WireKind, Reg as RegKind, Logic as LogicKind}
-use Rattle.vast_literal.specs.Tree.{AssignTree, CommentTree, ConditionalTree, CaseTree, Statements, NoStatements, MoreStatements, ElseIf, Else, NoCaseArms, CaseArm, NoExpr, SomeExpr}
+use Rattle.vast_literal.specs.Tree.{AssignTree, TaskTree, CommentTree, ConditionalTree, CaseTree, Statements, NoStatements, MoreStatements, ElseIf, Else, NoCaseArms, CaseArm, NoExpr, SomeExpr}
 use Rattle.vast_literal.specs.declared.kind.AssignmentForm.TheVariants.{Blocking}
 use Rattle.vast_literal.specs.declared.kind.CaseKind.TheVariants.{CaseZ}
 use Rattle.vast_literal.specs.Tree.{DeclarationMember, BlankMember, InstanceMember, AlwaysMember, FunctionMember, LoopMember, NoExprs, MoreExprs, Members, NoMembers, MoreMembers, PortTree, ModuleItem, IncludeItem, BlankItem, CommentItem, FileTree}
-use Rattle.vast_literal.specs.declared.kind.AlwaysKind.TheVariants.{AlwaysComb as AlwaysCombWord}
+use Rattle.vast_literal.specs.declared.kind.AlwaysKind.TheVariants.{AlwaysComb as AlwaysCombWord, Initial as InitialWord}
 use Rattle.vast_literal.specs.declared.kind.ModulePortDirection.TheVariants.{Input as InputDirection}
 use Rattle.vast_literal.specs.WorkedTexts.{passthrough_file}
 use Rattle.vast_core.specs.Growth.{counts}
@@ -90,6 +90,12 @@ pub record WorkedPages : Type 0 where
       print (member_page SystemVerilogDialect (AlwaysMember AlwaysCombWord NoExprs (MoreStatements
       (ConditionalTree (name (codes "a")) (assigned (codes "x") (codes "1")) (ElseIf (name (codes "b")) NoStatements (Else (assigned (codes "x") (codes "0"))))) NoStatements)))
       ≡ codes "always_comb begin\n  if (a) begin\n    x = 1;\n  end else if (b) begin end else begin\n    x = 0;\n  end\nend\n"
+  -- A call as a statement has no parentheses where it has no arguments, and keeps an arm's `begin` and `end`.
+  pub tasks :
+      print (member_page SystemVerilogDialect (AlwaysMember InitialWord NoExprs (MoreStatements
+      (CaseTree false CaseZ (name (codes "s")) (CaseArm NoExpr (MoreStatements (TaskTree (CallTree (codes "$display") (MoreExprs (StringTree (codes "\"s\"")) (MoreExprs (name (codes "s")) NoExprs)))) NoStatements) NoCaseArms))
+      (MoreStatements (TaskTree (CallTree (codes "$finish") NoExprs)) NoStatements))))
+      ≡ codes "initial begin\n  casez (s)\n    default: begin\n      $display(\"s\", s);\n    end\n  endcase\n  $finish;\nend\n"
   -- A function whose body is one casez has it bare, and its arms are bare where they are one assignment.
   pub casez_function :
       print (member_page SystemVerilogDialect (FunctionMember (record {

@@ -13,7 +13,7 @@ use crate::refusal::PrintFault;
 use crate::statement::print_block;
 use crate::words;
 use crate::writer::Writer;
-use vast_core::{AlwaysBlock, AlwaysKind, Ast, Expr, VastAlwaysBase};
+use vast_core::{AlwaysBlock, Ast, Expr, VastAlwaysBase};
 
 /// Writes events after the last line.
 #[tactic(auto, using(crate::proofs::ContainerLaws::separated))]
@@ -36,18 +36,10 @@ fn print_opening(ast: &Ast, node: &AlwaysBlock, out: &mut Writer) -> Result<(), 
     ensures { WritesText out.old out.new result
         (always_text node.now.kind (trees_of (bench ast.now) node.now.events.items)) }
 {
-    match node.kind {
-        AlwaysKind::AlwaysFF => {
-            out.word(words::always_ff())?;
-            print_events(ast, &node.events, out)?;
-            out.word(") ")?;
-        }
-        AlwaysKind::AlwaysAt => {
-            out.word(words::always_at())?;
-            print_events(ast, &node.events, out)?;
-            out.word(") ")?;
-        }
-        AlwaysKind::AlwaysComb => out.word(words::always_comb())?,
+    out.word(words::always(node.kind))?;
+    if node.kind.has_events() {
+        print_events(ast, &node.events, out)?;
+        out.word(") ")?;
     }
     Ok(())
 }

@@ -1,12 +1,12 @@
 //! The words that stand between the parts of a tree.
 
 ghost use Rattle.std.specs.Prelude.{◌≡◌, codes};
-ghost use Rattle.vast_print.specs.Internal.Words.{signed_opening, unsigned_opening, scalar_cast_opening, scalar_cast_closing, cast_sign_word, number_cast_opening, number_cast_closing, comma, separator, endfunction_word, function_opening, for_opening, step_word, always_ff_opening, always_at_opening, always_comb_opening};
-ghost use Rattle.vast_print.specs.Members.{parameter_word, semicolon_text};
+ghost use Rattle.vast_print.specs.Internal.Words.{signed_opening, unsigned_opening, scalar_cast_opening, scalar_cast_closing, cast_sign_word, number_cast_opening, number_cast_closing, comma, separator, endfunction_word, function_opening, for_opening, step_word};
+ghost use Rattle.vast_print.specs.Members.{always_opening, parameter_word, semicolon_text};
 ghost use Rattle.vast_print.specs.Statements.{assignment_operator, case_word, unique_word};
 ghost use Rattle.vast_core.specs.FileTree.{form_of};
 
-use vast_core::CaseKind;
+use vast_core::{AlwaysKind, CaseKind};
 
 /// Before a signed scalar or vector.
 pub(crate) fn signed(signed: bool) -> &'static str
@@ -152,28 +152,19 @@ pub(crate) fn step() -> &'static str
     " + 1) begin"
 }
 
-/// Before the events of a clocked block.
-#[tactic(auto, unfolding(crate::specs::Internal::Words::always_ff_opening))]
-pub(crate) fn always_ff() -> &'static str
-    ensures { result.now ≡ always_ff_opening }
+/// Before the events of an always block, or before its block where it has none.
+#[tactic(auto, unfolding(crate::specs::Members::always_opening))]
+pub(crate) fn always(kind: AlwaysKind) -> &'static str
+    ensures { result.now ≡ always_opening kind }
 {
-    "always_ff @ ("
-}
-
-/// Before the events of a block of any kind.
-#[tactic(auto, unfolding(crate::specs::Internal::Words::always_at_opening))]
-pub(crate) fn always_at() -> &'static str
-    ensures { result.now ≡ always_at_opening }
-{
-    "always @ ("
-}
-
-/// Before a combinational block.
-#[tactic(auto, unfolding(crate::specs::Internal::Words::always_comb_opening))]
-pub(crate) fn always_comb() -> &'static str
-    ensures { result.now ≡ always_comb_opening }
-{
-    "always_comb "
+    match kind {
+        AlwaysKind::AlwaysFF => "always_ff @ (",
+        AlwaysKind::AlwaysAt => "always @ (",
+        AlwaysKind::AlwaysComb => "always_comb ",
+        AlwaysKind::AlwaysStar => "always @* ",
+        AlwaysKind::AlwaysLatch => "always_latch ",
+        AlwaysKind::Initial => "initial ",
+    }
 }
 
 /// After a function's body.

@@ -1,11 +1,14 @@
 -- What the grammar derives has no keyword that it does not use, and so none of the tokens that stand for a fault of the text.
 use Rattle.std.proofs.Common.{◌≡◌, ℕ, List, [], ◌∷◌, ◌++◌, Bool, true, false, ◌&&◌, Option, refl}
+use Rattle.vast_literal.specs.Shape.{always_words}
 use Rattle.vast_literal.specs.Tokens.{Token, Keyword}
+use Rattle.vast_literal.specs.declared.kind.AlwaysKind.{AlwaysKind as AlwaysWord}
+use Rattle.vast_literal.specs.declared.kind.AlwaysKind.TheVariants.{AlwaysFF as AlwaysFFWord, AlwaysAt as AlwaysAtWord, AlwaysStar as AlwaysStarWord}
 use Rattle.vast_literal.specs.declared.token.Key.{Key}
 use Rattle.vast_literal.specs.NormalExpr.{NormalExpr, NormalExprs}
 use Rattle.vast_literal.specs.NormalFile.{NormalStatement, NormalStatements, Arms, Labels, Group, NormalDeclaration, Event, NormalConnection, NormalMember, NormalMembers, NormalParameter, NormalPort, NormalItem, NormalFile}
-use Rattle.vast_literal.specs.Grammar.{Spells, up, ternary, binary, unary, index, slice, part_select, name, number, based, quoted, paren, call, system_call, concat, replicated, array_pattern, macro_alone, macro_call, number_cast, name_cast, package_cast, paren_cast, word_cast, SpellsList, none, some, SpellsJoined, last, next}
-use Rattle.vast_literal.specs.FileGrammar.{IsMany, no_items, more_items, IsJoined, last_item, next_item, IsList, empty, full, arrow, IsUnique, unique, not_unique, IsStatement, simple, assigned, choice, cases, IsCases, cased, IsAssign, assigns, IsStatements, done, then, IsChoice, only, otherwise, or, IsLabels, no_labels, label, default, IsBody, body, bare, IsGroup, one, range, IsMaybe, absent, present, IsTypeName, no_type, own_type, packaged, IsDeclaration, declares, IsEvent, edge, plain, IsInput, input, IsDeclared, declared, IsGiven, given, IsConnection, connected, unconnected, IsGivenList, no_parameters, with_parameters, IsSemicolon, with_one, without, IsLabel, no_label, labelled, IsFunctionBody, block_body, casez_body, IsMember, declaration, continuous, parameter, macro, macro_with, instance, combinational, clocked, conditional, function, loop, IsMembers, closed, and_member, IsParameter, header_parameter, IsPort, port, IsParameters, no_header_parameters, header_parameters, IsPorts, no_ports, ports, IsItem, module_item, include_item, IsFile, file}
+use Rattle.vast_literal.specs.Grammar.{Spells, up, ternary, binary, unary, index, slice, part_select, name, number, based, quoted, paren, call, system_alone, system_call, concat, replicated, array_pattern, macro_alone, macro_call, number_cast, name_cast, package_cast, paren_cast, word_cast, SpellsList, none, some, SpellsJoined, last, next}
+use Rattle.vast_literal.specs.FileGrammar.{IsMany, no_items, more_items, IsJoined, last_item, next_item, IsList, empty, full, arrow, IsUnique, unique, not_unique, IsStatement, simple, assigned, task, choice, cases, IsCases, cased, IsAssign, assigns, IsStatements, done, then, IsChoice, only, otherwise, or, IsLabels, no_labels, label, default, IsBody, body, bare, IsGroup, one, range, IsMaybe, absent, present, IsTypeName, no_type, own_type, packaged, IsDeclaration, declares, IsEvent, edge, plain, IsInput, input, IsDeclared, declared, IsGiven, given, IsConnection, connected, unconnected, IsGivenList, no_parameters, with_parameters, IsSemicolon, with_one, without, IsLabel, no_label, labelled, IsFunctionBody, block_body, casez_body, IsMember, declaration, continuous, parameter, macro, macro_with, instance, unclocked, clocked, conditional, function, loop, IsMembers, closed, and_member, IsParameter, header_parameter, IsPort, port, IsParameters, no_header_parameters, header_parameters, IsPorts, no_ports, ports, IsItem, module_item, include_item, IsFile, file}
 
 -- Whether a token is one of the grammar's.
 abbrev pub is_used : Token → Bool
@@ -49,6 +52,7 @@ mutual
   expression_used (concat s) = and refl (both (list_used s) (and refl nothing))
   expression_used (replicated n s) = and refl (both (expression_used n) (and refl (both (list_used s) (and refl (and refl nothing)))))
   expression_used (array_pattern s) = and refl (and refl (both (list_used s) (and refl nothing)))
+  expression_used (system_alone f) = and refl nothing
   expression_used (macro_alone m) = and refl nothing
   expression_used (macro_call m s) = and refl (and refl (both (list_used s) (and refl nothing)))
   expression_used (number_cast n s) = and refl (and refl (and refl (both (expression_used s) (and refl nothing))))
@@ -98,6 +102,7 @@ mutual
   statement_used : {ts : List Token} {s : NormalStatement} → IsStatement ts s → Used ts
   statement_used (simple a) = assign_used a
   statement_used (assigned l r) = and refl (both (expression_used l) (and refl (both (expression_used r) (and refl nothing))))
+  statement_used (task x) = both (expression_used x) (and refl nothing)
   statement_used (choice c) = choice_used c
   statement_used (cases k is c) = cases_used c
 
@@ -175,6 +180,12 @@ function_body_used : {ts : List Token} {b : NormalStatements} → IsFunctionBody
 function_body_used (block_body s) = and refl (statements_used s)
 function_body_used (casez_body c) = cases_used c
 
+words_used : (w : AlwaysWord) → Used (always_words w)
+words_used AlwaysFFWord = and refl (and refl (and refl nothing))
+words_used AlwaysAtWord = and refl (and refl (and refl nothing))
+words_used AlwaysStarWord = and refl (and refl (and refl nothing))
+words_used _ = and refl nothing
+
 mutual
   member_used : {ts : List Token} {m : NormalMember} → IsMember ts m → Used ts
   member_used (declaration d) = declared_used d
@@ -183,8 +194,8 @@ mutual
   member_used (macro n s) = and refl (semicolon_used s)
   member_used (macro_with n xs s) = and refl (and refl (both (list_used xs) (and refl (semicolon_used s))))
   member_used (instance n i ps cs) = and refl (both (givens_used ps) (and refl (and refl (both (listed_used (λ us y p. connection_used p) refl cs) (and refl (and refl nothing))))))
-  member_used (combinational b) = and refl (and refl (statements_used b))
-  member_used (clocked k p es b) = and refl (and refl (and refl (both (listed_used (λ us y p. event_used p) refl es) (and refl (and refl (statements_used b))))))
+  member_used (unclocked w h b) = both (words_used w) (and refl (statements_used b))
+  member_used (clocked w h es b) = both (words_used w) (both (listed_used (λ us y p. event_used p) refl es) (and refl (and refl (statements_used b))))
   member_used (conditional c) = choice_used c
   member_used (function d is ls b) =
       and refl (and refl (both (declaration_used d) (and refl (both (listed_used (λ us y p. input_used p) refl is)

@@ -13,6 +13,7 @@ abbrev pub statement_level : NormalStatement-F normal.NormalStatement ChoicePart
 statement_level (NormalStatement-F.Blocking l r) = normal.BlockingStatement (view l.value) (view r.value)
 statement_level (NormalStatement-F.Nonblocking l r) = normal.NonblockingStatement (view l.value) (view r.value)
 statement_level (NormalStatement-F.Assign l r) = normal.AssignStatement (view l.value) (view r.value)
+statement_level (NormalStatement-F.Task x) = normal.TaskStatement (view x.value)
 statement_level (NormalStatement-F.Choice arms last) = normal.ChoiceStatement (arms_of arms (option_map block_of last))
 statement_level (NormalStatement-F.Case unique word selector arms) = normal.CaseStatement unique (key_of word) (view selector.value) (labels_of arms)
 

@@ -1,7 +1,9 @@
 -- An action is told by its number.
 use Rattle.std.proofs.Common.{◌≡◌, ℕ, Bool, true, false, nat_eq, MatchBool, ◌+◌, ◌-◌, List, [], ◌∷◌, get_or, nat_lt, if◌then◌else◌, refl, sym, ap, ◌∙◌}
 use Rattle.std.proofs.lemmas.Bool.{eq-eqb, eqb-true}
-use Rattle.vast_rows.specs.Internal.Actions.{action_number, listed_number}
+use Rattle.vast_rows.specs.Internal.Actions.{action_number, always_number, listed_number}
+use Rattle.vast_literal.specs.declared.kind.AlwaysKind.{AlwaysKind as AlwaysWord}
+use Rattle.vast_literal.specs.declared.kind.AlwaysKind.TheVariants.{AlwaysFF as AlwaysFFWord, AlwaysAt as AlwaysAtWord, AlwaysComb as AlwaysCombWord, AlwaysStar as AlwaysStarWord, AlwaysLatch as AlwaysLatchWord, Initial as InitialWord}
 use Rattle.vast_rows.specs.Numbers.{Key, key_number, IfKey}
 use Rattle.vast_rows.specs.declared.action.Action.{Action}
 use Rattle.vast_rows.specs.declared.action.Action.TheVariants.{Nothing, Yes, No, ModuleItem, IncludeItem, HeaderParameter, DeclarationMember, AssignMember, MacroMember, InstanceMember, ConditionalMember, FunctionMember, LoopMember, NameBefore, Packaged, Declares, GroupOf, Connects, ChangeOf, Assigns, AssignsByWord, Chooses, UniqueCase, Conditional, NoArms, Arm, DefaultArm, NoMore, OneMore, PortOf, ParameterMember, AlwaysMember, KindOf, SignOf, EdgeOf, CaseOf}
@@ -15,6 +17,9 @@ plain = Nothing ∷ Yes ∷ No ∷ ModuleItem ∷ IncludeItem ∷ HeaderParamete
 abbrev lists : List Listed
 lists = listed.Item ∷ listed.Parameter ∷ listed.Port ∷ listed.Member ∷ listed.Group ∷ listed.Declaration ∷ listed.Expression ∷ listed.Connection ∷ listed.Event ∷ listed.Statement ∷ []
 
+abbrev words : List AlwaysWord
+words = AlwaysFFWord ∷ AlwaysAtWord ∷ AlwaysCombWord ∷ AlwaysStarWord ∷ AlwaysLatchWord ∷ InitialWord ∷ []
+
 -- The action of a number.
 abbrev of_number : ℕ → Action
 of_number n =
@@ -23,7 +28,7 @@ of_number n =
     else if nat_lt n 60 then OneMore (get_or lists (n - 50) listed.Item)
     else if nat_lt n 100 then PortOf (get_or keys (n - 60) IfKey)
     else if nat_lt n 140 then ParameterMember (get_or keys (n - 100) IfKey)
-    else if nat_lt n 180 then AlwaysMember (get_or keys (n - 140) IfKey)
+    else if nat_lt n 180 then AlwaysMember (get_or words (n - 140) AlwaysFFWord)
     else if nat_lt n 220 then KindOf (get_or keys (n - 180) IfKey)
     else if nat_lt n 260 then SignOf (get_or keys (n - 220) IfKey)
     else if nat_lt n 300 then EdgeOf (get_or keys (n - 260) IfKey)
@@ -45,8 +50,8 @@ parameter_back : (key : Key) → of_number (100 + key_number key) ≡ ParameterM
 parameter_back IfKey = refl
 parameter_back _ = refl
 
-always_back : (key : Key) → of_number (140 + key_number key) ≡ AlwaysMember key
-always_back IfKey = refl
+always_back : (word : AlwaysWord) → of_number (140 + always_number word) ≡ AlwaysMember word
+always_back AlwaysFFWord = refl
 always_back _ = refl
 
 kind_back : (key : Key) → of_number (180 + key_number key) ≡ KindOf key
@@ -70,7 +75,7 @@ back (NoMore what) = no_more_back what
 back (OneMore what) = one_more_back what
 back (PortOf key) = port_back key
 back (ParameterMember key) = parameter_back key
-back (AlwaysMember key) = always_back key
+back (AlwaysMember word) = always_back word
 back (KindOf key) = kind_back key
 back (SignOf key) = sign_back key
 back (EdgeOf key) = edge_back key

@@ -3,8 +3,8 @@ use Rattle.std.proofs.Common.{◌≡◌, ℕ, List, [], ◌∷◌, Bool, true, f
 use Rattle.vast_literal.specs.FileGrammar.{assignment}
 use Rattle.vast_literal.specs.NormalExpr.{NormalExprs, NoNormals, MoreNormals}
 use Rattle.vast_literal.specs.NormalFile as normal
-use Rattle.vast_literal.specs.NormalFile.{NormalStatement, BlockingStatement, NonblockingStatement, AssignStatement, ChoiceStatement, CaseStatement, NormalStatements, Done, Then, Arms, Only, Otherwise, Or, Labels, NoLabels, Label, Group, One, Range, NormalDeclaration, EdgeEvent, NameEvent, NormalConnection, NormalMember, DeclarationPart, AssignPart, ParameterPart, MacroPart, InstancePart, AlwaysPart, ConditionalPart, FunctionPart, LoopPart, NormalMembers, NoParts, MoreParts, NormalParameter, NormalPort, NormalItem, ModulePart, IncludePart, NormalFile}
-use Rattle.vast_rows.specs.Built.{Seen, SeenAnswer, SeenExpressions, SeenGroup, SeenGroups, SeenDeclaration, SeenDeclarations, SeenConnection, SeenConnections, SeenEvent, SeenEvents, SeenStatement, SeenStatements, SeenArms, SeenLabels, SeenMember, SeenMembers, SeenParameter, SeenParameters, SeenPort, SeenPorts, SeenItem, SeenFile, of_one, of_two, of_three, of_four, make_none, make_more, declared, name_before, name_behind, alternated, make, happens, built}
+use Rattle.vast_literal.specs.NormalFile.{NormalStatement, BlockingStatement, NonblockingStatement, AssignStatement, TaskStatement, ChoiceStatement, CaseStatement, NormalStatements, Done, Then, Arms, Only, Otherwise, Or, Labels, NoLabels, Label, Group, One, Range, NormalDeclaration, EdgeEvent, NameEvent, NormalConnection, NormalMember, DeclarationPart, AssignPart, ParameterPart, MacroPart, InstancePart, AlwaysPart, ConditionalPart, FunctionPart, LoopPart, NormalMembers, NoParts, MoreParts, NormalParameter, NormalPort, NormalItem, ModulePart, IncludePart, NormalFile}
+use Rattle.vast_rows.specs.Built.{Seen, SeenAnswer, SeenExpressions, SeenGroup, SeenGroups, SeenDeclaration, SeenDeclarations, SeenConnection, SeenConnections, SeenEvent, SeenEvents, SeenStatement, SeenStatements, SeenArms, SeenLabels, SeenMember, SeenMembers, SeenParameter, SeenParameters, SeenPort, SeenPorts, SeenItem, SeenFile, of_one, of_two, of_three, of_four, make_none, make_more, declared, name_before, name_behind, assigned, alternated, make, happens, built}
 use Rattle.vast_rows.specs.Events.{Event, Makes, Names}
 use Rattle.vast_rows.specs.Laws.{TraceBuilds, TraceIsOne}
 use Rattle.vast_rows.specs.Numbers.{Key}
@@ -31,12 +31,13 @@ list_builds {vs = vs} what one seen all none more each (x ∷ xs) p = on (each x
 -- Statements.
 
 mutual
-  unfolding trace_statement trace_statements trace_arms trace_labels make make_none make_more of_one of_two of_three assignment alternated
+  unfolding trace_statement trace_statements trace_arms trace_labels make make_none make_more of_one of_two of_three assignment assigned alternated
 
   statement_builds : {es : List Event} {vs : List Seen} (s : NormalStatement) → Builds es vs → Builds (trace_statement s es) (SeenStatement s ∷ vs)
   statement_builds (BlockingStatement l r) p = on (on (on (on p refl) refl) refl) refl
   statement_builds (NonblockingStatement l r) p = on (on (on (on p refl) refl) refl) refl
   statement_builds (AssignStatement l r) p = on (on (on p refl) refl) refl
+  statement_builds (TaskStatement x) p = on (on (on p refl) refl) refl
   statement_builds (ChoiceStatement a) p = on (arms_build a p) refl
   statement_builds (CaseStatement true k x a) p = on (on (on (labels_build a p) refl) refl) refl
   statement_builds (CaseStatement false k x a) p = on (on (labels_build a p) refl) refl

@@ -1,9 +1,9 @@
 -- What the rows of expressions spell is an expression.
 use Rattle.std.proofs.Common.{◌≡◌, ◌≢◌, ℕ, suc, zero, ◌+◌, ◌-◌, codes, lit≤, ◌<◌, ◌≤◌, List, [], ◌∷◌, ◌++◌, get_or, nat_eq, Bool, true, false, IsTrue, refl, arith, append_assoc, append-nil, lit<}
 use Rattle.std.proofs.lemmas.Bool.{eqb-true, eqb-false}
-use Rattle.vast_literal.specs.Tokens.{level, is_unary, Token, Word, MacroWord, Number, Operator, Mark, Reserved}
+use Rattle.vast_literal.specs.Tokens.{level, is_unary, Token, Word, SystemWord, MacroWord, Number, Operator, Mark, Reserved}
 use Rattle.vast_literal.specs.NormalExpr.{NormalExpr, NormalExprs, Binary}
-use Rattle.vast_literal.specs.Grammar.{is_cast_word, Spells, up, ternary, binary, unary, index, slice, part_select, name, number, based, quoted, paren, call, system_call, concat, replicated, array_pattern, macro_alone, macro_call, number_cast, name_cast, package_cast, paren_cast, word_cast, SpellsList, none, some, SpellsJoined, last, next}
+use Rattle.vast_literal.specs.Grammar.{is_cast_word, Spells, up, ternary, binary, unary, index, slice, part_select, name, number, based, quoted, paren, call, system_alone, system_call, concat, replicated, array_pattern, macro_alone, macro_call, number_cast, name_cast, package_cast, paren_cast, word_cast, SpellsList, none, some, SpellsJoined, last, next}
 use Rattle.vast_literal.proofs.Levels.{level_small}
 use Rattle.vast_rows.specs.Numbers.{Op, LogicOr, LogicAnd, BitOr, BitXor, BitAnd, NotEqual, CaseNotEqual, Equal, CaseEqual, GreaterEqual, Greater, LessEqual, Less, ShiftLeft, ShiftRightSigned, ShiftRight, Plus, Minus, Times, Divide, Modulo, Power, BitNot, LogicNot, OpenParen, CloseParen, OpenBracket, OpenBrace, CloseBrace, Comma, Colon, Question, DoubleColon, Apostrophe, Key, LogicKey, SignedKey, UnsignedKey, IntegerKey, IntKey}
 use Rattle.vast_rows.specs.Internal.ExpressionPage.{Part, expression_page}
@@ -34,7 +34,7 @@ Meant part.SelectEnd ts = (ss is : List Token) → IsAt 13 ss → IsAt 0 is → 
 Meant part.Primary ts = IsAt 14 ts
 Meant part.Cast ts = (es : List Token) × IsAt 0 es × (ts ≡ cast_of es)
 Meant part.AnyMacro ts = (us : List Token) → ((m : List ℕ) → IsAt 14 (MacroWord m ∷ us)) → IsAt 14 (ts ++ us)
-Meant part.MacroList ts = (m : List ℕ) → IsAt 14 (MacroWord m ∷ ts)
+Meant part.MacroList ts = ((m : List ℕ) → IsAt 14 (MacroWord m ∷ ts)) × ((f : List ℕ) → IsAt 14 (SystemWord f ∷ ts))
 Meant part.AfterName ts = (w : List ℕ) → IsAt 14 (Word w ∷ ts)
 Meant part.MaybeCast ts = ((w : List ℕ) → IsAt 14 (Word w ∷ ts)) × ((n : List ℕ) → IsAt 14 (Number n ∷ ts)) × ((hs : List Token) → IsAt 0 hs → IsAt 14 (Mark OpenParen ∷ (hs ++ (Mark CloseParen ∷ ts))))
 Meant part.Listed ts = AreIn ts
@@ -93,6 +93,7 @@ joined (system_call f es) rs r o one h pos q = absurd (let s : level o ≤ 11 = 
 joined (concat es) rs r o one h pos q = absurd (let s : level o ≤ 11 = level_small o in let z : ⊥ = omega (arith, h, s) in z)
 joined (replicated n es) rs r o one h pos q = absurd (let s : level o ≤ 11 = level_small o in let z : ⊥ = omega (arith, h, s) in z)
 joined (array_pattern es) rs r o one h pos q = absurd (let s : level o ≤ 11 = level_small o in let z : ⊥ = omega (arith, h, s) in z)
+joined (system_alone f) rs r o one h pos q = absurd (let s : level o ≤ 11 = level_small o in let z : ⊥ = omega (arith, h, s) in z)
 joined (macro_alone m) rs r o one h pos q = absurd (let s : level o ≤ 11 = level_small o in let z : ⊥ = omega (arith, h, s) in z)
 joined (macro_call m es) rs r o one h pos q = absurd (let s : level o ≤ 11 = level_small o in let z : ⊥ = omega (arith, h, s) in z)
 joined (number_cast n e) rs r o one h pos q = absurd (let s : level o ≤ 11 = level_small o in let z : ⊥ = omega (arith, h, s) in z)
@@ -174,8 +175,8 @@ makes =
     (λ n ts m. m.1 n) &
     (λ n. (_, based n)) &
     (λ w. (_, quoted w)) &
-    (λ f ts es. (_, system_call f es.1)) &
-    (λ ts m us l. m us l) &
+    (λ f ts l. l.1 f) &
+    (λ ts m us l. m us l.0) &
     (λ ts x us m. m.2 ts x) &
     (λ ts es. (_, array_pattern es.1)) &
     (λ ts b. b) &
@@ -183,8 +184,8 @@ makes =
     (λ ts x. (ts, x, refl)) &
     (λ m us f. f m) &
     (λ us f. f (codes "include")) &
-    (λ m. (_, macro_alone m)) &
-    (λ ts es m. (_, macro_call m es.1)) &
+    ((λ m. (_, macro_alone m)), (λ f. (_, system_alone f))) &
+    (λ ts es. ((λ m. (_, macro_call m es.1)), (λ f. (_, system_call f es.1)))) &
     (λ ts m w. m.0 w) &
     (λ ts es w. (_, call w es.1)) &
     of_package &

@@ -3,7 +3,7 @@ use Rattle.std.proofs.Common.{◌≡◌, Some, ℕ, suc, ◌<◌, ◌≤◌, Lis
 use Rattle.std.specs.List.{slice_get}
 use Rattle.vast_literal.specs.Tokens.{level, is_unary, Token, Word, SystemWord, MacroWord, Number, Based, Quoted, Operator, Mark, Reserved}
 use Rattle.vast_literal.specs.NormalExpr.{NormalExpr, NormalExprs}
-use Rattle.vast_literal.specs.Grammar.{is_cast_word, Spells, up, ternary, binary, unary, index, slice, part_select, name, number, based, quoted, paren, call, system_call, concat, replicated, array_pattern, macro_alone, macro_call, number_cast, name_cast, package_cast, paren_cast, word_cast, SpellsList, none, some, SpellsJoined, last, next}
+use Rattle.vast_literal.specs.Grammar.{is_cast_word, Spells, up, ternary, binary, unary, index, slice, part_select, name, number, based, quoted, paren, call, system_alone, system_call, concat, replicated, array_pattern, macro_alone, macro_call, number_cast, name_cast, package_cast, paren_cast, word_cast, SpellsList, none, some, SpellsJoined, last, next}
 use Rattle.vast_literal.proofs.Levels.{level_small}
 use Rattle.vast_rows.specs.declared.grammar.Item.{Item}
 use Rattle.vast_rows.specs.declared.grammar.Item.TheVariants as item
@@ -218,7 +218,8 @@ mutual
   fits (quoted w) = by_primary 14 _ (by_row part.Primary 43 _ refl refl (tok (Quoted w) nil))
   fits (paren e) = by_primary 14 _ (by_row part.Primary 46 _ refl refl (tok (Mark OpenParen) ((fits e).whole then tok (Mark CloseParen) no_cast)))
   fits (call f es) = by_primary 14 _ (by_row part.Primary 40 _ refl refl (tok (Word f) (by_row part.AfterName 56 _ refl refl (tok (Mark OpenParen) (ending CloseParen (lists es))))))
-  fits (system_call f es) = by_primary 14 _ (by_row part.Primary 44 _ refl refl (tok (SystemWord f) (tok (Mark OpenParen) (ending CloseParen (lists es)))))
+  fits (system_alone f) = by_primary 14 _ (by_row part.Primary 44 _ refl refl (tok (SystemWord f) (by_row part.MacroList 53 _ refl refl nil)))
+  fits (system_call f es) = by_primary 14 _ (by_row part.Primary 44 _ refl refl (tok (SystemWord f) (by_row part.MacroList 54 _ refl refl (tok (Mark OpenParen) (ending CloseParen (lists es))))))
   fits (concat es) = by_primary 14 _ (by_row part.Primary 48 _ refl refl (tok (Mark OpenBrace) (braced es)))
   fits (replicated n es) = by_primary 14 _ (by_row part.Primary 48 _ refl refl (tok (Mark OpenBrace) (by_row part.Braces 65 _ refl refl ((fits n).whole then by_row part.BraceEnd 67 _ refl refl (tok (Mark OpenBrace) (lists es then tok (Mark CloseBrace) (tok (Mark CloseBrace) nil)))))))
   fits (array_pattern es) = by_primary 14 _ (by_row part.Primary 47 _ refl refl (tok (Mark Apostrophe) (tok (Mark OpenBrace) (ending CloseBrace (lists es)))))

@@ -2,11 +2,12 @@
 use Rattle.std.proofs.Common.{◌≡◌, ℕ, ◌≤◌, List, [], ◌∷◌, true, false, codes, Some, None, refl, arith}
 use Rattle.vast_literal.specs.Keyword.{is_keyword}
 use Rattle.vast_literal.specs.Tokens.{level, key_text, reserved_keys, Token, Reserved, Word, Number, Mark, word_token}
+use Rattle.vast_literal.specs.declared.kind.AlwaysKind.TheVariants.{AlwaysComb as AlwaysCombWord}
 use Rattle.vast_literal.specs.Scan.{tokens}
 use Rattle.vast_literal.specs.NormalExpr.{Name, Literal}
 use Rattle.vast_literal.specs.NormalFile.{BlockingStatement, CaseStatement, Done, Then, NoLabels, Label, NormalFile}
 use Rattle.vast_literal.specs.Grammar.{Spells, ternary, binary, name, number}
-use Rattle.vast_literal.specs.FileGrammar.{no_items, more_items, empty, arrow, assignment, not_unique, casez_word, simple, cases, IsCases, cased, assigns, done, then, no_labels, label, default, bare, is_kind, range, absent, present, no_type, own_type, declares, is_member_kind, declared, block_body, casez_body, declaration, combinational, function, IsFile, DerivesFile}
+use Rattle.vast_literal.specs.FileGrammar.{no_items, more_items, empty, arrow, assignment, not_unique, casez_word, simple, cases, IsCases, cased, assigns, done, then, no_labels, label, default, bare, is_kind, range, absent, present, no_type, own_type, declares, is_member_kind, declared, block_body, casez_body, declaration, unclocked, function, IsFile, DerivesFile}
 use Rattle.vast_literal.specs.WorkedTexts.{HasOneFile, module_of, given_comparison, ternary_label, typed_wire, wire_array, casez_function}
 use Rattle.vast_literal.proofs.Levels.{lower}
 use Rattle.vast_literal.proofs.Longest.{scan_lexes}
@@ -26,13 +27,13 @@ one text ts t e d = let x : DerivesFile text t = record { parts = ts; lexed = sc
 -- `x <= a <= b;` assigns a given_comparison.
 pub assigned_comparison : HasOneFile (codes "module m; always_comb begin x <= a <= b; end endmodule") (module_of given_comparison)
 unfolding tokens word_token is_keyword reserved_keys key_text given_comparison level arrow assignment
-assigned_comparison = one _ _ (module_of given_comparison) refl (in_module _ given_comparison (combinational (then (simple (assigns false (name_at 13 (codes "x") (omega arith))
+assigned_comparison = one _ _ (module_of given_comparison) refl (in_module _ given_comparison (unclocked AlwaysCombWord refl (then (simple (assigns false (name_at 13 (codes "x") (omega arith))
     (lower 7 0 _ _ (omega arith) (omega arith) (binary LessEqual (omega arith) (name_at 7 (codes "a") (omega arith)) (name_at 8 (codes "b") (omega arith)))))) done)))
 
 -- The colon of a ternary and that of a label.
 pub labelled_by_ternary : HasOneFile (codes "module m; always_comb begin casez (s) a ? b : c: x = 1; endcase end endmodule") (module_of ternary_label)
 unfolding tokens word_token is_keyword reserved_keys key_text ternary_label arrow assignment
-labelled_by_ternary = one _ _ (module_of ternary_label) refl (in_module _ ternary_label (combinational (then (cases CasezKey casez_word (cased not_unique (name_at 0 (codes "s") (omega arith))
+labelled_by_ternary = one _ _ (module_of ternary_label) refl (in_module _ ternary_label (unclocked AlwaysCombWord refl (then (cases CasezKey casez_word (cased not_unique (name_at 0 (codes "s") (omega arith))
     (label (ternary (name_at 1 (codes "a") (omega arith)) (name_at 0 (codes "b") (omega arith)) (name_at 0 (codes "c") (omega arith)))
     (bare (assigns true (name_at 13 (codes "x") (omega arith)) (number_at_zero (codes "1")))) no_labels))) done)))
 

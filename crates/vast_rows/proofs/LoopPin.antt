@@ -110,7 +110,7 @@ before_head left =
     let semicolon_due = opened 9 _ ports_due refl refl refl in
     let members_due = eaten semicolon_due in
     let member_due = opened 18 _ members_due refl refl refl in
-    eaten (opened 60 _ member_due refl refl refl)
+    eaten (opened 62 _ member_due refl refl refl)
 
 -- A loop goes on while a name is less than something, and not while a disjunction holds.
 pub no_disjunction : HasNoFile (codes "module m; for (genvar i = 0; i < a || b; i = i + 1) begin end endmodule")

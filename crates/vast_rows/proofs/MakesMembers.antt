@@ -1,11 +1,12 @@
 -- The rows of members, modules and files make what the typed relations say.
 use Rattle.std.proofs.Common.{[], ◌∷◌, Some, refl, append_assoc, append-nil}
-use Rattle.vast_literal.specs.FileGrammar.{is_parameter_word, is_clocked, is_edge, no_items, more_items, empty, full, present, edge, plain, input, declared, given, connected, unconnected, no_parameters, with_parameters, with_one, without, no_label, labelled, block_body, casez_body, declaration, continuous, parameter, macro, macro_with, instance, combinational, clocked, conditional, function, loop, closed, and_member, header_parameter, port, no_header_parameters, header_parameters, no_ports, ports, module_item, include_item}
+use Rattle.vast_literal.specs.FileGrammar.{is_parameter_word, is_edge, no_items, more_items, empty, full, present, edge, plain, input, declared, given, connected, unconnected, no_parameters, with_parameters, with_one, without, no_label, labelled, block_body, casez_body, declaration, continuous, parameter, macro, macro_with, instance, unclocked, clocked, conditional, function, loop, closed, and_member, header_parameter, port, no_header_parameters, header_parameters, no_ports, ports, module_item, include_item}
 use Rattle.vast_literal.specs.Grammar.{none, some, last, next}
 use Rattle.vast_literal.specs.NormalFile.{LoopPart}
 use Rattle.vast_literal.specs.Tokens.{Mark}
-use Rattle.vast_rows.specs.declared.rule.Rule.TheVariants.{File, FileItem, Parameters, Parameter, Ports, Port, ModuleMembers, LoopMembers, Member, AnyMacro, MacroArguments, Expressions, MoreExpressions, LastSemicolon, GivenList, Given, Connections, Connection, Connected, Events, OneEvent, Inputs, Input, Locals, Local, FunctionBody, LoopLabel}
-use Rattle.vast_rows.specs.Numbers.{CloseParen, ParameterKey, LocalparamKey, AlwaysFFKey, AlwaysKey, PosedgeKey, NegedgeKey, EndModuleKey, EndKey}
+use Rattle.vast_literal.specs.declared.kind.AlwaysKind.TheVariants.{AlwaysFF as AlwaysFFWord, AlwaysAt as AlwaysAtWord, AlwaysComb as AlwaysCombWord, AlwaysStar as AlwaysStarWord, AlwaysLatch as AlwaysLatchWord, Initial as InitialWord}
+use Rattle.vast_rows.specs.declared.rule.Rule.TheVariants.{File, FileItem, Parameters, Parameter, Ports, Port, ModuleMembers, LoopMembers, Member, Awaited, AnyMacro, MacroArguments, Expressions, MoreExpressions, LastSemicolon, GivenList, Given, Connections, Connection, Connected, Events, OneEvent, Inputs, Input, Locals, Local, FunctionBody, LoopLabel}
+use Rattle.vast_rows.specs.Numbers.{CloseParen, ParameterKey, LocalparamKey, PosedgeKey, NegedgeKey, EndModuleKey, EndKey}
 use Rattle.vast_rows.specs.Phrases.{expression, target, loop_head, path}
 use Rattle.vast_rows.proofs.Meant.{Makes, is_key, is_macro, is_nothing}
 use Rattle.vast_rows.proofs.MakesDeclarations.{net_is_kind, local_is_kind}
@@ -73,24 +74,34 @@ pub member5 : Makes Member 5
 member5 m ps p i cs c = (_, instance m i p.1 c.1)
 
 pub member6 : Makes Member 6
-member6 ns is_nothing bs b = (_, combinational b.1)
+member6 ns is_nothing bs b = (_, unclocked AlwaysCombWord refl b.1)
 
 pub member7 : Makes Member 7
-unfolding is_clocked
-member7 es e bs b = (_, clocked AlwaysFFKey refl e.1 b.1)
+member7 ns is_nothing bs b = (_, unclocked AlwaysLatchWord refl b.1)
 
 pub member8 : Makes Member 8
-unfolding is_clocked
-member8 es e bs b = (_, clocked AlwaysKey refl e.1 b.1)
+member8 ns is_nothing bs b = (_, unclocked InitialWord refl b.1)
 
 pub member9 : Makes Member 9
-member9 ts a = (_, conditional a.1)
+member9 es e bs b = (_, clocked AlwaysFFWord refl e.1 b.1)
 
 pub member10 : Makes Member 10
-member10 ds d is i ls l bs b = (_, function d.1 i.1 l.1 b.1)
+member10 us m = m
 
 pub member11 : Makes Member 11
-member11 ts n (loop_head {x = x} {e = e} i p q) ls l ms m = (LoopPart i x e l.0 m.0, simp append_assoc (loop i p q l.1 m.1))
+member11 ts a = (_, conditional a.1)
+
+pub member12 : Makes Member 12
+member12 ds d is i ls l bs b = (_, function d.1 i.1 l.1 b.1)
+
+pub member13 : Makes Member 13
+member13 ts n (loop_head {x = x} {e = e} i p q) ls l ms m = (LoopPart i x e l.0 m.0, simp append_assoc (loop i p q l.1 m.1))
+
+pub awaited0 : Makes Awaited 0
+awaited0 es e bs b = (_, clocked AlwaysAtWord refl e.1 b.1)
+
+pub awaited1 : Makes Awaited 1
+awaited1 ns is_nothing bs b = (_, unclocked AlwaysStarWord refl b.1)
 
 pub macro0 : Makes AnyMacro 0
 macro0 m = is_macro m

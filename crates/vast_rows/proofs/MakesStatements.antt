@@ -1,7 +1,7 @@
 -- The rows of statements make what the typed relations say.
 use Rattle.std.proofs.Common.{append-nil}
-use Rattle.vast_literal.specs.FileGrammar.{unique, not_unique, case_word, casez_word, casex_word, simple, assigned, choice, cases, cased, assigns, done, then, only, otherwise, or, no_labels, label, default, body, bare}
-use Rattle.vast_rows.specs.declared.rule.Rule.TheVariants.{Statements, Statement, Assignment, Choice, Else, Branch, Unique, CaseKind, CaseArms, BareArms, ArmBody, LoneCase}
+use Rattle.vast_literal.specs.FileGrammar.{unique, not_unique, case_word, casez_word, casex_word, simple, assigned, task, choice, cases, cased, assigns, done, then, only, otherwise, or, no_labels, label, default, body, bare}
+use Rattle.vast_rows.specs.declared.rule.Rule.TheVariants.{Statements, Statement, AfterTarget, Assignment, Choice, Else, Branch, Unique, CaseKind, CaseArms, BareArms, ArmBody, LoneCase}
 use Rattle.vast_rows.specs.Numbers.{CaseKey, CasezKey, CasexKey}
 use Rattle.vast_rows.specs.Phrases.{expression, target}
 use Rattle.vast_rows.proofs.Meant.{Makes, is_arrow, is_nothing}
@@ -13,7 +13,7 @@ pub statements1 : Makes Statements 1
 statements1 ts s us ss = (_, then s.1 ss.1)
 
 pub statement0 : Makes Statement 0
-statement0 ts s = (_, simple s.1)
+statement0 ls m (target {x = l} p) us after = after ls l p
 
 pub statement1 : Makes Statement 1
 statement1 ls m (target p) rs n (expression q) = (_, assigned p q)
@@ -23,6 +23,12 @@ statement2 ts a = (_, choice a.1)
 
 pub statement3 : Makes Statement 3
 statement3 us u ts after = after us u.0 u.1
+
+pub after_target0 : Makes AfterTarget 0
+after_target0 arrows (is_arrow b) rs n (expression q) ls l p = (_, simple (assigns b p q))
+
+pub after_target1 : Makes AfterTarget 1
+after_target1 ls l p = (_, task p)
 
 pub assignment0 : Makes Assignment 0
 assignment0 ls m (target p) arrows (is_arrow b) rs n (expression q) = (_, assigns b p q)

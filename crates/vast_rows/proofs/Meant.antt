@@ -8,7 +8,7 @@ use Rattle.vast_literal.specs.NormalFile as normal
 use Rattle.vast_literal.specs.Tokens.{Token, Reserved, Word, MacroWord, Mark}
 use Rattle.vast_rows.specs.declared.rule.Rule.{Rule as RuleName}
 use Rattle.vast_rows.specs.declared.rule.Rule.TheVariants as rule
-use Rattle.vast_rows.specs.Numbers.{Key, OpenParen, CloseParen, OpenBracket, Comma, Dot, DoubleColon, CasezKey, EndKey, EndModuleKey, IfKey, ElseKey, BeginKey, OrKey}
+use Rattle.vast_rows.specs.Numbers.{Key, At, AlwaysKey, OpenParen, CloseParen, OpenBracket, Comma, Dot, DoubleColon, CasezKey, EndKey, EndModuleKey, IfKey, ElseKey, BeginKey, OrKey}
 use Rattle.vast_rows.specs.Page.{page}
 use Rattle.vast_rows.proofs.Means.{MakesOf, row_of, rule_of}
 
@@ -66,6 +66,7 @@ Meant rule.GroupEnd us = (xs : List Token) (x : NormalExpr) → Spells 0 xs x �
 Meant rule.Member ts = (m : normal.NormalMember) × IsMember ts m
 Meant rule.NetKind ts = IsKey is_member_kind ts
 Meant rule.NoWait ts = IsNothing ts
+Meant rule.Awaited us = (m : normal.NormalMember) × IsMember (Reserved AlwaysKey ∷ (Mark At ∷ us)) m
 Meant rule.AnyMacro ts = IsMacro ts
 Meant rule.MacroArguments us = (m : List ℕ) (ss : List Token) (s : Bool) → IsSemicolon ss s → (x : normal.NormalMember) × IsMember (MacroWord m ∷ (us ++ ss)) x
 Meant rule.Expressions ts = (xs : NormalExprs) × SpellsList ts xs
@@ -93,6 +94,7 @@ Meant rule.NoEnd ts = IsNothing ts
 Meant rule.LoopLabel ts = (l : Option (List ℕ)) × IsLabel ts l
 Meant rule.Statements ts = (s : normal.NormalStatements) × IsStatements ts s
 Meant rule.Statement ts = (s : normal.NormalStatement) × IsStatement ts s
+Meant rule.AfterTarget us = (ts : List Token) (l : NormalExpr) → Spells 13 ts l → (s : normal.NormalStatement) × IsStatement (ts ++ us) s
 Meant rule.Assignment ts = (s : normal.NormalStatement) × IsAssign ts s
 Meant rule.Arrow ts = IsArrow ts
 Meant rule.Choice ts = (a : normal.Arms) × IsChoice ts a

@@ -1,19 +1,22 @@
 -- What the typed relations say of members, modules and files, the page spells and tells.
 use Rattle.std.proofs.Common.{◌≡◌, ℕ, List, [], ◌∷◌, ◌++◌, Bool, true, false, codes, Option, IsTrue, refl, ap, ◌∙◌, append_assoc, append-nil}
 use Rattle.std.specs.Str.{bytes_eq}
-use Rattle.vast_literal.specs.FileGrammar.{is_parameter_word, is_clocked, is_edge, is_direction, is_local_kind, IsMany, no_items, more_items, IsList, empty, full, IsEvent, edge, plain, IsInput, input, IsDeclared, IsGiven, given, IsConnection, connected, unconnected, IsGivenList, no_parameters, with_parameters, IsSemicolon, with_one, without, IsLabel, no_label, labelled, IsFunctionBody, block_body, casez_body, IsMember, declaration, continuous, parameter, macro, macro_with, instance, combinational, clocked, conditional, function, loop, IsMembers, closed, and_member, IsParameter, header_parameter, IsPort, port, IsParameters, no_header_parameters, header_parameters, IsPorts, no_ports, ports, IsItem, module_item, include_item}
+use Rattle.vast_literal.specs.FileGrammar.{is_parameter_word, is_edge, is_direction, is_local_kind, IsMany, no_items, more_items, IsList, empty, full, IsEvent, edge, plain, IsInput, input, IsDeclared, IsGiven, given, IsConnection, connected, unconnected, IsGivenList, no_parameters, with_parameters, IsSemicolon, with_one, without, IsLabel, no_label, labelled, IsFunctionBody, block_body, casez_body, IsMember, declaration, continuous, parameter, macro, macro_with, instance, unclocked, clocked, conditional, function, loop, IsMembers, closed, and_member, IsParameter, header_parameter, IsPort, port, IsParameters, no_header_parameters, header_parameters, IsPorts, no_ports, ports, IsItem, module_item, include_item}
 use Rattle.vast_literal.specs.Grammar.{Spells, SpellsList, none, some, SpellsJoined, last, next}
 use Rattle.vast_literal.specs.NormalExpr.{NormalExpr, NormalExprs}
 use Rattle.vast_literal.specs.NormalFile as normal
 use Rattle.vast_literal.specs.NormalFile.{NormalStatements, NormalDeclaration, NormalConnection, NormalMember, NormalMembers, NormalParameter, NormalPort, NormalItem}
+use Rattle.vast_literal.specs.Shape.{always_words, has_events}
 use Rattle.vast_literal.specs.Tokens.{Token, Reserved, Word, MacroWord, Mark}
+use Rattle.vast_literal.specs.declared.kind.AlwaysKind.{AlwaysKind as AlwaysWord}
+use Rattle.vast_literal.specs.declared.kind.AlwaysKind.TheVariants.{AlwaysFF as AlwaysFFWord, AlwaysAt as AlwaysAtWord, AlwaysComb as AlwaysCombWord, AlwaysStar as AlwaysStarWord, AlwaysLatch as AlwaysLatchWord, Initial as InitialWord}
 use Rattle.vast_rows.specs.declared.action.Action.TheVariants.{PortOf, ParameterMember, AlwaysMember, EdgeOf}
 use Rattle.vast_rows.specs.declared.action.Listed.TheVariants as what
 use Rattle.vast_rows.specs.declared.grammar.Item.TheVariants.{Phrase}
 use Rattle.vast_rows.specs.declared.grammar.Phrase.TheVariants.{Expression}
-use Rattle.vast_rows.specs.declared.rule.Rule.TheVariants.{File, FileItem, Parameters, MoreParameters, Parameter, Ports, MorePorts, Port, Direction, ModuleMembers, LoopMembers, Member, AnyMacro, MacroArguments, Expressions, MoreExpressions, LastSemicolon, GivenList, Given, MoreGiven, Connections, Connection, Connected, MoreConnections, Events, OneEvent, MoreEvents, Inputs, Input, MoreInputs, Locals, Declaration, Statements, FunctionBody, NoWait, LoopLabel}
+use Rattle.vast_rows.specs.declared.rule.Rule.TheVariants.{File, FileItem, Parameters, MoreParameters, Parameter, Ports, MorePorts, Port, Direction, ModuleMembers, LoopMembers, Member, AnyMacro, MacroArguments, Expressions, MoreExpressions, LastSemicolon, GivenList, Given, MoreGiven, Connections, Connection, Connected, MoreConnections, Events, OneEvent, MoreEvents, Inputs, Input, MoreInputs, Locals, Declaration, Statements, FunctionBody, NoWait, Awaited, LoopLabel}
 use Rattle.vast_rows.specs.Events.{Event, Makes, Names}
-use Rattle.vast_rows.specs.Numbers.{Key, Comma, OpenParen, Semicolon, At, Assign, BeginKey, GenvarKey, CloseParen, InputKey, OutputKey, InOutKey, ParameterKey, LocalparamKey, AlwaysFFKey, AlwaysKey, PosedgeKey, NegedgeKey, OrKey, EndModuleKey, EndKey, IfKey}
+use Rattle.vast_rows.specs.Numbers.{Key, Comma, OpenParen, Semicolon, Assign, BeginKey, GenvarKey, CloseParen, InputKey, OutputKey, InOutKey, ParameterKey, LocalparamKey, PosedgeKey, NegedgeKey, OrKey, EndModuleKey, EndKey, IfKey}
 use Rattle.vast_rows.specs.Phrases.{expression, target, loop_head, path}
 use Rattle.vast_rows.specs.Symbols.{key, mark, rule}
 use Rattle.vast_rows.specs.Trace.{read, answer, trace_list, trace_statements, trace_declaration, trace_declarations, trace_expressions, trace_arguments, trace_value, trace_connection, trace_connections, trace_event, trace_events, trace_label, trace_member, trace_members, trace_parameter, trace_parameters, trace_port, trace_ports, trace_item, trace_items}
@@ -135,7 +138,7 @@ expressions_to none = at Expressions 0 refl stop
 expressions_to (some (last {ts = ts} p)) = at Expressions 1 refl (along (append-nil ts) (phr (expression p) (at MoreExpressions 0 refl stop)))
 expressions_to (some (next p j)) = at Expressions 1 refl (phr (expression p) (more_expressions_to j))
 
--- After a word of a parameter, and after one of an always block.
+-- After a word of a parameter, and after the words of an always block.
 parameter_member : {us : List Token} {es fs : List Event} (k : Key) → IsTrue (is_parameter_word k) → Spelled (rule Declaration ∷ (mark Assign ∷ (Phrase Expression ∷ (mark Semicolon ∷ [])))) us es fs → Node Member (Reserved k ∷ us) (Makes (ParameterMember k) ∷ es) fs
 unfolding is_parameter_word
 parameter_member ParameterKey h p = at Member 2 refl (tok _ refl p)
@@ -143,12 +146,19 @@ parameter_member LocalparamKey h p = at Member 3 refl (tok _ refl p)
 parameter_member IfKey h p = absurd (cc h)
 parameter_member _ h p = absurd (cc h)
 
-clocked_to : {us : List Token} {es fs : List Event} (k : Key) → IsTrue (is_clocked k) → Spelled (mark At ∷ (mark OpenParen ∷ (rule Events ∷ (mark CloseParen ∷ (key BeginKey ∷ (rule Statements ∷ [])))))) us es fs → Node Member (Reserved k ∷ us) (Makes (AlwaysMember k) ∷ es) fs
-unfolding is_clocked
-clocked_to AlwaysFFKey h p = at Member 7 refl (tok _ refl p)
-clocked_to AlwaysKey h p = at Member 8 refl (tok _ refl p)
-clocked_to IfKey h p = absurd (cc h)
+clocked_to : {us : List Token} {es fs : List Event} (w : AlwaysWord) → IsTrue (has_events w) → Spelled (rule Events ∷ (mark CloseParen ∷ (key BeginKey ∷ (rule Statements ∷ [])))) us es fs → Node Member (always_words w ++ us) (Makes (AlwaysMember w) ∷ es) fs
+clocked_to AlwaysFFWord h p = at Member 9 refl (tok _ refl (tok _ refl (tok _ refl p)))
+clocked_to AlwaysAtWord h p = at Member 10 refl (tok _ refl (tok _ refl (at Awaited 0 refl (tok _ refl p))))
+clocked_to AlwaysCombWord h p = absurd (cc h)
 clocked_to _ h p = absurd (cc h)
+
+unclocked_to : {us : List Token} {es fs : List Event} (w : AlwaysWord) → has_events w ≡ false → Spelled (rule NoWait ∷ (key BeginKey ∷ (rule Statements ∷ []))) us es fs → Node Member (always_words w ++ us) (Makes (AlwaysMember w) ∷ es) fs
+unclocked_to AlwaysCombWord h p = at Member 6 refl (tok _ refl p)
+unclocked_to AlwaysLatchWord h p = at Member 7 refl (tok _ refl p)
+unclocked_to InitialWord h p = at Member 8 refl (tok _ refl p)
+unclocked_to AlwaysStarWord h p = at Member 10 refl (tok _ refl (tok _ refl (at Awaited 1 refl (tok _ refl p))))
+unclocked_to AlwaysFFWord h p = absurd (cc h)
+unclocked_to AlwaysAtWord h p = absurd (cc h)
 
 -- The head of a loop before other tokens.
 loop_tokens : (xs cs us : List Token) (i : List ℕ) →
@@ -167,11 +177,11 @@ mutual
   member_to (macro m s) = at Member 4 refl (nod (macro_to m) (nod (at MacroArguments 0 refl stop) (semicolon_to s)))
   member_to (macro_with {ts = ts} {ss = ss} m es s) = at Member 4 refl (nod (macro_to m) (along (ap (λ (v : List Token). Mark OpenParen ∷ v) (append_assoc ts (Mark CloseParen ∷ []) ss)) (nod (at MacroArguments 1 refl (tok _ refl (nod (expressions_to es) (tok _ refl stop)))) (semicolon_to s))))
   member_to (instance m i p c) = at Member 5 refl (tok (Word m) refl (nod (given_list_to p) (tok (Word i) refl (tok _ refl (nod (connections_to c) (tok _ refl (tok _ refl stop)))))))
-  member_to (combinational b) = at Member 6 refl (tok _ refl (nod (at NoWait 0 refl stop) (tok _ refl (statements_to b))))
-  member_to (clocked k h e b) = clocked_to k h (tok _ refl (tok _ refl (nod (events_to e) (tok _ refl (tok _ refl (statements_to b))))))
-  member_to (conditional a) = at Member 9 refl (choice_to a)
-  member_to (function d i l b) = at Member 10 refl (tok _ refl (tok _ refl (nod (declaration_to d) (tok _ refl (nod (inputs_to i) (tok _ refl (tok _ refl (nod (locals_to l) (nod (function_body_to b) (tok _ refl stop))))))))))
-  member_to (loop {xs = xs} {cs = cs} i p q l m) = at Member 11 refl (tok _ refl (along (loop_tokens xs cs _ i) (phr (loop_head i p q) (tok _ refl (nod (label_to l) (loop_members_to m))))))
+  member_to (unclocked w h b) = unclocked_to w h (nod (at NoWait 0 refl stop) (tok _ refl (statements_to b)))
+  member_to (clocked w h e b) = clocked_to w h (nod (events_to e) (tok _ refl (tok _ refl (statements_to b))))
+  member_to (conditional a) = at Member 11 refl (choice_to a)
+  member_to (function d i l b) = at Member 12 refl (tok _ refl (tok _ refl (nod (declaration_to d) (tok _ refl (nod (inputs_to i) (tok _ refl (tok _ refl (nod (locals_to l) (nod (function_body_to b) (tok _ refl stop))))))))))
+  member_to (loop {xs = xs} {cs = cs} i p q l m) = at Member 13 refl (tok _ refl (along (loop_tokens xs cs _ i) (phr (loop_head i p q) (tok _ refl (nod (label_to l) (loop_members_to m))))))
 
   loop_members_to : {ts : List Token} {m : NormalMembers} {es : List Event} → IsMembers EndKey ts m → Node LoopMembers ts (trace_members m es) es
   loop_members_to (closed k) = at LoopMembers 0 refl (tok _ refl stop)

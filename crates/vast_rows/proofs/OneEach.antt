@@ -1,10 +1,11 @@
 -- Tokens spell one member at most, one statement and one declaration, since they stand in the tokens of one file; and a text is
 -- derived from one file at most.
-use Rattle.std.proofs.Common.{◌≡◌, ℕ, List, [], ◌∷◌, ◌++◌, codes, sym, ap, subst, ◌∙◌}
+use Rattle.std.proofs.Common.{◌≡◌, ℕ, List, [], ◌∷◌, ◌++◌, codes, refl, sym, ap, subst, ◌∙◌}
 use Rattle.std.proofs.lemmas.Option.{same_Some}
-use Rattle.vast_literal.specs.FileGrammar.{no_items, more_items, empty, done, then, block_body, IsMember, combinational, function, closed, and_member, no_header_parameters, no_ports, module_item, IsFile, file, DerivesFile, OneDeclaration, OneStatement, OneMember}
+use Rattle.vast_literal.specs.FileGrammar.{no_items, more_items, empty, done, then, block_body, IsMember, unclocked, function, closed, and_member, no_header_parameters, no_ports, module_item, IsFile, file, DerivesFile, OneDeclaration, OneStatement, OneMember}
 use Rattle.vast_literal.specs.NormalFile.{NormalMember, NormalMembers, NoParts, MoreParts, NormalItem, ModulePart, NormalFile}
 use Rattle.vast_literal.specs.Tokens.{Token, Reserved, Word, Mark}
+use Rattle.vast_literal.specs.declared.kind.AlwaysKind.TheVariants.{AlwaysComb as AlwaysCombWord}
 use Rattle.vast_literal.specs.WorkedTexts.{module_of}
 use Rattle.vast_literal.proofs.Longest.{lexes_scan}
 use Rattle.vast_rows.specs.Numbers.{Semicolon, ModuleKey, EndModuleKey}
@@ -26,7 +27,7 @@ one_member = record {
 
 -- A statement alone in a block, and a declaration of a function that does nothing.
 pub one_statement : OneStatement
-one_statement = record { same = λ ts a b p q. let e = one_member.same _ _ _ (combinational (then p done)) (combinational (then q done)) in cc e }
+one_statement = record { same = λ ts a b p q. let e = one_member.same _ _ _ (unclocked AlwaysCombWord refl (then p done)) (unclocked AlwaysCombWord refl (then q done)) in cc e }
 
 pub one_declaration : OneDeclaration
 one_declaration = record { same = λ ts a b p q. let e = one_member.same _ _ _ (function p empty no_items (block_body done)) (function q empty no_items (block_body done)) in cc e }

@@ -4,7 +4,7 @@ use Rattle.std.specs.Str.{bytes_eq}
 use Rattle.std.proofs.lemmas.List.{append_cancel_right}
 use Rattle.vast_literal.specs.Tokens.{level, is_unary, Token, Reserved, Word, MacroWord, Number, Operator, Mark}
 use Rattle.vast_literal.specs.NormalExpr.{NormalExpr, Name, Binary}
-use Rattle.vast_literal.specs.Grammar.{is_cast_word, Spells, up, ternary, binary, unary, index, slice, part_select, name, number, based, quoted, paren, call, system_call, concat, replicated, array_pattern, macro_alone, macro_call, number_cast, name_cast, package_cast, paren_cast, word_cast}
+use Rattle.vast_literal.specs.Grammar.{is_cast_word, Spells, up, ternary, binary, unary, index, slice, part_select, name, number, based, quoted, paren, call, system_alone, system_call, concat, replicated, array_pattern, macro_alone, macro_call, number_cast, name_cast, package_cast, paren_cast, word_cast}
 use Rattle.vast_literal.proofs.Levels.{level_small}
 use Rattle.vast_expressions.specs.Rows as item
 use Rattle.vast_expressions.specs.Phrases.{Quiet}
@@ -77,6 +77,7 @@ begins_so k ts x (quoted w) = operand 14 _ _ refl refl
 begins_so k ts x (paren e) = operand 14 _ _ refl refl
 begins_so k ts x (call f es) = operand 14 _ _ refl refl
 begins_so k ts x (system_call f es) = operand 14 _ _ refl refl
+begins_so k ts x (system_alone f) = operand 14 _ _ refl refl
 begins_so k ts x (concat es) = operand 14 _ _ refl refl
 begins_so k ts x (replicated n es) = operand 14 _ _ refl refl
 begins_so k ts x (array_pattern es) = operand 14 _ _ refl refl

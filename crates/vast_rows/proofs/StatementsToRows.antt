@@ -1,13 +1,13 @@
 -- What the typed relations say of statements, the page spells and tells.
 use Rattle.std.proofs.Common.{List, [], ◌∷◌, ◌++◌, Bool, true, false, refl, append-nil}
-use Rattle.vast_literal.specs.FileGrammar.{arrow, assignment, IsUnique, unique, not_unique, IsCase, case_word, casez_word, casex_word, IsStatement, simple, assigned, choice, cases, IsCases, cased, IsAssign, assigns, IsStatements, done, then, IsChoice, only, otherwise, or, IsLabels, no_labels, label, default, IsBody, body, bare}
+use Rattle.vast_literal.specs.FileGrammar.{arrow, assignment, IsUnique, unique, not_unique, IsCase, case_word, casez_word, casex_word, IsStatement, simple, assigned, task, choice, cases, IsCases, cased, IsAssign, assigns, IsStatements, done, then, IsChoice, only, otherwise, or, IsLabels, no_labels, label, default, IsBody, body, bare}
 use Rattle.vast_literal.specs.Grammar.{Spells}
 use Rattle.vast_literal.specs.NormalExpr.{NormalExpr}
 use Rattle.vast_literal.specs.NormalFile.{NormalStatement, CaseStatement, NormalStatements, Done, Arms, Labels}
 use Rattle.vast_literal.specs.Tokens.{Token, Reserved, Mark}
 use Rattle.vast_rows.specs.declared.action.Action.TheVariants.{Conditional}
 use Rattle.vast_rows.specs.declared.grammar.Item.{Item}
-use Rattle.vast_rows.specs.declared.rule.Rule.TheVariants.{Statements, Statement, Assignment, Arrow, Choice, Else, Branch, Unique, CaseKind, CaseArms, BareArms, ArmBody, NoEnd, LoneCase}
+use Rattle.vast_rows.specs.declared.rule.Rule.TheVariants.{Statements, Statement, AfterTarget, Assignment, Arrow, Choice, Else, Branch, Unique, CaseKind, CaseArms, BareArms, ArmBody, NoEnd, LoneCase}
 use Rattle.vast_rows.specs.Events.{Event, Makes}
 use Rattle.vast_rows.specs.Numbers.{Key, OpenParen, CloseParen, BeginKey, IfKey, CasezKey}
 use Rattle.vast_rows.specs.Phrases.{expression, target}
@@ -33,10 +33,12 @@ choice_head : {cs us : List Token} {c : NormalExpr} {es fs : List Event} → Spe
 choice_head p rest = at Choice 0 refl (tok _ refl (tok _ refl (phr (expression p) (tok _ refl (tok _ refl rest)))))
 
 mutual
-  unfolding trace_statement trace_statements trace_arms trace_labels
+  unfolding arrow assignment trace_statement trace_statements trace_arms trace_labels
 
   pub statement_to : {ts : List Token} {s : NormalStatement} {es : List Event} → IsStatement ts s → Node Statement ts (trace_statement s es) es
-  statement_to (simple a) = at Statement 0 refl (assignment_to a)
+  statement_to (simple (assigns true p q)) = at Statement 0 refl (phr (target p) (at AfterTarget 0 refl (nod (at Arrow 0 refl (tok _ refl stop)) (phr (expression q) (tok _ refl stop)))))
+  statement_to (simple (assigns false p q)) = at Statement 0 refl (phr (target p) (at AfterTarget 0 refl (nod (at Arrow 1 refl (tok _ refl stop)) (phr (expression q) (tok _ refl stop)))))
+  statement_to (task p) = at Statement 0 refl (phr (target p) (at AfterTarget 1 refl (tok _ refl stop)))
   statement_to (assigned p q) = at Statement 1 refl (tok _ refl (phr (target p) (tok _ refl (phr (expression q) (tok _ refl stop)))))
   statement_to (choice a) = at Statement 2 refl (choice_to a)
   statement_to (cases k word c) = case_to word c

@@ -3,7 +3,7 @@ use Rattle.std.specs.Prelude.{ℕ, List, [], ◌∷◌, Bool, true, false, Optio
 use Rattle.vast_literal.specs.FileGrammar.{assignment}
 use Rattle.vast_literal.specs.NormalExpr.{NormalExpr, NormalExprs, NoNormals, MoreNormals}
 use Rattle.vast_literal.specs.NormalFile as normal
-use Rattle.vast_literal.specs.NormalFile.{NormalStatement, AssignStatement, ChoiceStatement, CaseStatement, NormalStatements, Done, Then, Arms, Only, Otherwise, Or, Labels, NoLabels, Label, Group, One, Range, NormalDeclaration, EdgeEvent, NameEvent, NormalConnection, NormalMember, DeclarationPart, AssignPart, ParameterPart, MacroPart, InstancePart, AlwaysPart, ConditionalPart, FunctionPart, LoopPart, NormalMembers, NoParts, MoreParts, NormalParameter, NormalPort, NormalItem, ModulePart, IncludePart, NormalFile}
+use Rattle.vast_literal.specs.NormalFile.{NormalStatement, AssignStatement, TaskStatement, ChoiceStatement, CaseStatement, NormalStatements, Done, Then, Arms, Only, Otherwise, Or, Labels, NoLabels, Label, Group, One, Range, NormalDeclaration, EdgeEvent, NameEvent, NormalConnection, NormalMember, DeclarationPart, AssignPart, ParameterPart, MacroPart, InstancePart, AlwaysPart, ConditionalPart, FunctionPart, LoopPart, NormalMembers, NoParts, MoreParts, NormalParameter, NormalPort, NormalItem, ModulePart, IncludePart, NormalFile}
 use Rattle.vast_rows.specs.Events.{Event, Makes, Reads, Names}
 use Rattle.vast_rows.specs.Numbers.{Key}
 use Rattle.vast_rows.specs.Phrases.{Meaning, IsExpression, IsLoop, IsPath}
@@ -239,6 +239,12 @@ abbrev pub unique_case : NormalStatement → NormalStatement
 unique_case (CaseStatement u k x a) = CaseStatement true k x a
 unique_case s = s
 
+-- What follows a left side: nothing behind a call, else whether an assignment blocks and its right side.
+unfoldable pub assigned : NormalExpr → List Seen → Option (List Seen)
+assigned l (SeenNothing ∷ vs) = Some (SeenStatement (TaskStatement l) ∷ vs)
+assigned l (SeenAnswer b ∷ vs) = of_one as_expression (λ r. SeenStatement (assignment b l r)) vs
+assigned l _ = None
+
 unfoldable pub alternated : NormalExpr → NormalStatements → List Seen → Option (List Seen)
 alternated c b (SeenNothing ∷ vs) = Some (SeenArms (Only c b) ∷ vs)
 alternated c b (SeenStatements d ∷ vs) = Some (SeenArms (Otherwise c b d) ∷ vs)
@@ -274,7 +280,7 @@ make GroupOf vs = of_two as_expression (maybe as_expression) (λ x l. SeenGroup 
 make Connects vs = of_two as_name (maybe as_expression) (λ n x. SeenConnection (record { name = n; value = x })) vs
 make (EdgeOf k) vs = of_one as_expression (λ x. SeenEvent (EdgeEvent k x)) vs
 make ChangeOf vs = of_one as_name (λ w. SeenEvent (NameEvent w)) vs
-make Assigns vs = of_three as_expression as_answer as_expression (λ l b r. SeenStatement (assignment b l r)) vs
+make Assigns vs = and_then (first as_expression vs) (λ l. assigned l.0 l.1)
 make AssignsByWord vs = of_two as_expression as_expression (λ l r. SeenStatement (AssignStatement l r)) vs
 make Chooses vs = of_one as_arms (λ a. SeenStatement (ChoiceStatement a)) vs
 make UniqueCase vs = of_one as_statement (λ s. SeenStatement (unique_case s)) vs

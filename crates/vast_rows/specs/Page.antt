@@ -3,8 +3,9 @@
 -- out, a sign or a kind before a declaration, and its names, act on what follows them.
 -- `tools/rows` reads this page and writes the flat table of it, with what the check of the table wants to know.
 use Rattle.std.specs.Prelude.{List, [], ◌∷◌}
-use Rattle.vast_rows.specs.Numbers.{LessEqual, IfKey, ElseKey, CaseKey, CasezKey, CasexKey, EndCaseKey, DefaultKey, UniqueKey, BeginKey, EndKey, AssignKey, WireKey, RegKey, LogicKey, IntegerKey, IntKey, GenvarKey, SignedKey, UnsignedKey, ModuleKey, EndModuleKey, ParameterKey, LocalparamKey, AlwaysCombKey, AlwaysFFKey, AlwaysKey, PosedgeKey, NegedgeKey, OrKey, FunctionKey, AutomaticKey, EndFunctionKey, InputKey, OutputKey, InOutKey, ForKey}
+use Rattle.vast_rows.specs.Numbers.{LessEqual, Times, IfKey, ElseKey, CaseKey, CasezKey, CasexKey, EndCaseKey, DefaultKey, UniqueKey, BeginKey, EndKey, AssignKey, WireKey, RegKey, LogicKey, IntegerKey, IntKey, GenvarKey, SignedKey, UnsignedKey, ModuleKey, EndModuleKey, ParameterKey, LocalparamKey, AlwaysCombKey, AlwaysFFKey, AlwaysKey, PosedgeKey, NegedgeKey, OrKey, FunctionKey, AutomaticKey, EndFunctionKey, InputKey, OutputKey, InOutKey, ForKey, AlwaysLatchKey, InitialKey}
 use Rattle.vast_rows.specs.Numbers.{OpenParen, CloseParen, OpenBracket, CloseBracket, Comma, Colon, Semicolon, Dot, Hash, At, DoubleColon, Assign}
+use Rattle.vast_literal.specs.declared.kind.AlwaysKind.TheVariants.{AlwaysFF as AlwaysFFWord, AlwaysAt as AlwaysAtWord, AlwaysComb as AlwaysCombWord, AlwaysStar as AlwaysStarWord, AlwaysLatch as AlwaysLatchWord, Initial as InitialWord}
 use Rattle.vast_rows.specs.declared.grammar.Item.{Item}
 use Rattle.vast_rows.specs.declared.grammar.Item.TheVariants.{Phrase}
 use Rattle.vast_rows.specs.declared.grammar.Phrase.TheVariants.{Expression, Target, LoopHead, Path}
@@ -12,7 +13,7 @@ use Rattle.vast_rows.specs.Rows.{Row}
 use Rattle.vast_rows.specs.Symbols.{key, mark, op, word, macro_word, include_word, rule, ◌⟶◌, ◌⟹◌}
 use Rattle.vast_rows.specs.declared.action.Action.TheVariants.{Nothing, Yes, No, NoMore, OneMore, ModuleItem, IncludeItem, HeaderParameter, PortOf, DeclarationMember, AssignMember, ParameterMember, MacroMember, InstanceMember, AlwaysMember, ConditionalMember, FunctionMember, LoopMember, KindOf, SignOf, NameBefore, Packaged, Declares, GroupOf, Connects, EdgeOf, ChangeOf, Assigns, AssignsByWord, Chooses, UniqueCase, CaseOf, Conditional, NoArms, Arm, DefaultArm}
 use Rattle.vast_rows.specs.declared.action.Listed.TheVariants as listed
-use Rattle.vast_rows.specs.declared.rule.Rule.TheVariants.{File, FileItem, Parameters, MoreParameters, Parameter, Ports, MorePorts, Port, Direction, ModuleMembers, LoopMembers, Declaration, KindWord, Declarator, SignWord, AfterWord, OwnType, SignedName, GroupedName, AfterGroups, FirstGroups, Groups, BracketGroup, GroupEnd, Member, NetKind, NoWait, AnyMacro, MacroArguments, Expressions, MoreExpressions, LastSemicolon, GivenList, Given, MoreGiven, Connections, Connection, Connected, MoreConnections, Events, OneEvent, MoreEvents, Inputs, Input, MoreInputs, Locals, Local, LocalKind, FunctionBody, LoneCase, NoEnd, LoopLabel, Statements, Statement, Assignment, Arrow, Choice, Else, Branch, Unique, CaseKind, CaseArms, BareArms, ArmBody}
+use Rattle.vast_rows.specs.declared.rule.Rule.TheVariants.{File, FileItem, Parameters, MoreParameters, Parameter, Ports, MorePorts, Port, Direction, ModuleMembers, LoopMembers, Declaration, KindWord, Declarator, SignWord, AfterWord, OwnType, SignedName, GroupedName, AfterGroups, FirstGroups, Groups, BracketGroup, GroupEnd, Member, NetKind, NoWait, Awaited, AnyMacro, MacroArguments, Expressions, MoreExpressions, LastSemicolon, GivenList, Given, MoreGiven, Connections, Connection, Connected, MoreConnections, Events, OneEvent, MoreEvents, Inputs, Input, MoreInputs, Locals, Local, LocalKind, FunctionBody, LoneCase, NoEnd, LoopLabel, Statements, Statement, AfterTarget, Assignment, Arrow, Choice, Else, Branch, Unique, CaseKind, CaseArms, BareArms, ArmBody}
 
 -- An expression, and what a value is assigned to.
 abbrev X : Item
@@ -81,9 +82,11 @@ page =
     ∷ (Member ⟶ key LocalparamKey ∷ rule Declaration ∷ mark Assign ∷ X ∷ mark Semicolon ∷ [] ⟹ ParameterMember LocalparamKey)
     ∷ (Member ⟶ rule AnyMacro ∷ rule MacroArguments ∷ rule LastSemicolon ∷ [] ⟹ MacroMember)
     ∷ (Member ⟶ word ∷ rule GivenList ∷ word ∷ mark OpenParen ∷ rule Connections ∷ mark CloseParen ∷ mark Semicolon ∷ [] ⟹ InstanceMember)
-    ∷ (Member ⟶ key AlwaysCombKey ∷ rule NoWait ∷ key BeginKey ∷ rule Statements ∷ [] ⟹ AlwaysMember AlwaysCombKey)
-    ∷ (Member ⟶ key AlwaysFFKey ∷ mark At ∷ mark OpenParen ∷ rule Events ∷ mark CloseParen ∷ key BeginKey ∷ rule Statements ∷ [] ⟹ AlwaysMember AlwaysFFKey)
-    ∷ (Member ⟶ key AlwaysKey ∷ mark At ∷ mark OpenParen ∷ rule Events ∷ mark CloseParen ∷ key BeginKey ∷ rule Statements ∷ [] ⟹ AlwaysMember AlwaysKey)
+    ∷ (Member ⟶ key AlwaysCombKey ∷ rule NoWait ∷ key BeginKey ∷ rule Statements ∷ [] ⟹ AlwaysMember AlwaysCombWord)
+    ∷ (Member ⟶ key AlwaysLatchKey ∷ rule NoWait ∷ key BeginKey ∷ rule Statements ∷ [] ⟹ AlwaysMember AlwaysLatchWord)
+    ∷ (Member ⟶ key InitialKey ∷ rule NoWait ∷ key BeginKey ∷ rule Statements ∷ [] ⟹ AlwaysMember InitialWord)
+    ∷ (Member ⟶ key AlwaysFFKey ∷ mark At ∷ mark OpenParen ∷ rule Events ∷ mark CloseParen ∷ key BeginKey ∷ rule Statements ∷ [] ⟹ AlwaysMember AlwaysFFWord)
+    ∷ (Member ⟶ key AlwaysKey ∷ mark At ∷ rule Awaited ∷ [])
     ∷ (Member ⟶ rule Choice ∷ [] ⟹ ConditionalMember)
     ∷ (Member ⟶ key FunctionKey ∷ key AutomaticKey ∷ rule Declaration ∷ mark OpenParen ∷ rule Inputs ∷ mark CloseParen ∷ mark Semicolon ∷ rule Locals ∷ rule FunctionBody ∷ key EndFunctionKey ∷ [] ⟹ FunctionMember)
     ∷ (Member ⟶ key ForKey ∷ Phrase LoopHead ∷ key BeginKey ∷ rule LoopLabel ∷ rule LoopMembers ∷ [] ⟹ LoopMember)
@@ -91,6 +94,8 @@ page =
     ∷ (NetKind ⟶ key RegKey ∷ [] ⟹ KindOf RegKey)
     ∷ (NetKind ⟶ key LogicKey ∷ [] ⟹ KindOf LogicKey)
     ∷ (NoWait ⟶ [] ⟹ NoMore listed.Event)
+    ∷ (Awaited ⟶ mark OpenParen ∷ rule Events ∷ mark CloseParen ∷ key BeginKey ∷ rule Statements ∷ [] ⟹ AlwaysMember AlwaysAtWord)
+    ∷ (Awaited ⟶ op Times ∷ rule NoWait ∷ key BeginKey ∷ rule Statements ∷ [] ⟹ AlwaysMember AlwaysStarWord)
     ∷ (AnyMacro ⟶ macro_word ∷ [])
     ∷ (AnyMacro ⟶ include_word ∷ [])
     ∷ (MacroArguments ⟶ [] ⟹ Nothing)
@@ -139,10 +144,12 @@ page =
     -- statements
     ∷ (Statements ⟶ key EndKey ∷ [] ⟹ NoMore listed.Statement)
     ∷ (Statements ⟶ rule Statement ∷ rule Statements ∷ [] ⟹ OneMore listed.Statement)
-    ∷ (Statement ⟶ rule Assignment ∷ [])
+    ∷ (Statement ⟶ L ∷ rule AfterTarget ∷ [] ⟹ Assigns)
     ∷ (Statement ⟶ key AssignKey ∷ L ∷ mark Assign ∷ X ∷ mark Semicolon ∷ [] ⟹ AssignsByWord)
     ∷ (Statement ⟶ rule Choice ∷ [] ⟹ Chooses)
     ∷ (Statement ⟶ rule Unique ∷ rule CaseKind ∷ [])
+    ∷ (AfterTarget ⟶ rule Arrow ∷ X ∷ mark Semicolon ∷ [])
+    ∷ (AfterTarget ⟶ mark Semicolon ∷ [] ⟹ Nothing)
     ∷ (Assignment ⟶ L ∷ rule Arrow ∷ X ∷ mark Semicolon ∷ [] ⟹ Assigns)
     ∷ (Arrow ⟶ mark Assign ∷ [] ⟹ Yes)
     ∷ (Arrow ⟶ op LessEqual ∷ [] ⟹ No)

@@ -2,7 +2,7 @@
 use Rattle.std.specs.Prelude.{ℕ, List, [], ◌∷◌, Bool, true, false, codes, Option, Some, None, if◌then◌else◌}
 use Rattle.vast_literal.specs.NormalExpr.{NormalExpr, NormalExprs, NoNormals, MoreNormals}
 use Rattle.vast_literal.specs.NormalFile as normal
-use Rattle.vast_literal.specs.NormalFile.{NormalStatement, BlockingStatement, NonblockingStatement, AssignStatement, ChoiceStatement, CaseStatement, NormalStatements, Done, Then, Arms, Only, Otherwise, Or, Labels, NoLabels, Label, Group, One, Range, NormalDeclaration, EdgeEvent, NameEvent, NormalConnection, NormalMember, DeclarationPart, AssignPart, ParameterPart, MacroPart, InstancePart, AlwaysPart, ConditionalPart, FunctionPart, LoopPart, NormalMembers, NoParts, MoreParts, NormalParameter, NormalPort, NormalItem, ModulePart, IncludePart, NormalFile}
+use Rattle.vast_literal.specs.NormalFile.{NormalStatement, BlockingStatement, NonblockingStatement, AssignStatement, TaskStatement, ChoiceStatement, CaseStatement, NormalStatements, Done, Then, Arms, Only, Otherwise, Or, Labels, NoLabels, Label, Group, One, Range, NormalDeclaration, EdgeEvent, NameEvent, NormalConnection, NormalMember, DeclarationPart, AssignPart, ParameterPart, MacroPart, InstancePart, AlwaysPart, ConditionalPart, FunctionPart, LoopPart, NormalMembers, NoParts, MoreParts, NormalParameter, NormalPort, NormalItem, ModulePart, IncludePart, NormalFile}
 use Rattle.vast_rows.specs.Events.{Event, Makes, Reads, Names}
 use Rattle.vast_rows.specs.Numbers.{Key}
 use Rattle.vast_rows.specs.Phrases.{IsExpression, IsLoop, IsPath}
@@ -30,6 +30,7 @@ unfoldable mutual
   trace_statement (BlockingStatement l r) es = Makes Assigns ∷ read l ∷ answer true ∷ read r ∷ es
   trace_statement (NonblockingStatement l r) es = Makes Assigns ∷ read l ∷ answer false ∷ read r ∷ es
   trace_statement (AssignStatement l r) es = Makes AssignsByWord ∷ read l ∷ read r ∷ es
+  trace_statement (TaskStatement x) es = Makes Assigns ∷ read x ∷ Makes Nothing ∷ es
   trace_statement (ChoiceStatement a) es = Makes Chooses ∷ trace_arms a es
   trace_statement (CaseStatement true k x a) es = Makes UniqueCase ∷ Makes (CaseOf k) ∷ read x ∷ trace_labels a es
   trace_statement (CaseStatement false k x a) es = Makes (CaseOf k) ∷ read x ∷ trace_labels a es

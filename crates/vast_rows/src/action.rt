@@ -3,7 +3,7 @@
 ghost use Rattle.std.specs.Prelude.{◌≡◌, MatchBool};
 ghost use Rattle.vast_rows.specs.Internal.Actions.{action_number};
 
-use vast_literal::Key;
+use vast_literal::{AlwaysKind, Key};
 
 /// What stands in a list.
 #[derive(Clone, Copy, Debug, PartialEq, Eq)]
@@ -61,8 +61,8 @@ pub enum Action {
     MacroMember,
     /// An instance of its module's name, what is given to parameters, its name, and its ports.
     InstanceMember,
-    /// A block by that word, of what it waits for and its statements.
-    AlwaysMember(Key),
+    /// A block of that kind, of what it waits for and its statements.
+    AlwaysMember(AlwaysKind),
     /// A conditional of its arms.
     ConditionalMember,
     /// A function of its declaration, inputs, locals and statements.
@@ -146,7 +146,7 @@ impl Action {
             Action::OneMore(what) => 50 + what as u16,
             Action::PortOf(key) => 60 + key as u16,
             Action::ParameterMember(key) => 100 + key as u16,
-            Action::AlwaysMember(key) => 140 + key as u16,
+            Action::AlwaysMember(kind) => 140 + kind as u16,
             Action::KindOf(key) => 180 + key as u16,
             Action::SignOf(key) => 220 + key as u16,
             Action::EdgeOf(key) => 260 + key as u16,

@@ -1,6 +1,6 @@
 -- What calls of loops keep.
-use Rattle.std.specs.Prelude.{true, false, [], codes, string_bytes}
-use Rattle.vast_literal.specs.declared.kind.AlwaysKind.TheVariants.{AlwaysFF, AlwaysAt, AlwaysComb}
+use Rattle.std.specs.Prelude.{true, false, codes, string_bytes}
+use Rattle.vast_literal.specs.declared.kind.AlwaysKind.TheVariants.{AlwaysFF, AlwaysAt, AlwaysComb, AlwaysStar, AlwaysLatch, Initial}
 use Rattle.vast_core.specs.declared.ast.scope.Scope.TheVariants.{Loop as ScopeLoop}
 use Rattle.vast_core.specs.declared.node.ParameterForm.TheVariants.{Plain as PlainForm, Defined as DefinedForm}
 use Rattle.vast_core.specs.Scopes.{with_scope_parameter}
@@ -9,26 +9,28 @@ use Rattle.vast_core.specs.Nests.{label_bytes}
 use Rattle.vast_core.specs.Growth.{next_node, with_member, next_continuous, with_assignment}
 use Rattle.vast_core.specs.Artifacts.{next_statement}
 use Rattle.vast_core.specs.Containers.{next_conditional, with_conditional}
-use Rattle.vast_core.specs.Loops.{next_always, next_loop, with_loop, with_loop_member}
-use Rattle.xlsynth_vast.specs.AlwaysBlocks.{with_scope_always}
+use Rattle.vast_core.specs.Loops.{next_loop, with_loop, with_loop_member}
 use Rattle.xlsynth_vast.specs.Inspections.{genvar_at}
-use Rattle.vast_script.specs.declared.answer.Answer.TheVariants.{GenerateLoop, LogicRef, VastAlwaysBase, LocalparamRef, VastStatement, Conditional, Nothing}
+use Rattle.vast_script.specs.declared.answer.Answer.TheVariants.{GenerateLoop, LogicRef, LocalparamRef, VastStatement, Conditional, Nothing}
 use Rattle.vast_script.specs.declared.step.LoopStep.{LoopStep}
-use Rattle.vast_script.specs.declared.step.LoopStep.TheVariants.{AddGenerateLoop, GenerateAddGenerateLoop, GenerateGenvar, GenerateAddAlwaysComb, GenerateAddAlwaysFf, GenerateAddAlwaysAt, GenerateAddLocalparam, GenerateAddTypedLocalparam, GenerateAddContinuousAssignment, GenerateAddConditional, GenerateAddBlankLine, GenerateAddComment, GenerateAddInstantiation, GenerateAddInlineStatement, GenerateAddMacroStatement}
+use Rattle.vast_script.specs.declared.step.LoopStep.TheVariants.{AddGenerateLoop, GenerateAddGenerateLoop, GenerateGenvar, GenerateAddAlwaysComb, GenerateAddAlwaysStar, GenerateAddAlwaysLatch, GenerateAddInitial, GenerateAddAlwaysFf, GenerateAddAlwaysAt, GenerateAddLocalparam, GenerateAddTypedLocalparam, GenerateAddContinuousAssignment, GenerateAddConditional, GenerateAddBlankLine, GenerateAddComment, GenerateAddInstantiation, GenerateAddInlineStatement, GenerateAddMacroStatement}
 use Rattle.vast_script.specs.Outcome.{Made, holding}
 use Rattle.vast_script.specs.Kinds.{a_module, a_loop, an_expr, a_definition, a_comment, an_instantiation, an_inline, a_macro_statement}
 use Rattle.vast_script.specs.Arguments.{one, two, three}
 use Rattle.xlsynth_vast.proofs.Kept.{keeps-then, keeps-same}
 use Rattle.vast_script.proofs.KeptOutcomes.{CallKeeps, given-keeps, holding-keeps}
-use Rattle.xlsynth_vast.proofs.KeptWords.{assignment-kept, conditional-kept, loop-kept, loop_member-kept, member-kept, scope_always-kept, scope_parameter-kept}
-use Rattle.vast_script.proofs.KeptStatements.{add_always-keeps}
+use Rattle.xlsynth_vast.proofs.KeptWords.{assignment-kept, conditional-kept, loop-kept, loop_member-kept, member-kept, scope_parameter-kept}
+use Rattle.vast_script.proofs.KeptStatements.{add_always-keeps, add_unclocked-keeps}
 use Rattle.vast_script.specs.Loops.{loop_call}
 
 pub loop-keeps : (step : LoopStep) → CallKeeps (loop_call step)
 loop-keeps (AddGenerateLoop owner name start end label) = λ b answers. given-keeps b (three a_module an_expr an_expr b answers owner start end) (λ (owner, start, end). Made (GenerateLoop (next_loop b)) (with_member owner (LoopEntry (next_loop b)) (with_loop (string_bytes name) start end (label_bytes label) b))) (λ (owner, start, end). keeps-then b (with_loop (string_bytes name) start end (label_bytes label) b) _ (loop-kept (string_bytes name) start end (label_bytes label) b) (member-kept owner (LoopEntry (next_loop b)) (with_loop (string_bytes name) start end (label_bytes label) b)))
 loop-keeps (GenerateAddGenerateLoop parent name start end label) = λ b answers. given-keeps b (three a_loop an_expr an_expr b answers parent start end) (λ (parent, start, end). Made (GenerateLoop (next_loop b)) (with_loop_member parent (LoopEntry (next_loop b)) (with_loop (string_bytes name) start end (label_bytes label) b))) (λ (parent, start, end). keeps-then b (with_loop (string_bytes name) start end (label_bytes label) b) _ (loop-kept (string_bytes name) start end (label_bytes label) b) (loop_member-kept parent (LoopEntry (next_loop b)) (with_loop (string_bytes name) start end (label_bytes label) b)))
 loop-keeps (GenerateGenvar generate) = λ b answers. given-keeps b (one a_loop b answers generate) (λ generate. holding (genvar_at b generate) (λ name. Made (LogicRef name) b)) (λ generate. holding-keeps b (genvar_at b generate) (λ name. Made (LogicRef name) b) (λ name. keeps-same b))
-loop-keeps (GenerateAddAlwaysComb generate) = λ b answers. given-keeps b (one a_loop b answers generate) (λ generate. Made (VastAlwaysBase (next_always b)) (with_scope_always (ScopeLoop generate) AlwaysComb [] b)) (λ generate. scope_always-kept (ScopeLoop generate) AlwaysComb [] b)
+loop-keeps (GenerateAddAlwaysComb generate) = add_unclocked-keeps a_loop ScopeLoop AlwaysComb generate
+loop-keeps (GenerateAddAlwaysStar generate) = add_unclocked-keeps a_loop ScopeLoop AlwaysStar generate
+loop-keeps (GenerateAddAlwaysLatch generate) = add_unclocked-keeps a_loop ScopeLoop AlwaysLatch generate
+loop-keeps (GenerateAddInitial generate) = add_unclocked-keeps a_loop ScopeLoop Initial generate
 loop-keeps (GenerateAddAlwaysFf generate events) = add_always-keeps a_loop ScopeLoop AlwaysFF (codes "always_ff") generate events.items
 loop-keeps (GenerateAddAlwaysAt generate events) = add_always-keeps a_loop ScopeLoop AlwaysAt (codes "always @") generate events.items
 loop-keeps (GenerateAddLocalparam generate name value) = λ b answers. given-keeps b (two a_loop an_expr b answers generate value) (λ (generate, value). Made (LocalparamRef (record { id = next_node b })) (with_scope_parameter (ScopeLoop generate) true (PlainForm (string_bytes name)) value b)) (λ (generate, value). scope_parameter-kept (ScopeLoop generate) true (PlainForm (string_bytes name)) value b)

@@ -3,14 +3,14 @@ use Rattle.std.specs.Prelude.{ℕ, Bool, true, false, not, List, [], Some, None,
 use Rattle.vast_literal.specs.declared.kind.DataKind.{DataKind}
 use Rattle.vast_literal.specs.declared.kind.DataKind.TheVariants.{Reg, Logic}
 use Rattle.vast_literal.specs.declared.kind.AlwaysKind.{AlwaysKind}
-use Rattle.vast_literal.specs.declared.kind.AlwaysKind.TheVariants.{AlwaysFF, AlwaysAt, AlwaysComb}
+use Rattle.vast_literal.specs.declared.kind.AlwaysKind.TheVariants.{AlwaysFF, AlwaysAt, AlwaysComb, AlwaysStar, AlwaysLatch, Initial}
 use Rattle.vast_literal.specs.declared.kind.CaseKind.{CaseKind}
 use Rattle.vast_literal.specs.declared.kind.CaseKind.TheVariants.{Case, CaseZ, CaseX}
 use Rattle.vast_core.specs.declared.ast.scope.Scope.TheVariants.{Module as ScopeModule}
 use Rattle.vast_core.specs.declared.ast.scope.Scope.{Scope}
 use Rattle.vast_core.specs.declared.node.Member.TheVariants.{Conditional as ConditionalEntry}
 use Rattle.vast_core.specs.declared.node.Statement.{Statement}
-use Rattle.vast_core.specs.declared.node.Statement.TheVariants.{Assignment as AssignStatement, Continuous as ContinuousStatement, Conditional as ConditionalStatement, Case as CasesStatement, BlankLine as BlankStatement, Comment as CommentStatement, Inline as InlineStatement}
+use Rattle.vast_core.specs.declared.node.Statement.TheVariants.{Assignment as AssignStatement, Continuous as ContinuousStatement, Task as TaskStatement, Conditional as ConditionalStatement, Case as CasesStatement, BlankLine as BlankStatement, Comment as CommentStatement, Inline as InlineStatement}
 use Rattle.vast_core.specs.Bench.{type_of}
 use Rattle.vast_core.specs.Growth.{next_logic_ref, with_member, with_assignment}
 use Rattle.vast_core.specs.Artifacts.{next_statement}
@@ -24,14 +24,14 @@ use Rattle.xlsynth_vast.specs.Functions.{may_be_function, with_function_member, 
 use Rattle.xlsynth_vast.specs.Inspections.{block_at, then_block_at, body_at, result_at}
 use Rattle.vast_script.specs.declared.answer.Answer.TheVariants.{VastFunction, LogicRef, VastAlwaysBase, VastStatementBlock, VastStatement, Conditional, CaseStatement, Nothing}
 use Rattle.vast_script.specs.declared.step.StatementStep.{StatementStep}
-use Rattle.vast_script.specs.declared.step.StatementStep.TheVariants.{AddFunction, FunctionAddInput, FunctionAddLogicInput, FunctionAddReg, FunctionAddLogic, FunctionBody, FunctionResult, AddAlwaysFf, AddAlwaysAt, AddAlwaysComb, StatementBlock, BlockAddBlockingAssignment, BlockAddNonblockingAssignment, BlockAddContinuousAssignment, BlockAddCommentText, BlockAddInlineText, BlockAddBlankLine, AddConditional, BlockAddCond, ConditionalThenBlock, ConditionalAddElseIf, ConditionalAddElse, BlockAddCase, BlockAddCasez, BlockAddCasex, CaseAddItem, CaseAddDefault, CaseSetUnique}
+use Rattle.vast_script.specs.declared.step.StatementStep.TheVariants.{AddFunction, FunctionAddInput, FunctionAddLogicInput, FunctionAddReg, FunctionAddLogic, FunctionBody, FunctionResult, AddAlwaysFf, AddAlwaysAt, AddAlwaysComb, AddAlwaysStar, AddAlwaysLatch, AddInitial, BlockAddTaskCall, StatementBlock, BlockAddBlockingAssignment, BlockAddNonblockingAssignment, BlockAddContinuousAssignment, BlockAddCommentText, BlockAddInlineText, BlockAddBlankLine, AddConditional, BlockAddCond, ConditionalThenBlock, ConditionalAddElseIf, ConditionalAddElse, BlockAddCase, BlockAddCasez, BlockAddCasex, CaseAddItem, CaseAddDefault, CaseSetUnique}
 use Rattle.vast_script.specs.Outcome.{Made, provided, allowed, holding}
 use Rattle.vast_script.specs.Kinds.{a_module, a_function, a_type, an_expr, an_always, a_block, a_conditional, a_case, Kind}
 use Rattle.vast_script.specs.Arguments.{one, two, three, one_and_many}
 use Rattle.xlsynth_vast.proofs.Kept.{keeps-then, keeps-same}
 use Rattle.vast_script.proofs.KeptOutcomes.{CallKeeps, given-keeps, provided-keeps, allowed-keeps, holding-keeps}
 use Rattle.xlsynth_vast.proofs.KeptWords.{scope_always-kept, assignment-kept, case-kept, case_arm-kept, case_unique-kept, conditional-kept, else-kept, else_if-kept, function_member-kept, member-kept, statement-kept, variable-kept}
-use Rattle.vast_script.specs.Statements.{add_function, function_add_variable, add_always, block_add_assignment, block_add, block_add_case, statement_call}
+use Rattle.vast_script.specs.Statements.{add_function, function_add_variable, add_always, add_unclocked, block_add_assignment, block_add, block_add_case, statement_call}
 
 add_function-keeps : (owner : ℕ) (name : List ℕ) (type : ℕ) → CallKeeps (add_function owner name type)
 add_function-keeps owner name type b answers = given-keeps b (two a_module a_type b answers owner type) (λ (owner, type). allowed (may_be_function (type_of b type) name (names_in b owner)) (λ _. Made (VastFunction (next_function b)) (with_function_member owner name type b))) (λ (owner, type). allowed-keeps b (may_be_function (type_of b type) name (names_in b owner)) (λ _. Made (VastFunction (next_function b)) (with_function_member owner name type b)) (λ _. function_member-kept owner name type b))
@@ -41,6 +41,9 @@ function_add_variable-keeps local kind word function name type b answers = given
 
 pub add_always-keeps : {H : Type 0} (owners : Kind H) (scope : H → Scope) (kind : AlwaysKind) (word : List ℕ) (owner : ℕ) (events : List ℕ) → CallKeeps (add_always owners scope kind word owner events)
 add_always-keeps owners scope kind word owner events b answers = given-keeps b (one_and_many owners an_expr b answers owner events) (λ (owner, events). allowed (unless_wrong_event word b events) (λ _. Made (VastAlwaysBase (next_always b)) (with_scope_always (scope owner) kind events b))) (λ (owner, events). allowed-keeps b (unless_wrong_event word b events) (λ _. Made (VastAlwaysBase (next_always b)) (with_scope_always (scope owner) kind events b)) (λ _. scope_always-kept (scope owner) kind events b))
+
+pub add_unclocked-keeps : {H : Type 0} (owners : Kind H) (scope : H → Scope) (kind : AlwaysKind) (owner : ℕ) → CallKeeps (add_unclocked owners scope kind owner)
+add_unclocked-keeps owners scope kind owner b answers = given-keeps b (one owners b answers owner) (λ owner. Made (VastAlwaysBase (next_always b)) (with_scope_always (scope owner) kind [] b)) (λ owner. scope_always-kept (scope owner) kind [] b)
 
 block_add_assignment-keeps : (nonblocking : Bool) (block : ℕ) (left : ℕ) (right : ℕ) → CallKeeps (block_add_assignment nonblocking block left right)
 block_add_assignment-keeps nonblocking block left right b answers = given-keeps b (three a_block an_expr an_expr b answers block left right) (λ (block, left, right). Made (VastStatement (next_statement b)) (with_statement block (AssignStatement (next_statement b)) (with_assignment (record { lhs = left; rhs = right; nonblocking = nonblocking }) b))) (λ (block, left, right). keeps-then b (with_assignment (record { lhs = left; rhs = right; nonblocking = nonblocking }) b) _ (assignment-kept (record { lhs = left; rhs = right; nonblocking = nonblocking }) b) (statement-kept block (AssignStatement (next_statement b)) (with_assignment (record { lhs = left; rhs = right; nonblocking = nonblocking }) b)))
@@ -61,11 +64,15 @@ statement-keeps (FunctionBody function) = λ b answers. given-keeps b (one a_fun
 statement-keeps (FunctionResult function) = λ b answers. given-keeps b (one a_function b answers function) (λ function. holding (result_at b function) (λ name. Made (LogicRef name) b)) (λ function. holding-keeps b (result_at b function) (λ name. Made (LogicRef name) b) (λ name. keeps-same b))
 statement-keeps (AddAlwaysFf owner events) = add_always-keeps a_module ScopeModule AlwaysFF (codes "always_ff") owner events.items
 statement-keeps (AddAlwaysAt owner events) = add_always-keeps a_module ScopeModule AlwaysAt (codes "always @") owner events.items
-statement-keeps (AddAlwaysComb owner) = λ b answers. given-keeps b (one a_module b answers owner) (λ owner. Made (VastAlwaysBase (next_always b)) (with_scope_always (ScopeModule owner) AlwaysComb [] b)) (λ owner. scope_always-kept (ScopeModule owner) AlwaysComb [] b)
+statement-keeps (AddAlwaysComb owner) = add_unclocked-keeps a_module ScopeModule AlwaysComb owner
+statement-keeps (AddAlwaysStar owner) = add_unclocked-keeps a_module ScopeModule AlwaysStar owner
+statement-keeps (AddAlwaysLatch owner) = add_unclocked-keeps a_module ScopeModule AlwaysLatch owner
+statement-keeps (AddInitial owner) = add_unclocked-keeps a_module ScopeModule Initial owner
 statement-keeps (StatementBlock always) = λ b answers. given-keeps b (one an_always b answers always) (λ always. holding (block_at b always) (λ block. Made (VastStatementBlock block) b)) (λ always. holding-keeps b (block_at b always) (λ block. Made (VastStatementBlock block) b) (λ block. keeps-same b))
 statement-keeps (BlockAddBlockingAssignment block left right) = block_add_assignment-keeps false block left right
 statement-keeps (BlockAddNonblockingAssignment block left right) = block_add_assignment-keeps true block left right
 statement-keeps (BlockAddContinuousAssignment block left right) = λ b answers. given-keeps b (three a_block an_expr an_expr b answers block left right) (λ (block, left, right). Made (VastStatement (next_statement b)) (with_statement block (ContinuousStatement (next_statement b)) (with_assignment (record { lhs = left; rhs = right; nonblocking = false }) b))) (λ (block, left, right). keeps-then b (with_assignment (record { lhs = left; rhs = right; nonblocking = false }) b) _ (assignment-kept (record { lhs = left; rhs = right; nonblocking = false }) b) (statement-kept block (ContinuousStatement (next_statement b)) (with_assignment (record { lhs = left; rhs = right; nonblocking = false }) b)))
+statement-keeps (BlockAddTaskCall block call) = λ b answers. given-keeps b (two a_block an_expr b answers block call) (λ (block, call). Made Nothing (with_statement block (TaskStatement call) b)) (λ (block, call). statement-kept block (TaskStatement call) b)
 statement-keeps (BlockAddCommentText block text) = block_add-keeps (CommentStatement (string_bytes text)) block
 statement-keeps (BlockAddInlineText block text) = block_add-keeps (InlineStatement (string_bytes text)) block
 statement-keeps (BlockAddBlankLine block) = block_add-keeps BlankStatement block

@@ -3,14 +3,14 @@ use Rattle.std.specs.Prelude.{ℕ, Bool, true, false, not, List, [], Some, None,
 use Rattle.vast_literal.specs.declared.kind.DataKind.{DataKind}
 use Rattle.vast_literal.specs.declared.kind.DataKind.TheVariants.{Reg, Logic}
 use Rattle.vast_literal.specs.declared.kind.AlwaysKind.{AlwaysKind}
-use Rattle.vast_literal.specs.declared.kind.AlwaysKind.TheVariants.{AlwaysFF, AlwaysAt, AlwaysComb}
+use Rattle.vast_literal.specs.declared.kind.AlwaysKind.TheVariants.{AlwaysFF, AlwaysAt, AlwaysComb, AlwaysStar, AlwaysLatch, Initial}
 use Rattle.vast_literal.specs.declared.kind.CaseKind.{CaseKind}
 use Rattle.vast_literal.specs.declared.kind.CaseKind.TheVariants.{Case, CaseZ, CaseX}
 use Rattle.vast_core.specs.declared.ast.scope.Scope.TheVariants.{Module as ScopeModule}
 use Rattle.vast_core.specs.declared.ast.scope.Scope.{Scope}
 use Rattle.vast_core.specs.declared.node.Member.TheVariants.{Conditional as ConditionalEntry}
 use Rattle.vast_core.specs.declared.node.Statement.{Statement}
-use Rattle.vast_core.specs.declared.node.Statement.TheVariants.{Assignment as AssignStatement, Continuous as ContinuousStatement, Conditional as ConditionalStatement, Case as CasesStatement, BlankLine as BlankStatement, Comment as CommentStatement, Inline as InlineStatement}
+use Rattle.vast_core.specs.declared.node.Statement.TheVariants.{Assignment as AssignStatement, Continuous as ContinuousStatement, Task as TaskStatement, Conditional as ConditionalStatement, Case as CasesStatement, BlankLine as BlankStatement, Comment as CommentStatement, Inline as InlineStatement}
 use Rattle.vast_core.specs.Bench.{type_of}
 use Rattle.vast_core.specs.Growth.{next_logic_ref, with_member, with_assignment}
 use Rattle.vast_core.specs.Artifacts.{next_statement}
@@ -24,7 +24,7 @@ use Rattle.xlsynth_vast.specs.Functions.{may_be_function, with_function_member, 
 use Rattle.xlsynth_vast.specs.Inspections.{block_at, then_block_at, body_at, result_at}
 use Rattle.vast_script.specs.declared.answer.Answer.TheVariants.{VastFunction, LogicRef, VastAlwaysBase, VastStatementBlock, VastStatement, Conditional, CaseStatement, Nothing}
 use Rattle.vast_script.specs.declared.step.StatementStep.{StatementStep}
-use Rattle.vast_script.specs.declared.step.StatementStep.TheVariants.{AddFunction, FunctionAddInput, FunctionAddLogicInput, FunctionAddReg, FunctionAddLogic, FunctionBody, FunctionResult, AddAlwaysFf, AddAlwaysAt, AddAlwaysComb, StatementBlock, BlockAddBlockingAssignment, BlockAddNonblockingAssignment, BlockAddContinuousAssignment, BlockAddCommentText, BlockAddInlineText, BlockAddBlankLine, AddConditional, BlockAddCond, ConditionalThenBlock, ConditionalAddElseIf, ConditionalAddElse, BlockAddCase, BlockAddCasez, BlockAddCasex, CaseAddItem, CaseAddDefault, CaseSetUnique}
+use Rattle.vast_script.specs.declared.step.StatementStep.TheVariants.{AddFunction, FunctionAddInput, FunctionAddLogicInput, FunctionAddReg, FunctionAddLogic, FunctionBody, FunctionResult, AddAlwaysFf, AddAlwaysAt, AddAlwaysComb, AddAlwaysStar, AddAlwaysLatch, AddInitial, BlockAddTaskCall, StatementBlock, BlockAddBlockingAssignment, BlockAddNonblockingAssignment, BlockAddContinuousAssignment, BlockAddCommentText, BlockAddInlineText, BlockAddBlankLine, AddConditional, BlockAddCond, ConditionalThenBlock, ConditionalAddElseIf, ConditionalAddElse, BlockAddCase, BlockAddCasez, BlockAddCasex, CaseAddItem, CaseAddDefault, CaseSetUnique}
 use Rattle.vast_script.specs.Outcome.{Call, Made, provided, allowed, holding, makes}
 use Rattle.vast_script.specs.Kinds.{a_module, a_function, a_type, an_expr, an_always, a_block, a_conditional, a_case, Kind}
 use Rattle.vast_script.specs.Arguments.{takes_one, takes_two, takes_three, takes_one_and_many}
@@ -44,6 +44,10 @@ abbrev pub add_always : {H : Type 0} → Kind H → (H → Scope) → AlwaysKind
 add_always owners scope kind word owner events =
     takes_one_and_many owners an_expr owner events
     (λ owner events b. allowed (unless_wrong_event word b events) (λ _. Made (VastAlwaysBase (next_always b)) (with_scope_always (scope owner) kind events b)))
+
+abbrev pub add_unclocked : {H : Type 0} → Kind H → (H → Scope) → AlwaysKind → ℕ → Call
+add_unclocked owners scope kind owner =
+    takes_one owners owner (λ owner. makes VastAlwaysBase next_always (with_scope_always (scope owner) kind []))
 
 abbrev pub block_add_assignment : (nonblocking : Bool) → (block left right : ℕ) → Call
 block_add_assignment nonblocking block left right =
@@ -70,12 +74,16 @@ statement_call (FunctionBody function) = takes_one a_function function (λ funct
 statement_call (FunctionResult function) = takes_one a_function function (λ function b. holding (result_at b function) (λ name. Made (LogicRef name) b))
 statement_call (AddAlwaysFf owner events) = add_always a_module ScopeModule AlwaysFF (codes "always_ff") owner events.items
 statement_call (AddAlwaysAt owner events) = add_always a_module ScopeModule AlwaysAt (codes "always @") owner events.items
-statement_call (AddAlwaysComb owner) = takes_one a_module owner (λ owner. makes VastAlwaysBase next_always (with_scope_always (ScopeModule owner) AlwaysComb []))
+statement_call (AddAlwaysComb owner) = add_unclocked a_module ScopeModule AlwaysComb owner
+statement_call (AddAlwaysStar owner) = add_unclocked a_module ScopeModule AlwaysStar owner
+statement_call (AddAlwaysLatch owner) = add_unclocked a_module ScopeModule AlwaysLatch owner
+statement_call (AddInitial owner) = add_unclocked a_module ScopeModule Initial owner
 statement_call (StatementBlock always) = takes_one an_always always (λ always b. holding (block_at b always) (λ block. Made (VastStatementBlock block) b))
 statement_call (BlockAddBlockingAssignment block left right) = block_add_assignment false block left right
 statement_call (BlockAddNonblockingAssignment block left right) = block_add_assignment true block left right
 statement_call (BlockAddContinuousAssignment block left right) = takes_three a_block an_expr an_expr block left right
     (λ block left right b. Made (VastStatement (next_statement b)) (with_statement block (ContinuousStatement (next_statement b)) (with_assignment (record { lhs = left; rhs = right; nonblocking = false }) b)))
+statement_call (BlockAddTaskCall block call) = takes_two a_block an_expr block call (λ block call b. Made Nothing (with_statement block (TaskStatement call) b))
 statement_call (BlockAddCommentText block text) = block_add (CommentStatement (string_bytes text)) block
 statement_call (BlockAddInlineText block text) = block_add (InlineStatement (string_bytes text)) block
 statement_call (BlockAddBlankLine block) = block_add BlankStatement block

@@ -91,6 +91,18 @@ pub(crate) fn replay_loop(
             let owner: GenerateLoop = one(file, answers, *owner)?;
             refusable_always(file.generate_add_always_comb(owner))
         }
+        LoopStep::GenerateAddAlwaysStar(owner) => {
+            let owner: GenerateLoop = one(file, answers, *owner)?;
+            refusable_always(file.generate_add_always_star(owner))
+        }
+        LoopStep::GenerateAddAlwaysLatch(owner) => {
+            let owner: GenerateLoop = one(file, answers, *owner)?;
+            refusable_always(file.generate_add_always_latch(owner))
+        }
+        LoopStep::GenerateAddInitial(owner) => {
+            let owner: GenerateLoop = one(file, answers, *owner)?;
+            refusable_always(file.generate_add_initial(owner))
+        }
         LoopStep::GenerateAddAlwaysFf(owner, events) => {
             generate_add_always_ff(file, answers, *owner, events)
         }

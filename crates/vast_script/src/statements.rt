@@ -134,6 +134,18 @@ pub(crate) fn replay_statement(
             let owner: VastModule = one(file, answers, *owner)?;
             refusable_always(file.add_always_comb(owner))
         }
+        StatementStep::AddAlwaysStar(owner) => {
+            let owner: VastModule = one(file, answers, *owner)?;
+            refusable_always(file.add_always_star(owner))
+        }
+        StatementStep::AddAlwaysLatch(owner) => {
+            let owner: VastModule = one(file, answers, *owner)?;
+            refusable_always(file.add_always_latch(owner))
+        }
+        StatementStep::AddInitial(owner) => {
+            let owner: VastModule = one(file, answers, *owner)?;
+            refusable_always(file.add_initial(owner))
+        }
         StatementStep::StatementBlock(always) => {
             let always: VastAlwaysBase = one(file, answers, *always)?;
             Ok(Answer::VastStatementBlock(file.statement_block(always)))
@@ -155,6 +167,10 @@ pub(crate) fn replay_statement(
                 file, answers, *owner, *left, *right,
             )?;
             statement(file.block_add_continuous_assignment(owner, &left, &right))
+        }
+        StatementStep::BlockAddTaskCall(owner, call) => {
+            let (owner, call): (VastStatementBlock, Expr) = two(file, answers, *owner, *call)?;
+            nothing(file.block_add_task_call(owner, &call))
         }
         StatementStep::BlockAddCommentText(owner, text) => {
             let owner: VastStatementBlock = one(file, answers, *owner)?;

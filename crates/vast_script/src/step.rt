@@ -148,6 +148,9 @@ pub enum LoopStep {
     GenerateAddInstantiation(usize, usize),
     GenerateAddInlineStatement(usize, usize),
     GenerateAddMacroStatement(usize, usize),
+    GenerateAddAlwaysStar(usize),
+    GenerateAddAlwaysLatch(usize),
+    GenerateAddInitial(usize),
 }
 
 /// Calls of functions, always blocks, conditionals and statements.
@@ -181,6 +184,10 @@ pub enum StatementStep {
     CaseAddItem(usize, usize),
     CaseAddDefault(usize),
     CaseSetUnique(usize, bool),
+    AddAlwaysStar(usize),
+    AddAlwaysLatch(usize),
+    AddInitial(usize),
+    BlockAddTaskCall(usize, usize),
 }
 
 /// Calls of parts that are made beforehand, and that add them to modules.

@@ -2,7 +2,7 @@
 use Rattle.std.proofs.Common.{◌≡◌, ℕ, suc, zero, ◌+◌, ◌<◌, ◌≤◌, IsTrue, nat_lt, List, [], ◌∷◌, ◌++◌, length, map, Option, Some, None, slice_get, Result, Ok, Err, OnErr, refl, sym, ap, ◌∙◌, arith, length-append, zero-le}
 use Rattle.std.specs.Prelude.{IfSome}
 use Rattle.vast_literal.specs.declared.error.VastFault.{VastFault}
-use Rattle.vast_literal.specs.Tree.{ElseIf as ElseIfTree, Else, CaseArm as CaseArmTree, MoreStatements, MoreMembers, AlwaysMember, FileItemTree, FileTree}
+use Rattle.vast_literal.specs.Tree.{TaskTree, ElseIf as ElseIfTree, Else, CaseArm as CaseArmTree, MoreStatements, MoreMembers, AlwaysMember, FileItemTree, FileTree}
 use Rattle.vast_core.specs.declared.handle.Expr.{Expr}
 use Rattle.vast_core.specs.declared.handle.VastDataType.{VastDataType}
 use Rattle.vast_core.specs.declared.handle.VastStatementBlock.{VastStatementBlock}
@@ -27,7 +27,7 @@ use Rattle.vast_core.specs.declared.node.Member.TheVariants.{Declaration as Decl
 use Rattle.vast_core.specs.declared.node.ParameterForm.TheVariants.{Plain as PlainForm, Int as IntForm, Defined as DefinedForm}
 use Rattle.vast_core.specs.Nests.{NestRecord, BlockRecord, ConditionalNestRecord, CaseNestRecord, LoopNestRecord, FunctionRecord, AlwaysRecord}
 use Rattle.vast_core.specs.declared.node.Statement.{Statement}
-use Rattle.vast_core.specs.declared.node.Statement.TheVariants.{Assignment as AssignStatement, Continuous as ContinuousStatement, Conditional as ConditionalStatement, Case as CasesStatement}
+use Rattle.vast_core.specs.declared.node.Statement.TheVariants.{Assignment as AssignStatement, Continuous as ContinuousStatement, Task as TaskStatement, Conditional as ConditionalStatement, Case as CasesStatement}
 use Rattle.vast_core.specs.declared.node.FunctionVariable.{FunctionVariable}
 use Rattle.vast_core.specs.Bench.{Bench, OwnsExpr, OwnsType, is_continuous, tree_of, type_of, maybe_tree_of, trees_of}
 use Rattle.vast_core.specs.Sound.{Each, HoldsBlock, EventSound, VariableSound, ConnectionSound, PortSound, ParameterPortSound, AssignmentSound, DefinitionSound, ArtifactSound, InstanceSound, MemberSound, StatementSound, ElseIfSound, CaseArmSound, AlwaysNewer, MemberNewer, LoopMemberSound, NestSound, FunctionSound, AlwaysSound, ModuleSound, RecordsSound}
@@ -174,6 +174,7 @@ pub record Meet (b : Bench) (from : ℕ) (f g : ℕ → Family) : Type 0 where
 statement-alike : (b c : Bench) → Alike b c → (f g : ℕ → Family) (i : ℕ) → Meet b (suc i) f g → (s : Statement) → StatementSound b i s → statement_in c f s ≡ statement_in b g s
 statement-alike b c a f g i q (AssignStatement s) h = let x = statement-at b c a s.id.index h.of_kind in rw (x.here, x.there, x.left, x.right) refl
 statement-alike b c a f g i q (ContinuousStatement s) h = let x = statement-at b c a s.id.index h.of_kind in rw (x.here, x.there, x.left, x.right) refl
+statement-alike b c a f g i q (TaskStatement call) h = ap TaskTree (expr-alike b c a call h)
 statement-alike b c a f g i q (ConditionalStatement x) h = ap conditional_statement (q.at x.id.index h.1 (conditional-place b x h.0))
 statement-alike b c a f g i q (CasesStatement x) h = ap case_statement (q.at x.id.index h.1 (case-place b x h.0))
 statement-alike b c a f g i q _ h = refl

@@ -1,9 +1,9 @@
-//! Always blocks (IEEE 1800-2017, 9.2.2), among the members of modules and of generate loops, as in the crate
-//! `xlsynth-vast`.
+//! Always and initial blocks (IEEE 1800-2017, 9.2), among the members of modules and of generate loops. The crate
+//! `xlsynth-vast` has `always_ff`, `always @` and `always_comb`.
 
 ghost use Rattle.std.specs.Prelude.{◌≡◌, Ok, All, [], IfOk, IfErr, Some, map, string_bytes, codes};
 ghost use Rattle.vast_literal.specs.Fault.{RefusedBy};
-ghost use Rattle.vast_literal.specs.declared.kind.AlwaysKind.TheVariants.{AlwaysFF, AlwaysAt, AlwaysComb};
+ghost use Rattle.vast_literal.specs.declared.kind.AlwaysKind.TheVariants.{AlwaysFF, AlwaysAt, AlwaysComb, AlwaysStar, AlwaysLatch, Initial};
 ghost use Rattle.vast_core.specs.declared.ast.scope.Scope.TheVariants.{Module as ScopeModule, Loop as ScopeLoop};
 ghost use Rattle.vast_core.specs.Bench.{OwnsModule, OwnsLoop, OwnsExpr, OwnsBlock, OwnsAlways};
 ghost use Rattle.vast_core.specs.Sound.{EventSound};
@@ -15,7 +15,9 @@ ghost use Rattle.xlsynth_vast.specs.Inspections.{block_at};
 
 use crate::file::VastFile;
 use std::alloc::{AllocError, Global};
-use vast_core::{Expr, GenerateLoop, Scope, VastAlwaysBase, VastModule, VastStatementBlock};
+use vast_core::{
+    AlwaysKind, Expr, GenerateLoop, Scope, VastAlwaysBase, VastModule, VastStatementBlock,
+};
 use vast_literal::{VastError, VastFault};
 
 /// The words that refuse the event at this place of a list, for an always block that begins with the word.
@@ -71,7 +73,10 @@ impl VastFile {
         ensures kept { Keeps self.old self.new }
     {
         let events = self.events("always_ff", sensitivity_list)?;
-        Ok(self.ast.push_always_ff(Scope::Module(owner), events)?)
+        Ok(
+            self.ast
+                .push_always(Scope::Module(owner), AlwaysKind::AlwaysFF, events)?,
+        )
     }
 
     /// An `always @` with these events and an empty block, as the module's last member; there may be no events.
@@ -93,7 +98,10 @@ impl VastFile {
         ensures kept { Keeps self.old self.new }
     {
         let events = self.events("always @", sensitivity_list)?;
-        Ok(self.ast.push_always_at(Scope::Module(owner), events)?)
+        Ok(
+            self.ast
+                .push_always(Scope::Module(owner), AlwaysKind::AlwaysAt, events)?,
+        )
     }
 
     /// An `always_comb` with an empty block, as the module's last member.
@@ -106,7 +114,58 @@ impl VastFile {
             (λ _. with_scope_always (ScopeModule owner) AlwaysComb []) }
         ensures kept { Keeps self.old self.new }
     {
-        Ok(self.ast.push_always_comb(Scope::Module(owner))?)
+        Ok(
+            self.ast
+                .push_unclocked(Scope::Module(owner), AlwaysKind::AlwaysComb)?,
+        )
+    }
+
+    /// An `always @*` with an empty block, as the module's last member.
+    ///
+    /// # Errors
+    /// As [`VastFile::add_always_comb`].
+    pub fn add_always_star(&mut self, owner: VastModule) -> Result<VastAlwaysBase, VastFault>
+        requires { OwnsModule self.old owner }
+        ensures built { MayBuild self.old self.new result no_refusal next_always
+            (λ _. with_scope_always (ScopeModule owner) AlwaysStar []) }
+        ensures kept { Keeps self.old self.new }
+    {
+        Ok(
+            self.ast
+                .push_unclocked(Scope::Module(owner), AlwaysKind::AlwaysStar)?,
+        )
+    }
+
+    /// An `always_latch` with an empty block, as the module's last member.
+    ///
+    /// # Errors
+    /// As [`VastFile::add_always_comb`].
+    pub fn add_always_latch(&mut self, owner: VastModule) -> Result<VastAlwaysBase, VastFault>
+        requires { OwnsModule self.old owner }
+        ensures built { MayBuild self.old self.new result no_refusal next_always
+            (λ _. with_scope_always (ScopeModule owner) AlwaysLatch []) }
+        ensures kept { Keeps self.old self.new }
+    {
+        Ok(
+            self.ast
+                .push_unclocked(Scope::Module(owner), AlwaysKind::AlwaysLatch)?,
+        )
+    }
+
+    /// An `initial` block with an empty block, as the module's last member.
+    ///
+    /// # Errors
+    /// As [`VastFile::add_always_comb`].
+    pub fn add_initial(&mut self, owner: VastModule) -> Result<VastAlwaysBase, VastFault>
+        requires { OwnsModule self.old owner }
+        ensures built { MayBuild self.old self.new result no_refusal next_always
+            (λ _. with_scope_always (ScopeModule owner) Initial []) }
+        ensures kept { Keeps self.old self.new }
+    {
+        Ok(
+            self.ast
+                .push_unclocked(Scope::Module(owner), AlwaysKind::Initial)?,
+        )
     }
 
     /// The block of the always block, which is the file's.
@@ -137,7 +196,10 @@ impl VastFile {
         ensures kept { Keeps self.old self.new }
     {
         let events = self.events("always_ff", sensitivity_list)?;
-        Ok(self.ast.push_always_ff(Scope::Loop(generate), events)?)
+        Ok(
+            self.ast
+                .push_always(Scope::Loop(generate), AlwaysKind::AlwaysFF, events)?,
+        )
     }
 
     /// An `always @` with these events and an empty block, as the loop's last member; there may be no events.
@@ -159,7 +221,10 @@ impl VastFile {
         ensures kept { Keeps self.old self.new }
     {
         let events = self.events("always @", sensitivity_list)?;
-        Ok(self.ast.push_always_at(Scope::Loop(generate), events)?)
+        Ok(
+            self.ast
+                .push_always(Scope::Loop(generate), AlwaysKind::AlwaysAt, events)?,
+        )
     }
 
     /// An `always_comb` with an empty block, as the loop's last member.
@@ -175,6 +240,66 @@ impl VastFile {
             (λ _. with_scope_always (ScopeLoop generate) AlwaysComb []) }
         ensures kept { Keeps self.old self.new }
     {
-        Ok(self.ast.push_always_comb(Scope::Loop(generate))?)
+        Ok(
+            self.ast
+                .push_unclocked(Scope::Loop(generate), AlwaysKind::AlwaysComb)?,
+        )
+    }
+
+    /// An `always @*` with an empty block, as the loop's last member.
+    ///
+    /// # Errors
+    /// As [`VastFile::add_always_comb`].
+    pub fn generate_add_always_star(
+        &mut self,
+        generate: GenerateLoop,
+    ) -> Result<VastAlwaysBase, VastFault>
+        requires { OwnsLoop self.old generate }
+        ensures built { MayBuild self.old self.new result no_refusal next_always
+            (λ _. with_scope_always (ScopeLoop generate) AlwaysStar []) }
+        ensures kept { Keeps self.old self.new }
+    {
+        Ok(
+            self.ast
+                .push_unclocked(Scope::Loop(generate), AlwaysKind::AlwaysStar)?,
+        )
+    }
+
+    /// An `always_latch` with an empty block, as the loop's last member.
+    ///
+    /// # Errors
+    /// As [`VastFile::add_always_comb`].
+    pub fn generate_add_always_latch(
+        &mut self,
+        generate: GenerateLoop,
+    ) -> Result<VastAlwaysBase, VastFault>
+        requires { OwnsLoop self.old generate }
+        ensures built { MayBuild self.old self.new result no_refusal next_always
+            (λ _. with_scope_always (ScopeLoop generate) AlwaysLatch []) }
+        ensures kept { Keeps self.old self.new }
+    {
+        Ok(
+            self.ast
+                .push_unclocked(Scope::Loop(generate), AlwaysKind::AlwaysLatch)?,
+        )
+    }
+
+    /// An `initial` block with an empty block, as the loop's last member.
+    ///
+    /// # Errors
+    /// As [`VastFile::add_always_comb`].
+    pub fn generate_add_initial(
+        &mut self,
+        generate: GenerateLoop,
+    ) -> Result<VastAlwaysBase, VastFault>
+        requires { OwnsLoop self.old generate }
+        ensures built { MayBuild self.old self.new result no_refusal next_always
+            (λ _. with_scope_always (ScopeLoop generate) Initial []) }
+        ensures kept { Keeps self.old self.new }
+    {
+        Ok(
+            self.ast
+                .push_unclocked(Scope::Loop(generate), AlwaysKind::Initial)?,
+        )
     }
 }

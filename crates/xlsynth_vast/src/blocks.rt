@@ -1,9 +1,9 @@
-//! Statements of blocks: assignments, comments, texts and blank lines (IEEE 1800-2017, 10.4), as in the crate
+//! Statements of blocks: assignments, calls, comments, texts and blank lines (IEEE 1800-2017, 10.4), as in the crate
 //! `xlsynth-vast`.
 
 ghost use Rattle.std.specs.Prelude.{true, false};
 ghost use Rattle.vast_core.specs.Bench.{OwnsBlock, OwnsExpr};
-ghost use Rattle.vast_core.specs.declared.node.Statement.TheVariants.{Assignment as AssignStatement, Continuous as ContinuousStatement, BlankLine as BlankStatement, Comment as CommentStatement, Inline as InlineStatement};
+ghost use Rattle.vast_core.specs.declared.node.Statement.TheVariants.{Assignment as AssignStatement, Continuous as ContinuousStatement, Task as TaskStatement, BlankLine as BlankStatement, Comment as CommentStatement, Inline as InlineStatement};
 ghost use Rattle.vast_core.specs.Growth.{Builds, Leaves, with_assignment};
 ghost use Rattle.vast_core.specs.Artifacts.{next_statement};
 ghost use Rattle.vast_core.specs.Containers.{with_statement};
@@ -86,6 +86,25 @@ impl VastFile {
         let point = InsertionPoint::Block(block);
         self.ast
             .append_assignment(point, AssignmentForm::Continuous, *lhs, *rhs)
+    }
+
+    /// The statement `f(a, b);` of a call, as the block's last: a task's or a system task's, made by
+    /// [`VastFile::make_function_call`], or the use of a macro. The original crate lacks it.
+    ///
+    /// # Errors
+    /// `AllocError` where a growth was refused; the file is unchanged.
+    pub fn block_add_task_call(
+        &mut self,
+        block: VastStatementBlock,
+        call: &Expr,
+    ) -> Result<(), AllocError>
+        requires block { OwnsBlock self.old block }
+        requires call { OwnsExpr self.old call.now }
+        ensures built { Leaves self.old self.new result
+            (with_statement block (TaskStatement call.now)) }
+        ensures kept { Keeps self.old self.new }
+    {
+        self.ast.append_statement(block, Statement::Task(*call))
     }
 
     /// A comment, as the block's last statement; each line of the text becomes a line of its own.

@@ -598,6 +598,22 @@ pub fn make(file: &mut VastFile, answers: &Answers, line: &Line) -> Result<Answe
             file.generate_add_macro_statement(generate, &statement);
             Ok(Answer::Nothing)
         }
+        "GenerateAddAlwaysStar" => {
+            let generate = answers.handle(&words[0])?;
+            Ok(Answer::VastAlwaysBase(
+                file.generate_add_always_star(generate)?,
+            ))
+        }
+        "GenerateAddAlwaysLatch" => {
+            let generate = answers.handle(&words[0])?;
+            Ok(Answer::VastAlwaysBase(
+                file.generate_add_always_latch(generate)?,
+            ))
+        }
+        "GenerateAddInitial" => {
+            let generate = answers.handle(&words[0])?;
+            Ok(Answer::VastAlwaysBase(file.generate_add_initial(generate)?))
+        }
         "AddFunction" => {
             let owner = answers.handle(&words[0])?;
             let name = words[1].text();
@@ -776,6 +792,24 @@ pub fn make(file: &mut VastFile, answers: &Answers, line: &Line) -> Result<Answe
             let case = answers.handle(&words[0])?;
             let unique = words[1].truth();
             file.case_set_unique(case, unique)?;
+            Ok(Answer::Nothing)
+        }
+        "AddAlwaysStar" => {
+            let owner = answers.handle(&words[0])?;
+            Ok(Answer::VastAlwaysBase(file.add_always_star(owner)?))
+        }
+        "AddAlwaysLatch" => {
+            let owner = answers.handle(&words[0])?;
+            Ok(Answer::VastAlwaysBase(file.add_always_latch(owner)?))
+        }
+        "AddInitial" => {
+            let owner = answers.handle(&words[0])?;
+            Ok(Answer::VastAlwaysBase(file.add_initial(owner)?))
+        }
+        "BlockAddTaskCall" => {
+            let block = answers.handle(&words[0])?;
+            let call = answers.handle(&words[1])?;
+            file.block_add_task_call(block, &call);
             Ok(Answer::Nothing)
         }
         "MakeDef" => {

@@ -1,7 +1,7 @@
 //! Always blocks.
 
 ghost use Rattle.std.specs.Prelude.{◌≡◌, All, Some, [], slice_get};
-ghost use Rattle.vast_literal.specs.declared.kind.AlwaysKind.TheVariants.{AlwaysFF, AlwaysAt, AlwaysComb};
+ghost use Rattle.vast_literal.specs.declared.kind.AlwaysKind.TheVariants.{AlwaysFF};
 ghost use Rattle.vast_core.specs.Records.{AlwaysEntry};
 ghost use Rattle.vast_core.specs.Nests.{always_record};
 ghost use Rattle.vast_core.specs.Bench.{OwnsAlways, OwnsBlock};
@@ -21,8 +21,13 @@ use std::alloc::AllocError;
 use vast_literal::AlwaysKind;
 
 impl Ast {
+    /// Adds an always block of the kind as the scope's last member, with these events and an empty block. Each event is an
+    /// edge or a name ([`Ast::first_wrong_event`]).
+    ///
+    /// # Errors
+    /// `AllocError` where a growth was refused; nothing changed.
     #[tactic(auto, using(crate::proofs::EntersScopes::enters_scopes))]
-    fn push_always(
+    pub fn push_always(
         &mut self,
         scope: Scope,
         kind: AlwaysKind,
@@ -54,56 +59,22 @@ impl Ast {
         Ok(always_block)
     }
 
-    /// Adds an `always_ff` block as the scope's last member, with these events and an empty block. Each event is an edge
-    /// or a name ([`Ast::first_wrong_event`]).
+    /// Adds an always block of the kind as the scope's last member, without events and with an empty block.
     ///
     /// # Errors
     /// `AllocError` where a growth was refused; nothing changed.
-    pub fn push_always_ff(
+    pub fn push_unclocked(
         &mut self,
         scope: Scope,
-        events: Vec<Expr>,
+        kind: AlwaysKind,
     ) -> Result<VastAlwaysBase, AllocError>
-        requires scope { OwnsScope (bench self.old) scope }
-        requires events { All (EventSound (bench self.old)) events.items }
-        ensures { Grows self.old self.new result next_always
-            (λ b. with_scope_member scope (AlwaysEntry (next_always b))
-            (with_always AlwaysFF events.items b)) }
-    {
-        self.push_always(scope, AlwaysKind::AlwaysFF, events)
-    }
-
-    /// Adds an `always` block as the scope's last member, with these events and an empty block. Each event is an edge or
-    /// a name ([`Ast::first_wrong_event`]).
-    ///
-    /// # Errors
-    /// `AllocError` where a growth was refused; nothing changed.
-    pub fn push_always_at(
-        &mut self,
-        scope: Scope,
-        events: Vec<Expr>,
-    ) -> Result<VastAlwaysBase, AllocError>
-        requires scope { OwnsScope (bench self.old) scope }
-        requires events { All (EventSound (bench self.old)) events.items }
-        ensures { Grows self.old self.new result next_always
-            (λ b. with_scope_member scope (AlwaysEntry (next_always b))
-            (with_always AlwaysAt events.items b)) }
-    {
-        self.push_always(scope, AlwaysKind::AlwaysAt, events)
-    }
-
-    /// Adds an `always_comb` block as the scope's last member, with an empty block.
-    ///
-    /// # Errors
-    /// `AllocError` where a growth was refused; nothing changed.
-    pub fn push_always_comb(&mut self, scope: Scope) -> Result<VastAlwaysBase, AllocError>
         requires { OwnsScope (bench self.old) scope }
         ensures { Grows self.old self.new result next_always
             (λ b. with_scope_member scope (AlwaysEntry (next_always b))
-            (with_always AlwaysComb [] b)) }
+            (with_always kind [] b)) }
     {
         let events = Vec::new(self.alloc);
-        self.push_always(scope, AlwaysKind::AlwaysComb, events)
+        self.push_always(scope, kind, events)
     }
 
     /// Adds an `always_ff` block as the scope's last member, with these events, over the file's detached block

@@ -37,8 +37,7 @@ pub(crate) fn arguments<'t, R: Source<'t>, S: Sink<'t>>(
             return Ok(true);
         }
     }
-    stack.push(more)?;
-    stack.push(Item::MakeOne)?;
+    stack.push_all(&[more, Item::MakeOne])?;
     expression(source, stack, sink)
 }
 
@@ -58,8 +57,7 @@ pub(crate) fn more<'t, R: Source<'t>, S: Sink<'t>>(
     match source.peek() {
         Some(Token::Mark(Mark::Comma)) => {
             source.skip();
-            stack.push(item)?;
-            stack.push(Item::MakePush)?;
+            stack.push_all(&[item, Item::MakePush])?;
             expression(source, stack, sink)
         }
         Some(Token::Mark(found)) => {
@@ -111,14 +109,15 @@ pub(crate) fn brace_next<'t, R: Source<'t>, S: Sink<'t>>(
     match source.peek() {
         Some(Token::Mark(Mark::OpenBrace)) => {
             source.skip();
-            stack.push(Item::MakeReplicated)?;
-            stack.push(Item::TakeCloseBrace)?;
-            stack.push(Item::ArgumentsBrace)?;
+            stack.push_all(&[
+                Item::MakeReplicated,
+                Item::TakeCloseBrace,
+                Item::ArgumentsBrace,
+            ])?;
             Ok(true)
         }
         _ => {
-            stack.push(Item::MakeConcat)?;
-            stack.push(Item::MoreBrace)?;
+            stack.push_all(&[Item::MakeConcat, Item::MoreBrace])?;
             sink.tell(Event::Made(Told::One))?;
             Ok(true)
         }

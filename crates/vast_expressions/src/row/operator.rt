@@ -105,8 +105,7 @@ pub(crate) fn operand<'t, R: Source<'t>, S: Sink<'t>>(
                 None => Ok(false),
                 Some(told) => {
                     source.skip();
-                    stack.push(told)?;
-                    stack.push(Item::Operand)?;
+                    stack.push_all(&[told, Item::Operand])?;
                     Ok(true)
                 }
             }
@@ -131,17 +130,14 @@ pub(crate) fn rest<'t, R: Source<'t>, S: Sink<'t>>(
                 None => Ok(true),
                 Some(right) => {
                     source.skip();
-                    stack.push(Item::Rest)?;
-                    stack.push(right)?;
+                    stack.push_all(&[Item::Rest, right])?;
                     operand(source, stack, sink)
                 }
             }
         }
         Some(Token::Mark(Mark::Question)) => {
             source.skip();
-            stack.push(Item::MakeTernary)?;
-            stack.push(Item::Expression)?;
-            stack.push(Item::TakeColon)?;
+            stack.push_all(&[Item::MakeTernary, Item::Expression, Item::TakeColon])?;
             expression(source, stack, sink)
         }
         _ => Ok(true),
@@ -165,8 +161,7 @@ pub(crate) fn right<'t, R: Source<'t>, S: Sink<'t>>(
         if binds.level() < sign.level() {
             if let Some(right) = Item::right(sign) {
                 source.skip();
-                stack.push(item)?;
-                stack.push(right)?;
+                stack.push_all(&[item, right])?;
                 return operand(source, stack, sink);
             }
         }

@@ -31,21 +31,21 @@ pub(crate) fn name<'t, R: Source<'t>, S: Sink<'t>>(
     match source.peek() {
         Some(Token::Mark(Mark::OpenParen)) => {
             source.skip();
-            stack.push(Item::Selects)?;
-            stack.push(Item::MakeCall)?;
-            stack.push(Item::ArgumentsParen)?;
+            stack.push_all(&[Item::Selects, Item::MakeCall, Item::ArgumentsParen])?;
             sink.tell(Event::Word(word))?;
             Ok(true)
         }
         Some(Token::Mark(Mark::DoubleColon)) => {
             source.skip();
-            stack.push(Item::Selects)?;
-            stack.push(Item::MakePackageCast)?;
-            stack.push(Item::TakeCloseParen)?;
-            stack.push(Item::Expression)?;
-            stack.push(Item::TakeOpenParen)?;
-            stack.push(Item::TakeApostrophe)?;
-            stack.push(Item::TypeName)?;
+            stack.push_all(&[
+                Item::Selects,
+                Item::MakePackageCast,
+                Item::TakeCloseParen,
+                Item::Expression,
+                Item::TakeOpenParen,
+                Item::TakeApostrophe,
+                Item::TypeName,
+            ])?;
             sink.tell(Event::Word(word))?;
             Ok(true)
         }
@@ -67,9 +67,7 @@ pub(crate) fn macro_word<'t, R: Source<'t>, S: Sink<'t>>(
     match source.peek() {
         Some(Token::Mark(Mark::OpenParen)) => {
             source.skip();
-            stack.push(Item::Selects)?;
-            stack.push(Item::MakeMacroCall)?;
-            stack.push(Item::ArgumentsParen)?;
+            stack.push_all(&[Item::Selects, Item::MakeMacroCall, Item::ArgumentsParen])?;
             sink.tell(Event::Word(word))?;
             Ok(true)
         }
@@ -77,9 +75,9 @@ pub(crate) fn macro_word<'t, R: Source<'t>, S: Sink<'t>>(
     }
 }
 
-/// The arguments of a system call.
-#[tactic(auto, unfolding(crate::specs::Internal::Fused::target_front, crate::specs::Rows::primary_row))]
-pub(crate) fn system_call<'t, R: Source<'t>, S: Sink<'t>>(
+/// What a system word heads: a call, or the word alone.
+#[tactic(auto, unfolding(crate::specs::Internal::Fused::target_front, crate::specs::Rows::primary_row, crate::specs::Rows::system_row))]
+pub(crate) fn system_word<'t, R: Source<'t>, S: Sink<'t>>(
     word: &'t str,
     source: &mut R,
     stack: &mut Stack<Item>,
@@ -88,12 +86,19 @@ pub(crate) fn system_call<'t, R: Source<'t>, S: Sink<'t>>(
     ensures { IfOk result (λ b. DoesAll S.hears target_front b (SystemWord word.now ∷ R.left source.old)
         stack.old stack.new (R.left source.new) sink.old sink.new) }
 {
-    stack.push(Item::Selects)?;
-    stack.push(Item::MakeCall)?;
-    stack.push(Item::ArgumentsParen)?;
-    stack.push(Item::TakeOpenParen)?;
-    sink.tell(Event::Word(word))?;
-    Ok(true)
+    match source.peek() {
+        Some(Token::Mark(Mark::OpenParen)) => {
+            source.skip();
+            stack.push_all(&[Item::Selects, Item::MakeCall, Item::ArgumentsParen])?;
+            sink.tell(Event::Word(word))?;
+            Ok(true)
+        }
+        _ => {
+            stack.push(Item::Selects)?;
+            sink.tell(Event::Name(word))?;
+            Ok(true)
+        }
+    }
 }
 
 /// What the keyword that stands next heads; one that heads nothing stays.
@@ -111,12 +116,14 @@ pub(crate) fn word_cast<'t, R: Source<'t>, S: Sink<'t>>(
         None => Ok(false),
         Some(told) => {
             source.skip();
-            stack.push(Item::Selects)?;
-            stack.push(told)?;
-            stack.push(Item::TakeCloseParen)?;
-            stack.push(Item::Expression)?;
-            stack.push(Item::TakeOpenParen)?;
-            stack.push(Item::TakeApostrophe)?;
+            stack.push_all(&[
+                Item::Selects,
+                told,
+                Item::TakeCloseParen,
+                Item::Expression,
+                Item::TakeOpenParen,
+                Item::TakeApostrophe,
+            ])?;
             Ok(true)
         }
     }
@@ -136,24 +143,27 @@ pub(crate) fn bracketed<'t, R: Source<'t>, S: Sink<'t>>(
     match mark {
         Mark::OpenParen => {
             source.skip();
-            stack.push(Item::Selects)?;
-            stack.push(Item::MaybeCast)?;
-            stack.push(Item::TakeCloseParen)?;
-            stack.push(Item::Expression)?;
+            stack.push_all(&[
+                Item::Selects,
+                Item::MaybeCast,
+                Item::TakeCloseParen,
+                Item::Expression,
+            ])?;
             Ok(true)
         }
         Mark::Apostrophe => {
             source.skip();
-            stack.push(Item::Selects)?;
-            stack.push(Item::MakePattern)?;
-            stack.push(Item::ArgumentsBrace)?;
-            stack.push(Item::TakeOpenBrace)?;
+            stack.push_all(&[
+                Item::Selects,
+                Item::MakePattern,
+                Item::ArgumentsBrace,
+                Item::TakeOpenBrace,
+            ])?;
             Ok(true)
         }
         Mark::OpenBrace => {
             source.skip();
-            stack.push(Item::Selects)?;
-            stack.push(Item::Braces)?;
+            stack.push_all(&[Item::Selects, Item::Braces])?;
             Ok(true)
         }
         _ => Ok(false),
@@ -181,7 +191,7 @@ pub(crate) fn target<'t, R: Source<'t>, S: Sink<'t>>(
         }
         Some(Token::SystemWord(word)) => {
             source.skip();
-            system_call(word, source, stack, sink)
+            system_word(word, source, stack, sink)
         }
         Some(Token::Number(text)) => {
             source.skip();
@@ -214,10 +224,12 @@ pub(crate) fn maybe_cast<'t, R: Source<'t>, S: Sink<'t>>(
     match source.peek() {
         Some(Token::Mark(Mark::Apostrophe)) => {
             source.skip();
-            stack.push(Item::MakeCast)?;
-            stack.push(Item::TakeCloseParen)?;
-            stack.push(Item::Expression)?;
-            stack.push(Item::TakeOpenParen)?;
+            stack.push_all(&[
+                Item::MakeCast,
+                Item::TakeCloseParen,
+                Item::Expression,
+                Item::TakeOpenParen,
+            ])?;
             Ok(true)
         }
         _ => Ok(true),

@@ -29,8 +29,7 @@ pub(crate) fn selects_after<'t, R: Source<'t>, S: Sink<'t>>(
 {
     if let Some(Token::Mark(Mark::OpenBracket)) = source.peek() {
         source.skip();
-        stack.push(Item::SelectEnd)?;
-        stack.push(Item::Expression)?;
+        stack.push_all(&[Item::SelectEnd, Item::Expression])?;
     }
     sink.tell(event)?;
     Ok(true)
@@ -50,16 +49,17 @@ pub(crate) fn cast_after<'t, R: Source<'t>, S: Sink<'t>>(
     match source.peek() {
         Some(Token::Mark(Mark::Apostrophe)) => {
             source.skip();
-            stack.push(Item::Selects)?;
-            stack.push(Item::MakeCast)?;
-            stack.push(Item::TakeCloseParen)?;
-            stack.push(Item::Expression)?;
-            stack.push(Item::TakeOpenParen)?;
+            stack.push_all(&[
+                Item::Selects,
+                Item::MakeCast,
+                Item::TakeCloseParen,
+                Item::Expression,
+                Item::TakeOpenParen,
+            ])?;
         }
         Some(Token::Mark(Mark::OpenBracket)) => {
             source.skip();
-            stack.push(Item::SelectEnd)?;
-            stack.push(Item::Expression)?;
+            stack.push_all(&[Item::SelectEnd, Item::Expression])?;
         }
         _ => {}
     }
@@ -79,8 +79,7 @@ pub(crate) fn selects<'t, R: Source<'t>, S: Sink<'t>>(
 {
     if let Some(Token::Mark(Mark::OpenBracket)) = source.peek() {
         source.skip();
-        stack.push(Item::SelectEnd)?;
-        stack.push(Item::Expression)?;
+        stack.push_all(&[Item::SelectEnd, Item::Expression])?;
     }
     Ok(true)
 }
@@ -102,9 +101,7 @@ pub(crate) fn select_end<'t, R: Source<'t>, S: Sink<'t>>(
         }
         Some(Token::Mark(Mark::Colon)) => {
             source.skip();
-            stack.push(Item::Selects)?;
-            stack.push(Item::MakeSlice)?;
-            stack.push(Item::TakeCloseBracket)?;
+            stack.push_all(&[Item::Selects, Item::MakeSlice, Item::TakeCloseBracket])?;
             expression(source, stack, sink)
         }
         Some(Token::Mark(Mark::PlusColon)) => {
@@ -112,8 +109,7 @@ pub(crate) fn select_end<'t, R: Source<'t>, S: Sink<'t>>(
             match source.peek() {
                 Some(Token::Number(word)) => {
                     source.skip();
-                    stack.push(Item::Selects)?;
-                    stack.push(Item::TakeCloseBracket)?;
+                    stack.push_all(&[Item::Selects, Item::TakeCloseBracket])?;
                     sink.tell(Event::PartSelect(word))?;
                     Ok(true)
                 }

@@ -38,6 +38,9 @@ pub(super) fn generate_loop_step(
         12 => arguments.two(LoopStep::GenerateAddInstantiation),
         13 => arguments.two(LoopStep::GenerateAddInlineStatement),
         14 => arguments.two(LoopStep::GenerateAddMacroStatement),
+        15 => arguments.one(LoopStep::GenerateAddAlwaysStar),
+        16 => arguments.one(LoopStep::GenerateAddAlwaysLatch),
+        17 => arguments.one(LoopStep::GenerateAddInitial),
         _ => Err(arguments.misfit(Problem::UnknownCall)),
     }
 }

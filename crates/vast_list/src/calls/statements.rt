@@ -51,6 +51,10 @@ pub(super) fn statement_step(
         25 => arguments.two(StatementStep::CaseAddItem),
         26 => arguments.one(StatementStep::CaseAddDefault),
         27 => arguments.two(StatementStep::CaseSetUnique),
+        28 => arguments.one(StatementStep::AddAlwaysStar),
+        29 => arguments.one(StatementStep::AddAlwaysLatch),
+        30 => arguments.one(StatementStep::AddInitial),
+        31 => arguments.two(StatementStep::BlockAddTaskCall),
         _ => Err(arguments.misfit(Problem::UnknownCall)),
     }
 }

@@ -20,6 +20,8 @@ pub(super) const BLANK_LINE: Parameter = Parameter("blank_line", kinds::BLANK_LI
 
 pub(super) const BLOCK: Parameter = Parameter("block", kinds::BLOCK);
 
+pub(super) const CALL: Parameter = Parameter("call", kinds::EXPRESSION);
+
 pub(super) const CASE: Parameter = Parameter("case", kinds::CASE);
 
 pub(super) const CLK: Parameter = Parameter("clk", kinds::EXPRESSION);

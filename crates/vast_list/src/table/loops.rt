@@ -7,7 +7,7 @@ use super::by_name::{
 use super::{CallRow, kinds};
 
 /// Calls of generate loops and their members.
-pub(crate) static CALLS: [CallRow; 15] = [
+pub(crate) static CALLS: [CallRow; 18] = [
     CallRow(
         "AddGenerateLoop",
         &[OWNER, NAME, START, END, LABEL],
@@ -67,4 +67,7 @@ pub(crate) static CALLS: [CallRow; 15] = [
         &[GENERATE, MACRO_STATEMENT],
         kinds::NOTHING,
     ),
+    CallRow("GenerateAddAlwaysStar", &[GENERATE], kinds::ALWAYS),
+    CallRow("GenerateAddAlwaysLatch", &[GENERATE], kinds::ALWAYS),
+    CallRow("GenerateAddInitial", &[GENERATE], kinds::ALWAYS),
 ];

@@ -1,13 +1,13 @@
 //! Calls of functions, always blocks, conditionals and statements.
 
 use super::by_name::{
-    ALWAYS, BLOCK, CASE, CONDITION, CONDITIONAL, DATA_TYPE, FUNCTION, LHS, NAME, OWNER, PATTERN,
-    RESULT_TYPE, RHS, SELECTOR, SENSITIVITY_LIST, TEXT, UNIQUE,
+    ALWAYS, BLOCK, CALL, CASE, CONDITION, CONDITIONAL, DATA_TYPE, FUNCTION, LHS, NAME, OWNER,
+    PATTERN, RESULT_TYPE, RHS, SELECTOR, SENSITIVITY_LIST, TEXT, UNIQUE,
 };
 use super::{CallRow, kinds};
 
 /// Calls of functions, always blocks, conditionals and statements.
-pub(crate) static CALLS: [CallRow; 28] = [
+pub(crate) static CALLS: [CallRow; 32] = [
     CallRow("AddFunction", &[OWNER, NAME, RESULT_TYPE], kinds::FUNCTION),
     CallRow(
         "FunctionAddInput",
@@ -68,4 +68,8 @@ pub(crate) static CALLS: [CallRow; 28] = [
     CallRow("CaseAddItem", &[CASE, PATTERN], kinds::BLOCK),
     CallRow("CaseAddDefault", &[CASE], kinds::BLOCK),
     CallRow("CaseSetUnique", &[CASE, UNIQUE], kinds::NOTHING),
+    CallRow("AddAlwaysStar", &[OWNER], kinds::ALWAYS),
+    CallRow("AddAlwaysLatch", &[OWNER], kinds::ALWAYS),
+    CallRow("AddInitial", &[OWNER], kinds::ALWAYS),
+    CallRow("BlockAddTaskCall", &[BLOCK, CALL], kinds::NOTHING),
 ];

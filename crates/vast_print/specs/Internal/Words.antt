@@ -70,14 +70,5 @@ for_opening = codes "for (genvar "
 unfoldable pub step_word : List ℕ
 step_word = codes " + 1) begin"
 
-unfoldable pub always_ff_opening : List ℕ
-always_ff_opening = codes "always_ff @ ("
-
-unfoldable pub always_at_opening : List ℕ
-always_at_opening = codes "always @ ("
-
-unfoldable pub always_comb_opening : List ℕ
-always_comb_opening = codes "always_comb "
-
 unfoldable pub endfunction_word : List ℕ
 endfunction_word = codes "endfunction"

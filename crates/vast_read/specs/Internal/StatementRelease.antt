@@ -23,6 +23,7 @@ abbrev pub statement_step : NormalStatement-F Rounds Rounds Rounds → Rounds
 statement_step (NormalStatement-F.Blocking l r) = of_nothing
 statement_step (NormalStatement-F.Nonblocking l r) = of_nothing
 statement_step (NormalStatement-F.Assign l r) = of_nothing
+statement_step (NormalStatement-F.Task x) = of_nothing
 statement_step (NormalStatement-F.Choice arms last) = of_choice arms (of_last last)
 statement_step (NormalStatement-F.Case unique word selector arms) = of_list arms
 

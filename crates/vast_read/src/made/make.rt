@@ -42,7 +42,7 @@ pub(crate) fn make(alloc: Global, action: Action, values: &mut Values<'_>) -> Re
         Action::ParameterMember(key) => parameter_member(alloc, key, values),
         Action::MacroMember => macro_member(alloc, values),
         Action::InstanceMember => instance_member(alloc, values),
-        Action::AlwaysMember(key) => always_member(alloc, key, values),
+        Action::AlwaysMember(kind) => always_member(alloc, kind, values),
         Action::ConditionalMember => conditional_member(alloc, values),
         Action::FunctionMember => function_member(alloc, values),
         Action::LoopMember => loop_member(alloc, values),

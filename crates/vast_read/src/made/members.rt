@@ -16,7 +16,7 @@ use crate::tree::{
     NormalExpr, NormalItem, NormalMember, NormalModule, NormalStatement, Parameter, Port,
 };
 use std::alloc::{AllocError, Global};
-use vast_literal::Key;
+use vast_literal::{AlwaysKind, Key};
 use vast_names::Word;
 
 /// A member of its declaration.
@@ -87,18 +87,18 @@ pub(crate) fn instance_member(alloc: Global, values: &mut Values<'_>) -> Result<
     values.push(Value::Member(NormalMember::Instance(Box::new(alloc, made)?)))
 }
 
-/// A block by that word, of what it waits for and its statements.
+/// A block of that kind, of what it waits for and its statements.
 pub(crate) fn always_member(
     alloc: Global,
-    key: Key,
+    kind: AlwaysKind,
     values: &mut Values<'_>,
 ) -> Result<(), AllocError>
-    ensures { IfOk result (λ _. Grown (make (action.AlwaysMember key) (seen values.old)) values.new) }
+    ensures { IfOk result (λ _. Grown (make (action.AlwaysMember kind) (seen values.old)) values.new) }
 {
     let events = wanted!(first::<Children<Event>>(values));
     let body = wanted!(first::<Children<NormalStatement>>(values));
     let made = Always {
-        word: key_word(alloc, key)?,
+        kind,
         events: events.reversed(),
         body: body.reversed(),
     };

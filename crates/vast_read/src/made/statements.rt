@@ -2,12 +2,13 @@
 #![tactic(auto, unfolding(vast_rows::specs::Built::make, vast_rows::specs::Built::of_one, vast_rows::specs::Built::of_two, vast_rows::specs::Built::of_three, vast_rows::specs::Built::of_four))]
 
 ghost use Rattle.std.specs.Prelude.{◌≡◌, ◌∷◌, IfOk, option_map, map};
-ghost use Rattle.vast_rows.specs.Built.{alternated, make};
+ghost use Rattle.vast_rows.specs.Built.{alternated, assigned, make};
 ghost use Rattle.vast_rows.specs.declared.action.Action.TheVariants as action;
 ghost use Rattle.vast_read.specs.Internal.Made.{Grown, arms_seen, seen, value_view};
 ghost use Rattle.vast_read.specs.Internal.StatementView.{arm_view};
 ghost use Rattle.vast_read.specs.StatementParts.{arms_of};
 ghost use Rattle.vast_read.specs.StatementView.{block_view};
+ghost use Rattle.vast_read.specs.View.{view};
 
 use crate::children::Children;
 use crate::macros::wanted;
@@ -18,20 +19,45 @@ use crate::tree::{Arm, CaseArm, NormalExpr, NormalStatement};
 use std::alloc::{AllocError, Global};
 use vast_literal::Key;
 
-/// An assignment of its sides, with whether it blocks between them.
-#[tactic(auto, unfolding(vast_literal::specs::FileGrammar::assignment, vast_rows::specs::Built::make, vast_rows::specs::Built::of_one, vast_rows::specs::Built::of_two, vast_rows::specs::Built::of_three, vast_rows::specs::Built::of_four))]
+/// A statement of its left side and what follows that.
+#[tactic(auto, unfolding(vast_rows::specs::Built::assigned, vast_rows::specs::Built::make, vast_rows::specs::Built::of_one))]
 pub(crate) fn assigns(values: &mut Values<'_>) -> Result<(), AllocError>
     ensures { IfOk result (λ _. Grown (make action.Assigns (seen values.old)) values.new) }
 {
     let left = wanted!(first::<Box<NormalExpr>>(values));
-    let blocks = wanted!(first::<bool>(values));
-    let right = wanted!(first::<Box<NormalExpr>>(values));
-    let made = if blocks {
-        NormalStatement::Blocking(left, right)
-    } else {
-        NormalStatement::Nonblocking(left, right)
-    };
-    values.push(Value::Statement(made))
+    match values.pop() {
+        None => Ok(()),
+        Some(value) => assigned(left, value, values),
+    }
+}
+
+/// The statement of what stands before this value: a call before nothing, or the left side of an assignment before
+/// whether that blocks, and its right side.
+#[tactic(auto, unfolding(vast_literal::specs::FileGrammar::assignment, vast_rows::specs::Built::assigned, vast_rows::specs::Built::of_one))]
+fn assigned<'t>(
+    left: Box<NormalExpr>,
+    value: Value<'t>,
+    values: &mut Values<'t>,
+) -> Result<(), AllocError>
+    ensures { IfOk result (λ _. Grown (assigned (view left.value)
+        (value_view value.entry ∷ seen values.old)) values.new) }
+{
+    match value {
+        Value::Nothing => values.push(Value::Statement(NormalStatement::Task(left))),
+        Value::Answer(blocks) => {
+            let right = wanted!(first::<Box<NormalExpr>>(values));
+            let made = if blocks {
+                NormalStatement::Blocking(left, right)
+            } else {
+                NormalStatement::Nonblocking(left, right)
+            };
+            values.push(Value::Statement(made))
+        }
+        other => {
+            drop(other);
+            Ok(())
+        }
+    }
 }
 
 /// An assignment by its word, of its sides.

@@ -5,6 +5,7 @@ use crate::tree::declaration::NormalDeclaration;
 use crate::tree::expression::NormalExpr;
 use crate::tree::member::{Connection, Event};
 use crate::tree::statement::NormalStatement;
+use vast_literal::AlwaysKind;
 use vast_names::Word;
 
 /// The use of a macro as a member.
@@ -34,9 +35,9 @@ pub struct Instance {
 /// An always block.
 #[derive(PartialEq, Drop)]
 pub struct Always {
-    /// `always_ff`, `always` or `always_comb`.
-    pub word: Word,
-    /// What it waits for.
+    /// Its form.
+    pub kind: AlwaysKind,
+    /// What it waits for, where that is listed.
     pub events: Children<Event>,
     /// Its block.
     pub body: Children<NormalStatement>,

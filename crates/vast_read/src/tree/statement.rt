@@ -10,7 +10,7 @@ use crate::tree::expression::NormalExpr;
 use std::alloc::Global;
 use vast_names::Word;
 
-/// A procedural statement (IEEE Std 1800-2017, clauses 10.4 and 12).
+/// A procedural statement (IEEE Std 1800-2017, clauses 10.4, 12 and 13.5).
 ///
 /// To let one go takes no memory, and no stack that grows with its depth. `==` calls itself for each part in turn until two
 /// differ, so it takes stack for each level that the two have in common.
@@ -23,6 +23,8 @@ pub enum NormalStatement {
     Nonblocking(Box<NormalExpr>, Box<NormalExpr>),
     /// A procedural continuous assignment, `assign left = right;`.
     Assign(Box<NormalExpr>, Box<NormalExpr>),
+    /// A call of a task or of a system task, or the use of a macro, `call;`.
+    Task(Box<NormalExpr>),
     /// A conditional: `if` and each `else if`, first to last, then the block of the last `else`.
     Choice(Children<Arm>, Option<Children<NormalStatement>>),
     /// A case: whether it is unique, its word (`case`, `casez` or `casex`), its selector, its arms.
@@ -91,6 +93,7 @@ impl NormalStatement {
             NormalStatement::Blocking(_left, _right)
             | NormalStatement::Nonblocking(_left, _right)
             | NormalStatement::Assign(_left, _right) => None,
+            NormalStatement::Task(_call) => None,
             NormalStatement::Choice(arms, last) => shed_arms(arms, last),
             NormalStatement::Case(is_unique, word, selector, arms) => match arms.split_last() {
                 None => None,
@@ -117,6 +120,7 @@ impl NormalStatement {
             NormalStatement::Blocking(_left, _right)
             | NormalStatement::Nonblocking(_left, _right)
             | NormalStatement::Assign(_left, _right) => taken(block),
+            NormalStatement::Task(_call) => taken(block),
             NormalStatement::Choice(arms, last) => {
                 let rest = NormalStatement::Choice(arms, Some(block));
                 match last {

@@ -1,5 +1,7 @@
 -- Each action by a number of its own.
 use Rattle.std.specs.Prelude.{ℕ, ◌+◌}
+use Rattle.vast_literal.specs.declared.kind.AlwaysKind.{AlwaysKind as AlwaysWord}
+use Rattle.vast_literal.specs.declared.kind.AlwaysKind.TheVariants.{AlwaysFF as AlwaysFFWord, AlwaysAt as AlwaysAtWord, AlwaysComb as AlwaysCombWord, AlwaysStar as AlwaysStarWord, AlwaysLatch as AlwaysLatchWord, Initial as InitialWord}
 use Rattle.vast_rows.specs.Numbers.{key_number}
 use Rattle.vast_rows.specs.declared.action.Action.{Action}
 use Rattle.vast_rows.specs.declared.action.Action.TheVariants.{Nothing, Yes, No, ModuleItem, IncludeItem, HeaderParameter, DeclarationMember, AssignMember, MacroMember, InstanceMember, ConditionalMember, FunctionMember, LoopMember, NameBefore, Packaged, Declares, GroupOf, Connects, ChangeOf, Assigns, AssignsByWord, Chooses, UniqueCase, Conditional, NoArms, Arm, DefaultArm, NoMore, OneMore, PortOf, ParameterMember, AlwaysMember, KindOf, SignOf, EdgeOf, CaseOf}
@@ -17,6 +19,14 @@ listed_number listed.Expression = 6
 listed_number listed.Connection = 7
 listed_number listed.Event = 8
 listed_number listed.Statement = 9
+
+abbrev pub always_number : AlwaysWord → ℕ
+always_number AlwaysFFWord = 0
+always_number AlwaysAtWord = 1
+always_number AlwaysCombWord = 2
+always_number AlwaysStarWord = 3
+always_number AlwaysLatchWord = 4
+always_number InitialWord = 5
 
 abbrev pub action_number : Action → ℕ
 action_number Nothing = 0
@@ -50,7 +60,7 @@ action_number (NoMore what) = 40 + listed_number what
 action_number (OneMore what) = 50 + listed_number what
 action_number (PortOf key) = 60 + key_number key
 action_number (ParameterMember key) = 100 + key_number key
-action_number (AlwaysMember key) = 140 + key_number key
+action_number (AlwaysMember word) = 140 + always_number word
 action_number (KindOf key) = 180 + key_number key
 action_number (SignOf key) = 220 + key_number key
 action_number (EdgeOf key) = 260 + key_number key

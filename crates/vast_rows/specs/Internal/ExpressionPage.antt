@@ -91,7 +91,7 @@ expression_page =
     ∷ (Primary ⟶ number_word ∷ rule MaybeCast ∷ [])
     ∷ (Primary ⟶ based ∷ [])
     ∷ (Primary ⟶ quoted ∷ [])
-    ∷ (Primary ⟶ system_word ∷ mark OpenParen ∷ rule Listed ∷ mark CloseParen ∷ [])
+    ∷ (Primary ⟶ system_word ∷ rule MacroList ∷ [])
     ∷ (Primary ⟶ rule AnyMacro ∷ rule MacroList ∷ [])
     ∷ (Primary ⟶ mark OpenParen ∷ rule Expression ∷ mark CloseParen ∷ rule MaybeCast ∷ [])
     ∷ (Primary ⟶ mark Apostrophe ∷ mark OpenBrace ∷ rule Listed ∷ mark CloseBrace ∷ [])

@@ -55,7 +55,7 @@ abbrev pub after_expressions : List Item
 after_expressions = mark CloseParen ∷ mark CloseBracket ∷ mark Comma ∷ mark Colon ∷ mark Semicolon ∷ key OrKey ∷ []
 
 abbrev pub after_targets : List Item
-after_targets = mark Assign ∷ op LessEqual ∷ []
+after_targets = mark Assign ∷ op LessEqual ∷ mark Semicolon ∷ []
 
 -- The kinds of token before which each is read as a whole, where it stands. A loop and a path end by themselves.
 abbrev pub stops : Phrase → ℕ

@@ -103,12 +103,13 @@ fn deep(alloc: Global, one: Part, other: Part) -> Result<NormalExpr, Fail> {
     Ok(tree)
 }
 
-/// An assignment, the statement, and an assignment.
+/// An assignment, the statement, an assignment and a call.
 fn framed(alloc: Global, inner: NormalStatement) -> Result<Children<NormalStatement>, Fail> {
     let mut statements = Children::new(alloc);
     statements.push(NormalStatement::Blocking(leaf(alloc)?, leaf(alloc)?))?;
     statements.push(inner)?;
     statements.push(NormalStatement::Assign(leaf(alloc)?, leaf(alloc)?))?;
+    statements.push(NormalStatement::Task(leaf(alloc)?))?;
     Ok(statements)
 }
 

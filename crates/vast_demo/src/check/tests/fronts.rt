@@ -19,7 +19,7 @@ type Row = (
     &'static [Kind],
 );
 
-const ROWS: [Row; 10] = [
+const ROWS: [Row; 12] = [
     (
         "",
         "",
@@ -28,7 +28,7 @@ const ROWS: [Row; 10] = [
         &[Kind::Reserved(Key::EndModule)],
     ),
     (
-        "module m; initial a",
+        "module m; final a",
         "module m; ",
         false,
         &[
@@ -36,6 +36,13 @@ const ROWS: [Row; 10] = [
             Kind::Reserved(Key::EndModule),
         ],
         &[Kind::Reserved(Key::End)],
+    ),
+    (
+        "module m; always @ a",
+        "module m; always @ ",
+        false,
+        &[OPEN, Kind::Operator(Sign::Times)],
+        &[Kind::Word, Kind::Operator(Sign::Plus)],
     ),
     (
         "module m; assign a = (b + ; endmodule",
@@ -92,6 +99,13 @@ const ROWS: [Row; 10] = [
         false,
         &[Kind::Reserved(Key::Wire)],
         &[Kind::Mark(Mark::Comma)],
+    ),
+    (
+        "module m; initial begin $display(a) end",
+        "module m; initial begin $display(a) ",
+        false,
+        &[SEMICOLON, Kind::Mark(Mark::Assign)],
+        &[CLOSE, Kind::Reserved(Key::End)],
     ),
 ];
 
