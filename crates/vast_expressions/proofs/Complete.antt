@@ -176,7 +176,7 @@ macro_alone_runs : (w : List ℕ) → IsRun 14 (MacroWord w ∷ []) (MacroAlone 
 unfolding trace operand_row arguments_row braces_row code primary_row
 macro_alone_runs w = of_primary _ _ (record { paren = λ rest. refl; brace = λ rest. refl; braces = λ rest. refl }) (λ rest. refl) (λ rest es q. macro_runs w rest es q)
 
-system_alone_runs : (w : List ℕ) → IsRun 14 (SystemWord w ∷ []) (Name w)
+system_alone_runs : (w : List ℕ) → IsRun 14 (SystemWord w ∷ []) (Call w NoNormals)
 unfolding trace operand_row arguments_row braces_row code primary_row
 system_alone_runs w = of_primary _ _ (record { paren = λ rest. refl; brace = λ rest. refl; braces = λ rest. refl }) (λ rest. refl) (λ rest es q. system_runs w rest es q)
 

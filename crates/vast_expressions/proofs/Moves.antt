@@ -3,7 +3,7 @@ use Rattle.std.proofs.Common.{◌≡◌, ℕ, suc, ◌≤◌, ◌<◌, true, fal
 use Rattle.std.proofs.lemmas.Bool.Decides.{nat_tests}
 use Rattle.vast_literal.specs.Tokens.{level, is_unary, Token, Reserved, Word, SystemWord, MacroWord, Operator, Mark}
 use Rattle.vast_expressions.specs.Signs.{Op, Punct, OpenParen, CloseParen, OpenBracket, Question, DoubleColon, Apostrophe, Key}
-use Rattle.vast_expressions.specs.Events.{Told, UnaryT, BinaryT, WordCastT, Event, NameE, MacroE, Made}
+use Rattle.vast_expressions.specs.Events.{Told, UnaryT, BinaryT, WordCastT, NoneT, CallT, Event, NameE, MacroE, WordE, Made}
 use Rattle.vast_literal.specs.Grammar.{is_cast_word}
 use Rattle.vast_expressions.specs.Phrases.{Quiet}
 use Rattle.vast_expressions.specs.Rows.{Item, Take, Emit, Expression, Operand, Rest, Right, Selects, Primary, MaybeCast, Goes, Tells, row, only_if, code, take_row, operand_row, rest_row, right_row, selects_row, word_row, system_row, macro_row, primary_row, maybe_cast_row, Runs, done, goes, tells}
@@ -91,7 +91,7 @@ unfolding macro_row
 plain_macro w (Mark OpenParen ∷ ts) q = absurd q
 plain_macro w _ q = refl
 
-plain_system : (w : List ℕ) (ts : List Token) → Quiet 14 ts → system_row w ts ≡ Tells (NameE w) [] ts
+plain_system : (w : List ℕ) (ts : List Token) → Quiet 14 ts → system_row w ts ≡ Tells (WordE w) (Emit NoneT ∷ Emit CallT ∷ []) ts
 unfolding system_row
 plain_system w (Mark OpenParen ∷ ts) q = absurd q
 plain_system w _ q = refl
@@ -112,9 +112,9 @@ pub macro_runs : (w : List ℕ) (ts : List Token) (es : List Event) → Quiet 14
 unfolding primary_row
 macro_runs w ts es q = tells (plain_macro w ts q) done done
 
-pub system_runs : (w : List ℕ) (ts : List Token) (es : List Event) → Quiet 14 ts → Runs (Primary ∷ []) (SystemWord w ∷ ts) (NameE w ∷ es) ts es
+pub system_runs : (w : List ℕ) (ts : List Token) (es : List Event) → Quiet 14 ts → Runs (Primary ∷ []) (SystemWord w ∷ ts) (WordE w ∷ Made NoneT ∷ Made CallT ∷ es) ts es
 unfolding primary_row
-system_runs w ts es q = tells (plain_system w ts q) done done
+system_runs w ts es q = tells (plain_system w ts q) (emitted NoneT (emitted CallT done)) done
 
 pub word_cast_row : (k : Key) (ts : List Token) → IsTrue (is_cast_word k) → primary_row (Reserved k ∷ ts) ≡ Goes (Take Apostrophe ∷ Take OpenParen ∷ Expression ∷ Take CloseParen ∷ Emit (WordCastT k) ∷ []) ts
 unfolding primary_row

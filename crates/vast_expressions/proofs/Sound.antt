@@ -328,7 +328,8 @@ system_sound w (Mark OpenParen ∷ ts) us es fs (ds, e, m) = go m
     go : MeansAll (Arguments CloseParen ∷ Emit CallT ∷ []) ts ds us fs → Extends 14 [] (SystemWord w ∷ (Mark OpenParen ∷ ts)) es us fs
     go (vs, gs, l, (xs, hs, (p, q), (r, s))) = let a = l.whole in let b = l.told in
         record { front = SystemWord w ∷ (Mark OpenParen ∷ (l.front ++ (Mark CloseParen ∷ []))); tree = Call w l.trees; whole = simp append_assoc (cc (a, p, r)); told = cc (e, b, q, s); spelled = system_call w l.spelled }
-system_sound w ts us es fs m = token_sound (SystemWord w) (Name w) ts us es m.0 fs (system_alone w) m.1 m.2
+system_sound w ts us es fs (ds, e, (vs, gs, (n, m), (xs, hs, (p, q), (r, s)))) =
+    record { front = SystemWord w ∷ []; tree = Call w NoNormals; whole = cc (n, p, r); told = cc (e, m, q, s); spelled = system_alone w }
 
 primary_sound : (ts us : List Token) (es fs : List Event) → RowMeans (primary_row ts) es us fs → Extends 14 [] ts es us fs
 unfolding primary_row trace

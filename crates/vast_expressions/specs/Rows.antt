@@ -89,7 +89,7 @@ macro_row w ts = Tells (MacroE w) [] ts
 
 unfoldable pub system_row : List ℕ → List Token → Row
 system_row w (Mark OpenParen ∷ ts) = Tells (WordE w) (Arguments CloseParen ∷ Emit CallT ∷ []) ts
-system_row w ts = Tells (NameE w) [] ts
+system_row w ts = Tells (WordE w) (Emit NoneT ∷ Emit CallT ∷ []) ts
 
 abbrev pub cast_word_row : Key → List Token → Row
 cast_word_row k ts = only_if (is_cast_word k) (Goes (Take Apostrophe ∷ Take OpenParen ∷ Expression ∷ Take CloseParen ∷ Emit (WordCastT k) ∷ []) ts)

@@ -57,6 +57,7 @@ pub(crate) enum Item {
     MakeTernary,
     MakeIndex,
     MakeSlice,
+    MakeNone,
     MakeOne,
     MakePush,
     MakeConcat,

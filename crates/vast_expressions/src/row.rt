@@ -49,6 +49,7 @@ fn told<'t, R: Source<'t>, S: Sink<'t>>(
         Item::MakeTernary => make(Told::Ternary, sink),
         Item::MakeIndex => make(Told::Index, sink),
         Item::MakeSlice => make(Told::Slice, sink),
+        Item::MakeNone => make(Told::NoneYet, sink),
         Item::MakeOne => make(Told::One, sink),
         Item::MakePush => make(Told::Push, sink),
         Item::MakeConcat => make(Told::Concat, sink),

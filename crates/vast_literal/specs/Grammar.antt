@@ -41,7 +41,7 @@ mutual
     -- f ( es )
     call : {ts : List Token} {xs : NormalExprs} (f : List ℕ) → SpellsList ts xs → Spells 14 (Word f ∷ (Mark OpenParen ∷ (ts ++ (Mark CloseParen ∷ [])))) (Call f xs)
     system_call : {ts : List Token} {xs : NormalExprs} (f : List ℕ) → SpellsList ts xs → Spells 14 (SystemWord f ∷ (Mark OpenParen ∷ (ts ++ (Mark CloseParen ∷ [])))) (Call f xs)
-    system_alone : (f : List ℕ) → Spells 14 (SystemWord f ∷ []) (Name f)
+    system_alone : (f : List ℕ) → Spells 14 (SystemWord f ∷ []) (Call f NoNormals)
     -- { es }
     concat : {ts : List Token} {xs : NormalExprs} → SpellsList ts xs → Spells 14 (Mark OpenBrace ∷ (ts ++ (Mark CloseBrace ∷ []))) (Concat xs)
     -- { n { es } }

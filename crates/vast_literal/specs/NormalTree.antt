@@ -1,6 +1,6 @@
 -- The normal form of a file's tree: what of it the tokens of its text tell. It tells of plain files alone (`is_plain_file`): in
 -- others an inline text, which may stand for anything, is left out, and a name that is no identifier stands as it is written.
-use Rattle.std.specs.Prelude.{ℕ, ℤ, pos, ◌-ℤ◌, Bool, List, [], ◌∷◌, ◌++◌, map, codes, Option, Some, None, if◌then◌else◌}
+use Rattle.std.specs.Prelude.{ℕ, eqb, ℤ, pos, ◌-ℤ◌, Bool, cond, List, [], ◌∷◌, ◌++◌, map, codes, Option, Some, None, if◌then◌else◌}
 use Rattle.std.specs.Fmt.{signed_decimal}
 use Rattle.vast_literal.specs.Tokens.{Minus, Key, CaseKey, CasezKey, CasexKey, WireKey, RegKey, LogicKey, IntegerKey, IntKey, GenvarKey, ParameterKey, LocalparamKey, PosedgeKey, NegedgeKey, InputKey, OutputKey, InOutKey}
 use Rattle.vast_literal.specs.Tree.{Dialect, VerilogDialect, SystemVerilogDialect, ExprTree, NameTree, PosEdgeTree, NegEdgeTree, MacroTree, Exprs, NoExprs, MoreExprs, MaybeExpr, NoExpr, SomeExpr, MaybeExprs, NoArguments, SomeArguments, MaybeType, Untyped, Typed}
@@ -106,10 +106,11 @@ normal_assignment Blocking left right = BlockingStatement left right
 normal_assignment Nonblocking left right = NonblockingStatement left right
 normal_assignment Continuous left right = AssignStatement left right
 
--- A call as a statement.
+-- A call as a statement. A task's name alone is a name, but a system task's is a call of nothing.
 unfoldable pub normal_task : (alone : Option (List ℕ)) → (call : NormalExpr) → NormalExpr
 normal_task None call = call
-normal_task (Some name) call = Name name
+normal_task (Some []) call = Name []
+normal_task (Some (c ∷ cs)) call = cond (eqb c 36) call (Name (c ∷ cs))
 
 unfoldable pub normal_label : MaybeExpr → Option NormalExpr
 normal_label NoExpr = None

@@ -1,6 +1,6 @@
 -- Which item of the grammar each item of the code is.
 use Rattle.vast_expressions.specs.Signs as sign
-use Rattle.vast_expressions.specs.Events.{UnaryT, TernaryT, IndexT, SliceT, OneT, PushT, ConcatT, PatternT, ReplicatedT, CallT, MacroCallT, CastT, PackageCastT, WordCastT}
+use Rattle.vast_expressions.specs.Events.{UnaryT, TernaryT, IndexT, SliceT, NoneT, OneT, PushT, ConcatT, PatternT, ReplicatedT, CallT, MacroCallT, CastT, PackageCastT, WordCastT}
 use Rattle.vast_expressions.specs.Rows.{Item, Take, Emit, Expression, Target, Rest, Right, Operand, Selects, SelectEnd, MaybeCast, TypeName, Arguments, More, Braces, BraceNext}
 use Rattle.vast_expressions.specs.declared.item.Item.{Item as Code}
 use Rattle.vast_expressions.specs.declared.item.Item.TheVariants as item
@@ -31,6 +31,7 @@ item_view item.TakeApostrophe = Take sign.Apostrophe
 item_view item.MakeTernary = Emit TernaryT
 item_view item.MakeIndex = Emit IndexT
 item_view item.MakeSlice = Emit SliceT
+item_view item.MakeNone = Emit NoneT
 item_view item.MakeOne = Emit OneT
 item_view item.MakePush = Emit PushT
 item_view item.MakeConcat = Emit ConcatT

@@ -94,8 +94,8 @@ pub(crate) fn system_word<'t, R: Source<'t>, S: Sink<'t>>(
             Ok(true)
         }
         _ => {
-            stack.push(Item::Selects)?;
-            sink.tell(Event::Name(word))?;
+            stack.push_all(&[Item::Selects, Item::MakeCall, Item::MakeNone])?;
+            sink.tell(Event::Word(word))?;
             Ok(true)
         }
     }
