@@ -4,7 +4,7 @@ use Rattle.std.proofs.lemmas.Bool.{and_from}
 use Rattle.std.specs.Fmt.{signed_decimal}
 use Rattle.vast_literal.specs.Tokens.{Minus, level, WireKey, RegKey, LogicKey, IntegerKey, IntKey, GenvarKey, SignedKey, UnsignedKey, Token}
 use Rattle.vast_literal.specs.Tree.{Dialect, VerilogDialect, SystemVerilogDialect, ExprTree, Exprs, NoExprs, MoreExprs, NameTree, IndexTree, SliceTree, PartSelectTree, ConcatTree, MacroTree, CallTree, TypeTree, ScalarTree, VectorTree, IntegerTree, IntTree, ExternalTree, PackageTree, PackedTree, UnpackedTree, Kind, RegKind, WireKind, LogicKind, IntegerKind, IntKind, UserKind, UntypedEnumKind, GenvarKind, Declaration}
-use Rattle.vast_literal.specs.NormalExpr.{Name, Call, NoNormals, scalar_sign, integer_sign, normal}
+use Rattle.vast_literal.specs.NormalExpr.{Name, scalar_sign, integer_sign, normal}
 use Rattle.vast_literal.specs.Grammar.{Spells, binary, number, name as a_name, system_alone}
 use Rattle.vast_literal.specs.FileGrammar.{IsMany, no_items, more_items, is_kind, is_sign, IsGroup, one, range, IsMaybe, absent, present, IsTypeName, no_type, own_type, packaged, IsDeclaration, declares}
 use Rattle.vast_literal.specs.Plain.{is_plain_name, is_plain, is_plain_type, are_plain}
@@ -52,13 +52,13 @@ call_level _ h s = absurd (cc h)
 call_spelled : (e : ExprTree) → (is_call e && is_plain e) ≡ true → is_well_formed e ≡ true → Spells 13 (expr_tokens e) (normal e)
 call_spelled e p w = call_level e (and_left (is_call e) (is_plain e) p) (spelled e (and_right (is_call e) (is_plain e) p) w)
 
-alone_spelled : (name : List ℕ) → Spells 14 (called_token name ∷ []) (normal_task (Some name) (Call name NoNormals))
-unfolding normal_task
+alone_spelled : (name : List ℕ) → Spells 14 (called_token name ∷ []) (normal_task (Some name) (normal (CallTree name NoExprs)))
+unfolding normal_task normal
 alone_spelled [] = a_name []
 alone_spelled (c ∷ cs) = by_test (eqb c 36) (λ e. rw e (system_alone (c ∷ cs))) (λ e. rw e (a_name (c ∷ cs)))
 
 pub task_spelled : (e : ExprTree) → (is_call e && is_plain e) ≡ true → is_well_formed e ≡ true → Spells 13 (called_tokens (name_alone e) (expr_tokens e)) (normal_task (name_alone e) (normal e))
-unfolding called_tokens
+unfolding called_tokens normal_task
 task_spelled (CallTree name NoExprs) p w = lower 14 13 _ _ (omega arith) (omega arith) (alone_spelled name)
 task_spelled (CallTree name (MoreExprs part parts)) p w = call_spelled (CallTree name (MoreExprs part parts)) p w
 task_spelled (MacroTree name arguments) p w = call_spelled (MacroTree name arguments) p w
