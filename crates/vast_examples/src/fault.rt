@@ -16,9 +16,15 @@ pub enum ExampleFault {
     /// A name that was passed in is taken.
     #[error("a name that is taken")]
     Taken,
-    /// A width that was passed in is a literal below 1.
+    /// A width that was passed in is below 1.
     #[error("a width below 1")]
     Width,
+    /// A depth that was passed in is no power of two above 1.
+    #[error("a depth that is no power of two above 1")]
+    Depth,
+    /// A bit has no clock.
+    #[error("a number of clocks below 1")]
+    Clocks,
     /// A call was refused, or memory was.
     #[error(transparent)]
     Refused(#[from] VastFault),

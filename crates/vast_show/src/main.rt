@@ -1,7 +1,6 @@
 //! Prints the examples that its words name: `vast_show counter states pipeline registers hierarchy fifo uart`.
 #![tactic(auto)]
 
-mod designs;
 mod program;
 
 use program::run;

@@ -3,7 +3,6 @@
 ghost use Rattle.std.specs.Prelude.{◌≡◌, ◌≤◌, length};
 ghost use Rattle.vast_show.specs.Shown.{ShowsFile, ShowsFiles};
 
-use crate::designs::{fifo, uart};
 use std::alloc::Global;
 use std::io::Write;
 use vast_examples::example;
@@ -25,18 +24,12 @@ pub(crate) fn run<W: Write, E: Write>(alloc: Global, words: &[&str], out: &mut W
     0
 }
 
-/// Prints one example: a queue, a transmitter, or one of `vast_examples`.
+/// Prints one example.
 #[tactic(auto, using(crate::proofs::Shown::shown))]
 fn show<W: Write, E: Write>(alloc: Global, word: &str, out: &mut W, err: &mut E) -> u8
     ensures status { result ≤ 1 }
     ensures shown { result ≡ 0 → ShowsFile (W.contents out.old) (W.contents out.new) }
     ensures silent { result ≡ 0 → E.contents err.new ≡ E.contents err.old }
 {
-    if word == "fifo" {
-        print(fifo(alloc, 8, 16), out, err)
-    } else if word == "uart" {
-        print(uart(alloc, 4), out, err)
-    } else {
-        print(example(alloc, word), out, err)
-    }
+    print(example(alloc, word), out, err)
 }

@@ -1,6 +1,6 @@
 -- Each call keeps what the file had before it, so what it had before the first is kept after the last.
 use Rattle.xlsynth_vast.proofs.Kept.{keeps-then}
-use Rattle.vast_fifo.proofs.add_parts.Goals as goal
+use Rattle.vast_examples.proofs.fifo.add_parts.Goals as goal
 
 pub returns-in_err-state : goal.returns-in_err-state
 returns-in_err-state c = record { kept = keeps-then _ _ _ c.add_ports.ensures.kept c.add_state.ensures.kept }

@@ -5,9 +5,9 @@ ghost use Rattle.vast_core.specs.Bench.{OwnsExpr, OwnsModule};
 ghost use Rattle.xlsynth_vast.specs.Keeps.{Keeps};
 ghost use Rattle.xlsynth_vast.specs.Registers.{OwnsRegister};
 
-use crate::fault::FifoFault;
+use crate::fault::ExampleFault;
+use crate::fifo::signals::{Ports, State};
 use crate::parts::make_number;
-use crate::signals::{Ports, State};
 use xlsynth_vast::helpers::{RegisterDefinition, RegisterScope, Reset, add_registers};
 use xlsynth_vast::{Expr, VastFile, VastModule};
 
@@ -17,7 +17,7 @@ pub(crate) fn add_pointers(
     state: &State,
     address: i64,
     file: &mut VastFile,
-) -> Result<(), FifoFault>
+) -> Result<(), ExampleFault>
     requires owner { OwnsModule file.old owner }
     requires fits { address ≤ℤ pos 62 }
     requires clk { OwnsExpr file.old ports.now.clk }
@@ -39,7 +39,7 @@ fn make_register(
     enable: Expr,
     width: i64,
     file: &mut VastFile,
-) -> Result<RegisterDefinition, FifoFault>
+) -> Result<RegisterDefinition, ExampleFault>
     requires pointer { OwnsExpr file.old pointer }
     requires enable { OwnsExpr file.old enable }
     ensures answer { IfOk result (λ r. OwnsRegister file.new r) }
@@ -55,7 +55,7 @@ fn make_register(
     })
 }
 
-fn make_next(pointer: Expr, width: i64, file: &mut VastFile) -> Result<Expr, FifoFault>
+fn make_next(pointer: Expr, width: i64, file: &mut VastFile) -> Result<Expr, ExampleFault>
     requires pointer { OwnsExpr file.old pointer }
     ensures answer { IfOk result (λ e. OwnsExpr file.new e) }
     ensures kept { Keeps file.old file.new }
@@ -70,7 +70,7 @@ fn add_both(
     head: RegisterDefinition,
     tail: RegisterDefinition,
     file: &mut VastFile,
-) -> Result<(), FifoFault>
+) -> Result<(), ExampleFault>
     requires owner { OwnsModule file.old owner }
     requires clk { OwnsExpr file.old ports.now.clk }
     requires rst { OwnsExpr file.old ports.now.rst }

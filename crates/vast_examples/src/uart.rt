@@ -1,21 +1,18 @@
-//! A transmitter of bytes, 8 data bits and 1 stop bit, as a user's crate over `xlsynth_vast`.
+//! A transmitter of bytes, 8 data bits and 1 stop bit.
 //!
 //! Where it is not busy, `start` takes the byte. The line is low for one bit, holds the byte from its lowest bit on, and
 //! is high for one bit at least.
-#![tactic(auto, using(xlsynth_vast::proofs::Callers::callers))]
 
 ghost use Rattle.std.specs.Prelude.{◌≤ℤ◌, pos, IfOk};
 ghost use Rattle.vast_core.specs.Bench.{OwnsModule};
 ghost use Rattle.xlsynth_vast.specs.Keeps.{Keeps};
 
 mod branches;
-mod fault;
-mod parts;
 mod sender;
 mod signals;
 
-pub use fault::UartFault;
-use parts::add_owner;
+use crate::fault::ExampleFault;
+use crate::parts::add_owner;
 use sender::add_sender;
 use signals::{add_outputs, add_ports, add_state};
 use xlsynth_vast::{VastFile, VastModule};
@@ -24,12 +21,12 @@ use xlsynth_vast::{VastFile, VastModule};
 ///
 /// # Errors
 /// `Clocks` where a bit has no clock; out of memory.
-pub fn add_uart(file: &mut VastFile, clocks: i64) -> Result<VastModule, UartFault>
+pub fn add_uart(file: &mut VastFile, clocks: i64) -> Result<VastModule, ExampleFault>
     ensures answer { IfOk result (λ m. OwnsModule file.new m) }
     ensures kept { Keeps file.old file.new }
 {
     if clocks < 1 {
-        return Err(UartFault::Clocks);
+        return Err(ExampleFault::Clocks);
     }
     let owner = add_owner("uart_tx", file)?;
     add_parts(owner, clocks, file)?;
@@ -37,7 +34,7 @@ pub fn add_uart(file: &mut VastFile, clocks: i64) -> Result<VastModule, UartFaul
 }
 
 /// The module's ports and variables, and what it does.
-fn add_parts(owner: VastModule, clocks: i64, file: &mut VastFile) -> Result<(), UartFault>
+fn add_parts(owner: VastModule, clocks: i64, file: &mut VastFile) -> Result<(), ExampleFault>
     requires owner { OwnsModule file.old owner }
     requires clocks { pos 1 ≤ℤ clocks }
     ensures kept { Keeps file.old file.new }

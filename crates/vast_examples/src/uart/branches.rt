@@ -4,7 +4,7 @@ ghost use Rattle.std.specs.Prelude.{IfOk};
 ghost use Rattle.vast_core.specs.Bench.{OwnsBlock, OwnsExpr, OwnsModule};
 ghost use Rattle.xlsynth_vast.specs.Keeps.{Keeps};
 
-use crate::fault::UartFault;
+use crate::fault::ExampleFault;
 use xlsynth_vast::{Expr, VastFile, VastModule, VastStatementBlock};
 
 /// What happens at an edge of the clock.
@@ -27,7 +27,7 @@ pub(crate) fn add_clocked(
     owner: VastModule,
     clk: Expr,
     file: &mut VastFile,
-) -> Result<VastStatementBlock, UartFault>
+) -> Result<VastStatementBlock, ExampleFault>
     requires owner { OwnsModule file.old owner }
     requires clk { OwnsExpr file.old clk }
     ensures answer { IfOk result (λ body. OwnsBlock file.new body) }
@@ -44,7 +44,7 @@ pub(crate) fn add_branches(
     starts: Expr,
     busy: Expr,
     file: &mut VastFile,
-) -> Result<Branches, UartFault>
+) -> Result<Branches, ExampleFault>
     requires body { OwnsBlock file.old body }
     requires reset { OwnsExpr file.old reset }
     requires starts { OwnsExpr file.old starts }
@@ -69,7 +69,7 @@ pub(crate) fn add_clocks(
     block: VastStatementBlock,
     bit_ends: Expr,
     file: &mut VastFile,
-) -> Result<Clocks, UartFault>
+) -> Result<Clocks, ExampleFault>
     requires block { OwnsBlock file.old block }
     requires bit_ends { OwnsExpr file.old bit_ends }
     ensures at_end { IfOk result (λ c. OwnsBlock file.new c.at_end) }

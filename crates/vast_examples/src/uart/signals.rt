@@ -4,8 +4,9 @@ ghost use Rattle.std.specs.Prelude.{◌≤ℤ◌, pos, IfOk};
 ghost use Rattle.vast_core.specs.Bench.{OwnsExpr, OwnsModule};
 ghost use Rattle.xlsynth_vast.specs.Keeps.{Keeps};
 
-use crate::fault::UartFault;
-use crate::parts::{add_input, add_output, add_variable, drive, make_bits, make_number};
+use crate::asked::{declare_logic, drive};
+use crate::fault::ExampleFault;
+use crate::parts::{Pair, add_clock, add_input, add_output, make_bits, make_number};
 use xlsynth_vast::{Expr, VastFile, VastModule};
 
 /// The bits of a byte with the start bit and the stop bit.
@@ -25,13 +26,6 @@ pub(crate) struct Ports {
     pub(crate) tx: Expr,
 }
 
-/// Two ports that stand beside each other.
-#[derive(Drop)]
-struct Pair {
-    first: Expr,
-    second: Expr,
-}
-
 /// The bits that are left to send, the next first; how many; the clocks that this one has had, of so many bits.
 #[derive(Drop)]
 pub(crate) struct State {
@@ -41,7 +35,7 @@ pub(crate) struct State {
     pub(crate) timer_bits: i64,
 }
 
-pub(crate) fn add_ports(owner: VastModule, file: &mut VastFile) -> Result<Ports, UartFault>
+pub(crate) fn add_ports(owner: VastModule, file: &mut VastFile) -> Result<Ports, ExampleFault>
     requires owner { OwnsModule file.old owner }
     ensures clk { IfOk result (λ p. OwnsExpr file.new p.clk) }
     ensures rst { IfOk result (λ p. OwnsExpr file.new p.rst) }
@@ -64,40 +58,25 @@ pub(crate) fn add_ports(owner: VastModule, file: &mut VastFile) -> Result<Ports,
     })
 }
 
-fn add_clock(owner: VastModule, file: &mut VastFile) -> Result<Pair, UartFault>
+fn add_request(owner: VastModule, file: &mut VastFile) -> Result<Pair, ExampleFault>
     requires owner { OwnsModule file.old owner }
     ensures first { IfOk result (λ p. OwnsExpr file.new p.first) }
     ensures second { IfOk result (λ p. OwnsExpr file.new p.second) }
     ensures kept { Keeps file.old file.new }
 {
-    let bit = make_bits(1, file)?;
-    let first = add_input(owner, "clk", bit, file)?;
-    let second = add_input(owner, "rst", bit, file)?;
+    let first = add_input(owner, "start", 1, file)?;
+    let second = add_input(owner, "data", 8, file)?;
     Ok(Pair { first, second })
 }
 
-fn add_request(owner: VastModule, file: &mut VastFile) -> Result<Pair, UartFault>
+fn add_line(owner: VastModule, file: &mut VastFile) -> Result<Pair, ExampleFault>
     requires owner { OwnsModule file.old owner }
     ensures first { IfOk result (λ p. OwnsExpr file.new p.first) }
     ensures second { IfOk result (λ p. OwnsExpr file.new p.second) }
     ensures kept { Keeps file.old file.new }
 {
-    let bit = make_bits(1, file)?;
-    let first = add_input(owner, "start", bit, file)?;
-    let byte = make_bits(8, file)?;
-    let second = add_input(owner, "data", byte, file)?;
-    Ok(Pair { first, second })
-}
-
-fn add_line(owner: VastModule, file: &mut VastFile) -> Result<Pair, UartFault>
-    requires owner { OwnsModule file.old owner }
-    ensures first { IfOk result (λ p. OwnsExpr file.new p.first) }
-    ensures second { IfOk result (λ p. OwnsExpr file.new p.second) }
-    ensures kept { Keeps file.old file.new }
-{
-    let bit = make_bits(1, file)?;
-    let first = add_output(owner, "busy", bit, file)?;
-    let second = add_output(owner, "tx", bit, file)?;
+    let first = add_output(owner, "busy", 1, file)?;
+    let second = add_output(owner, "tx", 1, file)?;
     Ok(Pair { first, second })
 }
 
@@ -105,7 +84,7 @@ pub(crate) fn add_state(
     owner: VastModule,
     timer_bits: i64,
     file: &mut VastFile,
-) -> Result<State, UartFault>
+) -> Result<State, ExampleFault>
     requires owner { OwnsModule file.old owner }
     requires timer_bits { pos 1 ≤ℤ timer_bits }
     ensures frame { IfOk result (λ s. OwnsExpr file.new s.frame) }
@@ -130,14 +109,14 @@ fn add_bits(
     name: &str,
     width: i64,
     file: &mut VastFile,
-) -> Result<Expr, UartFault>
+) -> Result<Expr, ExampleFault>
     requires owner { OwnsModule file.old owner }
     requires width { pos 1 ≤ℤ width }
     ensures answer { IfOk result (λ e. OwnsExpr file.new e) }
     ensures kept { Keeps file.old file.new }
 {
     let bits = make_bits(width, file)?;
-    add_variable(owner, name, bits, file)
+    declare_logic(owner, name, bits, file)
 }
 
 /// The transmitter is busy where bits are left, and the line is the next one.
@@ -146,7 +125,7 @@ pub(crate) fn add_outputs(
     ports: &Ports,
     state: &State,
     file: &mut VastFile,
-) -> Result<(), UartFault>
+) -> Result<(), ExampleFault>
     requires owner { OwnsModule file.old owner }
     requires busy { OwnsExpr file.old ports.now.busy }
     requires tx { OwnsExpr file.old ports.now.tx }
@@ -160,7 +139,7 @@ pub(crate) fn add_outputs(
     drive(owner, ports.tx, next, file)
 }
 
-fn make_is_busy(left: Expr, file: &mut VastFile) -> Result<Expr, UartFault>
+fn make_is_busy(left: Expr, file: &mut VastFile) -> Result<Expr, ExampleFault>
     requires left { OwnsExpr file.old left }
     ensures answer { IfOk result (λ e. OwnsExpr file.new e) }
     ensures kept { Keeps file.old file.new }
@@ -170,7 +149,7 @@ fn make_is_busy(left: Expr, file: &mut VastFile) -> Result<Expr, UartFault>
 }
 
 /// The bit of the frame that is sent next.
-fn make_next(frame: Expr, file: &mut VastFile) -> Result<Expr, UartFault>
+fn make_next(frame: Expr, file: &mut VastFile) -> Result<Expr, ExampleFault>
     requires frame { OwnsExpr file.old frame }
     ensures answer { IfOk result (λ e. OwnsExpr file.new e) }
     ensures kept { Keeps file.old file.new }

@@ -4,8 +4,9 @@ ghost use Rattle.std.specs.Prelude.{◌≤ℤ◌, pos, IfOk};
 ghost use Rattle.vast_core.specs.Bench.{OwnsExpr, OwnsModule, OwnsType};
 ghost use Rattle.xlsynth_vast.specs.Keeps.{Keeps};
 
-use crate::fault::FifoFault;
-use crate::parts::{add_input, add_output, add_variable, make_bits};
+use crate::asked::declare_logic;
+use crate::fault::ExampleFault;
+use crate::parts::{Pair, add_clock, add_input, add_output, make_bits};
 use xlsynth_vast::{Expr, VastDataType, VastFile, VastModule};
 
 /// The ports: `full` hinders a write, `empty` a read.
@@ -19,13 +20,6 @@ pub(crate) struct Ports {
     pub(crate) read_data: Expr,
     pub(crate) full: Expr,
     pub(crate) empty: Expr,
-}
-
-/// Two signals that stand beside each other.
-#[derive(Drop)]
-struct Pair {
-    first: Expr,
-    second: Expr,
 }
 
 /// The ports by which words are written and read.
@@ -51,7 +45,7 @@ pub(crate) fn add_ports(
     owner: VastModule,
     width: i64,
     file: &mut VastFile,
-) -> Result<Ports, FifoFault>
+) -> Result<Ports, ExampleFault>
     requires owner { OwnsModule file.old owner }
     requires width { pos 1 ≤ℤ width }
     ensures clk { IfOk result (λ p. OwnsExpr file.new p.clk) }
@@ -79,18 +73,7 @@ pub(crate) fn add_ports(
     })
 }
 
-fn add_clock(owner: VastModule, file: &mut VastFile) -> Result<Pair, FifoFault>
-    requires owner { OwnsModule file.old owner }
-    ensures first { IfOk result (λ p. OwnsExpr file.new p.first) }
-    ensures second { IfOk result (λ p. OwnsExpr file.new p.second) }
-    ensures kept { Keeps file.old file.new }
-{
-    let first = add_input(owner, "clk", 1, file)?;
-    let second = add_input(owner, "rst", 1, file)?;
-    Ok(Pair { first, second })
-}
-
-fn add_access(owner: VastModule, width: i64, file: &mut VastFile) -> Result<Access, FifoFault>
+fn add_access(owner: VastModule, width: i64, file: &mut VastFile) -> Result<Access, ExampleFault>
     requires owner { OwnsModule file.old owner }
     requires width { pos 1 ≤ℤ width }
     ensures write { IfOk result (λ a. OwnsExpr file.new a.write) }
@@ -109,7 +92,7 @@ fn add_access(owner: VastModule, width: i64, file: &mut VastFile) -> Result<Acce
     })
 }
 
-fn add_write(owner: VastModule, width: i64, file: &mut VastFile) -> Result<Pair, FifoFault>
+fn add_write(owner: VastModule, width: i64, file: &mut VastFile) -> Result<Pair, ExampleFault>
     requires owner { OwnsModule file.old owner }
     requires width { pos 1 ≤ℤ width }
     ensures first { IfOk result (λ p. OwnsExpr file.new p.first) }
@@ -121,7 +104,7 @@ fn add_write(owner: VastModule, width: i64, file: &mut VastFile) -> Result<Pair,
     Ok(Pair { first, second })
 }
 
-fn add_read(owner: VastModule, width: i64, file: &mut VastFile) -> Result<Pair, FifoFault>
+fn add_read(owner: VastModule, width: i64, file: &mut VastFile) -> Result<Pair, ExampleFault>
     requires owner { OwnsModule file.old owner }
     requires width { pos 1 ≤ℤ width }
     ensures first { IfOk result (λ p. OwnsExpr file.new p.first) }
@@ -133,7 +116,7 @@ fn add_read(owner: VastModule, width: i64, file: &mut VastFile) -> Result<Pair, 
     Ok(Pair { first, second })
 }
 
-fn add_hindered(owner: VastModule, file: &mut VastFile) -> Result<Pair, FifoFault>
+fn add_hindered(owner: VastModule, file: &mut VastFile) -> Result<Pair, ExampleFault>
     requires owner { OwnsModule file.old owner }
     ensures first { IfOk result (λ p. OwnsExpr file.new p.first) }
     ensures second { IfOk result (λ p. OwnsExpr file.new p.second) }
@@ -150,7 +133,7 @@ pub(crate) fn add_state(
     depth: i64,
     address: i64,
     file: &mut VastFile,
-) -> Result<State, FifoFault>
+) -> Result<State, ExampleFault>
     requires owner { OwnsModule file.old owner }
     requires width { pos 1 ≤ℤ width }
     requires depth { pos 1 ≤ℤ depth }
@@ -182,7 +165,7 @@ fn add_pair(
     first: &str,
     second: &str,
     file: &mut VastFile,
-) -> Result<Pair, FifoFault>
+) -> Result<Pair, ExampleFault>
     requires owner { OwnsModule file.old owner }
     requires width { pos 1 ≤ℤ width }
     ensures first { IfOk result (λ p. OwnsExpr file.new p.first) }
@@ -190,8 +173,8 @@ fn add_pair(
     ensures kept { Keeps file.old file.new }
 {
     let bits = make_bits(width, file)?;
-    let first = add_variable(owner, first, bits, file)?;
-    let second = add_variable(owner, second, bits, file)?;
+    let first = declare_logic(owner, first, bits, file)?;
+    let second = declare_logic(owner, second, bits, file)?;
     Ok(Pair { first, second })
 }
 
@@ -201,7 +184,7 @@ fn add_words(
     width: i64,
     depth: i64,
     file: &mut VastFile,
-) -> Result<Expr, FifoFault>
+) -> Result<Expr, ExampleFault>
     requires owner { OwnsModule file.old owner }
     requires width { pos 1 ≤ℤ width }
     requires depth { pos 1 ≤ℤ depth }
@@ -209,11 +192,11 @@ fn add_words(
     ensures kept { Keeps file.old file.new }
 {
     let memory = make_memory(width, depth, file)?;
-    add_variable(owner, "words", memory, file)
+    declare_logic(owner, "words", memory, file)
 }
 
 /// The type of the array.
-fn make_memory(width: i64, depth: i64, file: &mut VastFile) -> Result<VastDataType, FifoFault>
+fn make_memory(width: i64, depth: i64, file: &mut VastFile) -> Result<VastDataType, ExampleFault>
     requires width { pos 1 ≤ℤ width }
     requires depth { pos 1 ≤ℤ depth }
     ensures answer { IfOk result (λ t. OwnsType file.new t) }

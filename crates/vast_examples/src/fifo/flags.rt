@@ -4,9 +4,10 @@ ghost use Rattle.std.specs.Prelude.{◌≤ℤ◌, pos, IfOk};
 ghost use Rattle.vast_core.specs.Bench.{OwnsExpr, OwnsModule};
 ghost use Rattle.xlsynth_vast.specs.Keeps.{Keeps};
 
-use crate::fault::FifoFault;
-use crate::parts::{both, drive, place};
-use crate::signals::{Ports, State};
+use crate::asked::drive;
+use crate::fault::ExampleFault;
+use crate::fifo::signals::{Ports, State};
+use crate::parts::{both, place};
 use xlsynth_vast::{Expr, VastFile, VastModule};
 
 /// The queue is empty where the pointers are equal, and full where they differ in the last bit alone.
@@ -16,7 +17,7 @@ pub(crate) fn drive_flags(
     state: &State,
     address: i64,
     file: &mut VastFile,
-) -> Result<(), FifoFault>
+) -> Result<(), ExampleFault>
     requires owner { OwnsModule file.old owner }
     requires address { pos 1 ≤ℤ address }
     requires full { OwnsExpr file.old ports.now.full }
@@ -37,7 +38,7 @@ pub(crate) fn drive_strobes(
     ports: &Ports,
     state: &State,
     file: &mut VastFile,
-) -> Result<(), FifoFault>
+) -> Result<(), ExampleFault>
     requires owner { OwnsModule file.old owner }
     requires write { OwnsExpr file.old ports.now.write }
     requires read { OwnsExpr file.old ports.now.read }
@@ -51,7 +52,7 @@ pub(crate) fn drive_strobes(
     drive_strobe(owner, state.reads, ports.read, ports.empty, file)
 }
 
-fn is_same(left: Expr, right: Expr, file: &mut VastFile) -> Result<Expr, FifoFault>
+fn is_same(left: Expr, right: Expr, file: &mut VastFile) -> Result<Expr, ExampleFault>
     requires left { OwnsExpr file.old left }
     requires right { OwnsExpr file.old right }
     ensures answer { IfOk result (λ e. OwnsExpr file.new e) }
@@ -60,7 +61,7 @@ fn is_same(left: Expr, right: Expr, file: &mut VastFile) -> Result<Expr, FifoFau
     Ok(file.make_eq(&left, &right)?)
 }
 
-fn is_other(left: Expr, right: Expr, file: &mut VastFile) -> Result<Expr, FifoFault>
+fn is_other(left: Expr, right: Expr, file: &mut VastFile) -> Result<Expr, ExampleFault>
     requires left { OwnsExpr file.old left }
     requires right { OwnsExpr file.old right }
     ensures answer { IfOk result (λ e. OwnsExpr file.new e) }
@@ -70,7 +71,7 @@ fn is_other(left: Expr, right: Expr, file: &mut VastFile) -> Result<Expr, FifoFa
 }
 
 /// The last bit of a pointer.
-fn round(pointer: Expr, address: i64, file: &mut VastFile) -> Result<Expr, FifoFault>
+fn round(pointer: Expr, address: i64, file: &mut VastFile) -> Result<Expr, ExampleFault>
     requires pointer { OwnsExpr file.old pointer }
     requires address { pos 1 ≤ℤ address }
     ensures answer { IfOk result (λ e. OwnsExpr file.new e) }
@@ -86,7 +87,7 @@ fn is_a_round_ahead(
     tail: Expr,
     address: i64,
     file: &mut VastFile,
-) -> Result<Expr, FifoFault>
+) -> Result<Expr, ExampleFault>
     requires head { OwnsExpr file.old head }
     requires tail { OwnsExpr file.old tail }
     requires address { pos 1 ≤ℤ address }
@@ -109,7 +110,7 @@ fn drive_strobe(
     asked: Expr,
     hindered: Expr,
     file: &mut VastFile,
-) -> Result<(), FifoFault>
+) -> Result<(), ExampleFault>
     requires owner { OwnsModule file.old owner }
     requires strobe { OwnsExpr file.old strobe }
     requires asked { OwnsExpr file.old asked }

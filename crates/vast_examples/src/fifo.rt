@@ -1,25 +1,22 @@
-//! A first-in, first-out queue of words, as a user's crate over `xlsynth_vast`.
+//! A first-in, first-out queue of words.
 //!
 //! A write is taken where the queue is not full, a read where it is not empty; the front word stands at `read_data`.
 //! Pointers have a bit more than an address: the queue is empty where they are equal, and full where they differ in
 //! that bit alone.
-#![tactic(auto, using(xlsynth_vast::proofs::Callers::callers))]
 
 ghost use Rattle.std.specs.Prelude.{◌≤ℤ◌, pos, IfOk};
 ghost use Rattle.vast_core.specs.Bench.{OwnsExpr, OwnsModule};
 ghost use Rattle.xlsynth_vast.specs.Keeps.{Keeps};
 
-mod fault;
 mod flags;
 mod memory;
-mod parts;
 mod pointers;
 mod signals;
 
-pub use fault::FifoFault;
+use crate::fault::ExampleFault;
+use crate::parts::add_owner;
 use flags::{drive_flags, drive_strobes};
 use memory::add_memory;
-use parts::add_owner;
 use pointers::add_pointers;
 use signals::{Ports, State, add_ports, add_state};
 use xlsynth_vast::{VastFile, VastModule};
@@ -28,12 +25,12 @@ use xlsynth_vast::{VastFile, VastModule};
 ///
 /// # Errors
 /// `Width` where the width is below 1, `Depth` where the depth is no power of two above 1; out of memory.
-pub fn add_fifo(file: &mut VastFile, width: i64, depth: i64) -> Result<VastModule, FifoFault>
+pub fn add_fifo(file: &mut VastFile, width: i64, depth: i64) -> Result<VastModule, ExampleFault>
     ensures answer { IfOk result (λ m. OwnsModule file.new m) }
     ensures kept { Keeps file.old file.new }
 {
     if width < 1 {
-        return Err(FifoFault::Width);
+        return Err(ExampleFault::Width);
     }
     let address = address_bits(depth)?;
     let owner = add_owner("fifo", file)?;
@@ -42,13 +39,13 @@ pub fn add_fifo(file: &mut VastFile, width: i64, depth: i64) -> Result<VastModul
 }
 
 /// How many bits an address of so many words has.
-fn address_bits(depth: i64) -> Result<i64, FifoFault>
+fn address_bits(depth: i64) -> Result<i64, ExampleFault>
     ensures address { IfOk result (λ bits. (pos 1 ≤ℤ bits) × (bits ≤ℤ pos 62)) }
     ensures depth { IfOk result (λ bits. pos 1 ≤ℤ depth) }
 {
     let bits = i64::from(depth.trailing_zeros());
     if depth < 1 || bits < 1 || bits > 62 || 1 << bits != depth {
-        return Err(FifoFault::Depth);
+        return Err(ExampleFault::Depth);
     }
     Ok(bits)
 }
@@ -60,7 +57,7 @@ fn add_parts(
     depth: i64,
     address: i64,
     file: &mut VastFile,
-) -> Result<(), FifoFault>
+) -> Result<(), ExampleFault>
     requires owner { OwnsModule file.old owner }
     requires width { pos 1 ≤ℤ width }
     requires depth { pos 1 ≤ℤ depth }
@@ -80,7 +77,7 @@ fn fill(
     state: &State,
     address: i64,
     file: &mut VastFile,
-) -> Result<(), FifoFault>
+) -> Result<(), ExampleFault>
     requires owner { OwnsModule file.old owner }
     requires address { pos 1 ≤ℤ address }
     requires fits { address ≤ℤ pos 62 }

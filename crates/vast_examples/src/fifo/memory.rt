@@ -4,9 +4,10 @@ ghost use Rattle.std.specs.Prelude.{◌≤ℤ◌, pos, IfOk};
 ghost use Rattle.vast_core.specs.Bench.{OwnsBlock, OwnsExpr, OwnsModule};
 ghost use Rattle.xlsynth_vast.specs.Keeps.{Keeps};
 
-use crate::fault::FifoFault;
-use crate::parts::{drive, place};
-use crate::signals::{Ports, State};
+use crate::asked::drive;
+use crate::fault::ExampleFault;
+use crate::fifo::signals::{Ports, State};
+use crate::parts::place;
 use xlsynth_vast::{Expr, VastFile, VastModule, VastStatementBlock};
 
 pub(crate) fn add_memory(
@@ -15,7 +16,7 @@ pub(crate) fn add_memory(
     state: &State,
     address: i64,
     file: &mut VastFile,
-) -> Result<(), FifoFault>
+) -> Result<(), ExampleFault>
     requires owner { OwnsModule file.old owner }
     requires address { pos 1 ≤ℤ address }
     requires clk { OwnsExpr file.old ports.now.clk }
@@ -35,7 +36,12 @@ pub(crate) fn add_memory(
 }
 
 /// The word at the place of a pointer.
-fn word_at(words: Expr, pointer: Expr, address: i64, file: &mut VastFile) -> Result<Expr, FifoFault>
+fn word_at(
+    words: Expr,
+    pointer: Expr,
+    address: i64,
+    file: &mut VastFile,
+) -> Result<Expr, ExampleFault>
     requires words { OwnsExpr file.old words }
     requires pointer { OwnsExpr file.old pointer }
     requires address { pos 1 ≤ℤ address }
@@ -52,7 +58,7 @@ fn add_clocked(
     owner: VastModule,
     clk: Expr,
     file: &mut VastFile,
-) -> Result<VastStatementBlock, FifoFault>
+) -> Result<VastStatementBlock, ExampleFault>
     requires owner { OwnsModule file.old owner }
     requires clk { OwnsExpr file.old clk }
     ensures answer { IfOk result (λ body. OwnsBlock file.new body) }
@@ -70,7 +76,7 @@ fn take(
     target: Expr,
     value: Expr,
     file: &mut VastFile,
-) -> Result<(), FifoFault>
+) -> Result<(), ExampleFault>
     requires body { OwnsBlock file.old body }
     requires condition { OwnsExpr file.old condition }
     requires target { OwnsExpr file.old target }

@@ -4,10 +4,10 @@ ghost use Rattle.std.specs.Prelude.{◌≤ℤ◌, pos, IfOk};
 ghost use Rattle.vast_core.specs.Bench.{OwnsBlock, OwnsExpr, OwnsModule};
 ghost use Rattle.xlsynth_vast.specs.Keeps.{Keeps};
 
-use crate::branches::{Branches, add_branches, add_clocked, add_clocks};
-use crate::fault::UartFault;
+use crate::fault::ExampleFault;
 use crate::parts::{make_number, set};
-use crate::signals::{COUNT_BITS, FRAME_BITS, Ports, State};
+use crate::uart::branches::{Branches, add_branches, add_clocked, add_clocks};
+use crate::uart::signals::{COUNT_BITS, FRAME_BITS, Ports, State};
 use xlsynth_vast::{Expr, VastFile, VastModule, VastStatementBlock};
 
 pub(crate) fn add_sender(
@@ -16,7 +16,7 @@ pub(crate) fn add_sender(
     state: &State,
     clocks: i64,
     file: &mut VastFile,
-) -> Result<(), UartFault>
+) -> Result<(), ExampleFault>
     requires owner { OwnsModule file.old owner }
     requires clocks { pos 1 ≤ℤ clocks }
     requires clk { OwnsExpr file.old ports.now.clk }
@@ -36,7 +36,7 @@ pub(crate) fn add_sender(
 }
 
 /// A byte is taken where it is given and none is sent.
-fn make_starts(start: Expr, busy: Expr, file: &mut VastFile) -> Result<Expr, UartFault>
+fn make_starts(start: Expr, busy: Expr, file: &mut VastFile) -> Result<Expr, ExampleFault>
     requires start { OwnsExpr file.old start }
     requires busy { OwnsExpr file.old busy }
     ensures answer { IfOk result (λ e. OwnsExpr file.new e) }
@@ -52,7 +52,7 @@ fn fill(
     state: &State,
     clocks: i64,
     file: &mut VastFile,
-) -> Result<(), UartFault>
+) -> Result<(), ExampleFault>
     requires at_reset { OwnsBlock file.old branches.now.at_reset }
     requires at_start { OwnsBlock file.old branches.now.at_start }
     requires at_clock { OwnsBlock file.old branches.now.at_clock }
@@ -75,7 +75,7 @@ fn load(
     frame: Expr,
     left: Expr,
     file: &mut VastFile,
-) -> Result<(), UartFault>
+) -> Result<(), ExampleFault>
     requires block { OwnsBlock file.old block }
     requires old_frame { OwnsExpr file.old state.now.frame }
     requires old_left { OwnsExpr file.old state.now.left }
@@ -95,7 +95,7 @@ fn fill_reset(
     block: VastStatementBlock,
     state: &State,
     file: &mut VastFile,
-) -> Result<(), UartFault>
+) -> Result<(), ExampleFault>
     requires block { OwnsBlock file.old block }
     requires frame { OwnsExpr file.old state.now.frame }
     requires left { OwnsExpr file.old state.now.left }
@@ -113,7 +113,7 @@ fn fill_start(
     byte: Expr,
     state: &State,
     file: &mut VastFile,
-) -> Result<(), UartFault>
+) -> Result<(), ExampleFault>
     requires block { OwnsBlock file.old block }
     requires byte { OwnsExpr file.old byte }
     requires frame { OwnsExpr file.old state.now.frame }
@@ -127,7 +127,7 @@ fn fill_start(
 }
 
 /// The byte between its stop bit and its start bit, which is sent first.
-fn make_framed(byte: Expr, file: &mut VastFile) -> Result<Expr, UartFault>
+fn make_framed(byte: Expr, file: &mut VastFile) -> Result<Expr, ExampleFault>
     requires byte { OwnsExpr file.old byte }
     ensures answer { IfOk result (λ e. OwnsExpr file.new e) }
     ensures kept { Keeps file.old file.new }
@@ -143,7 +143,7 @@ fn fill_clock(
     state: &State,
     clocks: i64,
     file: &mut VastFile,
-) -> Result<(), UartFault>
+) -> Result<(), ExampleFault>
     requires block { OwnsBlock file.old block }
     requires clocks { pos 1 ≤ℤ clocks }
     requires frame { OwnsExpr file.old state.now.frame }
@@ -158,7 +158,7 @@ fn fill_clock(
 }
 
 /// Whether this is the last clock of a bit.
-fn make_bit_ends(state: &State, clocks: i64, file: &mut VastFile) -> Result<Expr, UartFault>
+fn make_bit_ends(state: &State, clocks: i64, file: &mut VastFile) -> Result<Expr, ExampleFault>
     requires clocks { pos 1 ≤ℤ clocks }
     requires timer { OwnsExpr file.old state.now.timer }
     ensures answer { IfOk result (λ e. OwnsExpr file.new e) }
@@ -169,7 +169,11 @@ fn make_bit_ends(state: &State, clocks: i64, file: &mut VastFile) -> Result<Expr
 }
 
 /// The next bit, with a high one after the last.
-fn fill_end(block: VastStatementBlock, state: &State, file: &mut VastFile) -> Result<(), UartFault>
+fn fill_end(
+    block: VastStatementBlock,
+    state: &State,
+    file: &mut VastFile,
+) -> Result<(), ExampleFault>
     requires block { OwnsBlock file.old block }
     requires frame { OwnsExpr file.old state.now.frame }
     requires left { OwnsExpr file.old state.now.left }
@@ -181,7 +185,7 @@ fn fill_end(block: VastStatementBlock, state: &State, file: &mut VastFile) -> Re
     load(block, state, shifted, fewer, file)
 }
 
-fn make_shifted(frame: Expr, file: &mut VastFile) -> Result<Expr, UartFault>
+fn make_shifted(frame: Expr, file: &mut VastFile) -> Result<Expr, ExampleFault>
     requires frame { OwnsExpr file.old frame }
     ensures answer { IfOk result (λ e. OwnsExpr file.new e) }
     ensures kept { Keeps file.old file.new }
@@ -192,7 +196,7 @@ fn make_shifted(frame: Expr, file: &mut VastFile) -> Result<Expr, UartFault>
 }
 
 /// All bits but the first.
-fn make_rest(frame: Expr, file: &mut VastFile) -> Result<Expr, UartFault>
+fn make_rest(frame: Expr, file: &mut VastFile) -> Result<Expr, ExampleFault>
     requires frame { OwnsExpr file.old frame }
     ensures answer { IfOk result (λ e. OwnsExpr file.new e) }
     ensures kept { Keeps file.old file.new }
@@ -201,7 +205,7 @@ fn make_rest(frame: Expr, file: &mut VastFile) -> Result<Expr, UartFault>
     Ok(file.make_slice(&frame, FRAME_BITS - 1, 1)?.to_expr())
 }
 
-fn make_fewer(left: Expr, file: &mut VastFile) -> Result<Expr, UartFault>
+fn make_fewer(left: Expr, file: &mut VastFile) -> Result<Expr, ExampleFault>
     requires left { OwnsExpr file.old left }
     ensures answer { IfOk result (λ e. OwnsExpr file.new e) }
     ensures kept { Keeps file.old file.new }
@@ -214,7 +218,7 @@ fn count_clock(
     block: VastStatementBlock,
     state: &State,
     file: &mut VastFile,
-) -> Result<(), UartFault>
+) -> Result<(), ExampleFault>
     requires block { OwnsBlock file.old block }
     requires timer { OwnsExpr file.old state.now.timer }
     ensures kept { Keeps file.old file.new }
