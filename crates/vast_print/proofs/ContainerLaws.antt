@@ -57,17 +57,17 @@ pub ruleset tasks = (indented-task, stops)
 
 -- calls without arguments and with some
 
-called-alone : (call : ExprTree) (name : List ℕ) → name_alone call ≡ Some name → called_text (name_alone call) call ≡ plain_text name
+pub called-alone : (call : ExprTree) (name : List ℕ) → name_alone call ≡ Some name → called_text (name_alone call) call ≡ plain_text name
 called-alone call name h = rw h refl
 
-called-whole : (call : ExprTree) → name_alone call ≡ None → called_text (name_alone call) call ≡ expr_text call
+pub called-whole : (call : ExprTree) → name_alone call ≡ None → called_text (name_alone call) call ≡ expr_text call
 called-whole call h = rw h refl
 
-alone-named : (b : Bench) (name : List ℕ) (arguments : List Expr) → length arguments ≡ 0 → name_alone (CallTree name (trees_of b arguments)) ≡ Some name
+pub alone-named : (b : Bench) (name : List ℕ) (arguments : List Expr) → length arguments ≡ 0 → name_alone (CallTree name (trees_of b arguments)) ≡ Some name
 alone-named b name [] h = refl
 alone-named b name (x ∷ xs) h = absurd (omega arith)
 
-not-alone : (b : Bench) (name : List ℕ) (arguments : List Expr) → (length arguments ≡ 0 → ⊥) → name_alone (CallTree name (trees_of b arguments)) ≡ None
+pub not-alone : (b : Bench) (name : List ℕ) (arguments : List Expr) → (length arguments ≡ 0 → ⊥) → name_alone (CallTree name (trees_of b arguments)) ≡ None
 not-alone b name [] h = absurd (h refl)
 not-alone b name (x ∷ xs) h = refl
 
