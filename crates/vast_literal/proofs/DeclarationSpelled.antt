@@ -4,7 +4,7 @@ use Rattle.std.proofs.lemmas.Bool.{and_from}
 use Rattle.std.specs.Fmt.{signed_decimal}
 use Rattle.vast_literal.specs.Tokens.{Minus, level, WireKey, RegKey, LogicKey, IntegerKey, IntKey, GenvarKey, SignedKey, UnsignedKey, Token}
 use Rattle.vast_literal.specs.Tree.{Dialect, VerilogDialect, SystemVerilogDialect, ExprTree, Exprs, NoExprs, MoreExprs, NameTree, IndexTree, SliceTree, PartSelectTree, ConcatTree, MacroTree, CallTree, TypeTree, ScalarTree, VectorTree, IntegerTree, IntTree, ExternalTree, PackageTree, PackedTree, UnpackedTree, Kind, RegKind, WireKind, LogicKind, IntegerKind, IntKind, UserKind, UntypedEnumKind, GenvarKind, Declaration}
-use Rattle.vast_literal.specs.NormalExpr.{Name, scalar_sign, integer_sign, normal}
+use Rattle.vast_literal.specs.NormalExpr.{scalar_sign, integer_sign, normal}
 use Rattle.vast_literal.specs.Grammar.{Spells, binary, number, name as a_name, system_alone}
 use Rattle.vast_literal.specs.FileGrammar.{IsMany, no_items, more_items, is_kind, is_sign, IsGroup, one, range, IsMaybe, absent, present, IsTypeName, no_type, own_type, packaged, IsDeclaration, declares}
 use Rattle.vast_literal.specs.Plain.{is_plain_name, is_plain, is_plain_type, are_plain}
