@@ -1,6 +1,6 @@
 -- Plain files: all names that are printed are identifiers and no keywords, and nothing stands where it has no meaning.
 use Rattle.std.specs.Prelude.{ℕ, List, [], ◌∷◌, Bool, true, false, not, ◌&&◌, ◌||◌, eqb, Option, Some, None, if◌then◌else◌}
-use Rattle.vast_literal.specs.Tree.{ExprTree, NameTree, IndexTree, SliceTree, PartSelectTree, ConcatTree, PosEdgeTree, NegEdgeTree, MacroTree, CallTree, TypeTree}
+use Rattle.vast_literal.specs.Tree.{ExprTree, NameTree, IndexTree, SliceTree, PartSelectTree, MemberOfTree, ConcatTree, PosEdgeTree, NegEdgeTree, MacroTree, CallTree, TypeTree}
 use Rattle.vast_literal.specs.Tree.{MaybeExpr, NoExpr, SomeExpr, Exprs, NoExprs, MoreExprs, MaybeType, Untyped, Typed, Declaration}
 use Rattle.vast_literal.specs.Tree.{StatementTree, AssignTree, TaskTree, InlineTree, ConditionalTree, CaseTree, Statements, NoStatements, MoreStatements, Alternates, NoElse, ElseIf, Else, CaseArms, NoCaseArms, CaseArm}
 use Rattle.vast_literal.specs.Tree.{AlwaysWord, ParameterName, PlainParameter, IntParameter, DefinedParameter, Connection, InstanceTree, FunctionTree}
@@ -14,9 +14,9 @@ abbrev pub is_plain_maybe : MaybeExpr → Bool
 is_plain_maybe NoExpr = true
 is_plain_maybe (SomeExpr value) = is_plain value
 
--- A name, a select or a concatenation.
+-- A name, a select, a member or a concatenation.
 abbrev pub is_left_side : ExprTree → Bool
-is_left_side e = elim e [ NameTree name type ↦ true | IndexTree subject index ↦ true | SliceTree subject high low ↦ true | PartSelectTree subject start width ↦ true | ConcatTree count parts ↦ true | _ ↦ false ]
+is_left_side e = elim e [ NameTree name type ↦ true | IndexTree subject index ↦ true | SliceTree subject high low ↦ true | PartSelectTree subject start width ↦ true | MemberOfTree subject name ↦ true | ConcatTree count parts ↦ true | _ ↦ false ]
 
 -- A call of a function or of a task, or the use of a macro.
 abbrev pub is_call : ExprTree → Bool

@@ -121,7 +121,7 @@ right_child_wraps o e = nat_le (precedence e) (binary_precedence o) || is_reduct
 abbrev pub ternary_wraps : ExprTree → Bool
 ternary_wraps e = precedence e == 0
 
--- Before brackets: whatever has an operator, a literal with a minus.
+-- Before brackets and before a member: whatever has an operator, a literal with a minus.
 abbrev pub select_wraps : ExprTree → Bool
 select_wraps e = nat_lt (precedence e) 13 || is_negative_literal e
 

@@ -31,6 +31,8 @@ mutual
     IndexTree : (subject index : ExprTree) → ExprTree
     SliceTree : (subject high low : ExprTree) → ExprTree
     PartSelectTree : (subject start : ExprTree) (width : ℤ) → ExprTree
+    -- A member of a value of a named type.
+    MemberOfTree : (subject : ExprTree) (name : List ℕ) → ExprTree
     ConcatTree : (count : MaybeExpr) (parts : Exprs) → ExprTree
     PatternTree : (parts : Exprs) → ExprTree
     WidthCastTree : (width operand : ExprTree) → ExprTree
