@@ -109,7 +109,8 @@ pub(crate) fn expression(
         | ExpressionStep::MakeIndex(_, _)
         | ExpressionStep::MakeSliceExpr(_, _, _)
         | ExpressionStep::MakeIndexExpr(_, _)
-        | ExpressionStep::MakeIndexedPartSelect(_, _, _) => select(known, step, told)?,
+        | ExpressionStep::MakeIndexedPartSelect(_, _, _)
+        | ExpressionStep::MakeMember(_, _) => select(known, step, told)?,
         ExpressionStep::MakeConcat(_)
         | ExpressionStep::MakeReplicatedConcat(_, _)
         | ExpressionStep::MakeReplicatedConcatI64(_, _)
@@ -167,6 +168,11 @@ fn select(
             let form = known.form(*subject);
             told.show_if(form == Form::Signal(Some(0)), Rule::PartOfScalar)?;
             part_of(form, told)
+        }
+        ExpressionStep::MakeMember(value, field) => {
+            told.show_any(known.form(*value).select_rule())?;
+            told.show_if(is_keyword(known.dialect, field), Rule::Keyword)?;
+            Ok(Form::Signal(None))
         }
         _ => Ok(Form::Other),
     }

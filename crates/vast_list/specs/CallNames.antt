@@ -5,7 +5,7 @@ use Rattle.vast_script.specs.declared.step.Step.TheVariants.{Operators, Expressi
 use Rattle.vast_script.specs.declared.step.OperatorStep.{OperatorStep}
 use Rattle.vast_script.specs.declared.step.OperatorStep.TheVariants.{MakeNot, MakeBitwiseNot, MakeNegate, MakeLogicalNot, MakeAndReduce, MakeOrReduce, MakeXorReduce, MakeAdd, MakeSub, MakeMul, MakeDiv, MakeMod, MakePower, MakeBitwiseAnd, MakeBitwiseOr, MakeBitwiseXor, MakeShll, MakeShra, MakeShrl, MakeNe, MakeCaseNe, MakeEq, MakeCaseEq, MakeGe, MakeGt, MakeLe, MakeLt, MakeLogicalAnd, MakeLogicalOr, MakeNeX, MakeEqX}
 use Rattle.vast_script.specs.declared.step.ExpressionStep.{ExpressionStep}
-use Rattle.vast_script.specs.declared.step.ExpressionStep.TheVariants.{MakeLiteral, MakeBinaryPattern, MakeUnsizedDecimalLiteral, MakeStringLiteral, MakeUnsizedOneLiteral, MakeUnsizedZeroLiteral, MakeUnsizedXLiteral, MakeName, MakeIndexableExpression, MakeSlice, MakeIndex, MakeSliceExpr, MakeIndexExpr, MakeIndexedPartSelect, MakeFunctionCall, MakeConcat, MakeReplicatedConcat, MakeReplicatedConcatI64, MakeArrayAssignmentPattern, MakeTernary, MakeWidthCast, MakeTypeCast, MakePosEdge, MakeNegEdge, MakeMacroRef, MakeMacroRefWithArgs}
+use Rattle.vast_script.specs.declared.step.ExpressionStep.TheVariants.{MakeLiteral, MakeBinaryPattern, MakeUnsizedDecimalLiteral, MakeStringLiteral, MakeUnsizedOneLiteral, MakeUnsizedZeroLiteral, MakeUnsizedXLiteral, MakeName, MakeIndexableExpression, MakeSlice, MakeIndex, MakeSliceExpr, MakeIndexExpr, MakeIndexedPartSelect, MakeFunctionCall, MakeConcat, MakeReplicatedConcat, MakeReplicatedConcatI64, MakeArrayAssignmentPattern, MakeTernary, MakeWidthCast, MakeTypeCast, MakePosEdge, MakeNegEdge, MakeMacroRef, MakeMacroRefWithArgs, MakeMember}
 use Rattle.vast_script.specs.declared.step.TypeStep.{TypeStep}
 use Rattle.vast_script.specs.declared.step.TypeStep.TheVariants.{MakeScalarType, MakeIntegerType, MakeIntType, MakeExternType, MakeExternPackageType, MakeBitVectorType, MakeBitVectorTypeExpr, MakePackedArrayType, MakeUnpackedArrayType, MakePackedArrayTypeExpr, MakeUnpackedArrayTypeExpr}
 use Rattle.vast_script.specs.declared.step.ModuleStep.{ModuleStep}
@@ -81,6 +81,7 @@ expression_name (MakePosEdge a) = codes "MakePosEdge"
 expression_name (MakeNegEdge a) = codes "MakeNegEdge"
 expression_name (MakeMacroRef a) = codes "MakeMacroRef"
 expression_name (MakeMacroRefWithArgs a b) = codes "MakeMacroRefWithArgs"
+expression_name (MakeMember a b) = codes "MakeMember"
 
 abbrev pub type_name : TypeStep → List ℕ
 type_name MakeScalarType = codes "MakeScalarType"

@@ -16,7 +16,7 @@ expression_names =
     codes "MakeIndex" ∷ codes "MakeSliceExpr" ∷ codes "MakeIndexExpr" ∷ codes "MakeIndexedPartSelect" ∷ codes "MakeFunctionCall" ∷
     codes "MakeConcat" ∷ codes "MakeReplicatedConcat" ∷ codes "MakeReplicatedConcatI64" ∷ codes "MakeArrayAssignmentPattern" ∷ codes "MakeTernary" ∷
     codes "MakeWidthCast" ∷ codes "MakeTypeCast" ∷ codes "MakePosEdge" ∷ codes "MakeNegEdge" ∷ codes "MakeMacroRef" ∷ codes "MakeMacroRefWithArgs" ∷
-    []
+    codes "MakeMember" ∷ []
 
 abbrev pub type_names : List (List ℕ)
 type_names =

@@ -163,7 +163,7 @@ mutual
   spelled (PartSelectTree s i n) l w =
       let w1 = and_right (is_well_formed s) (is_well_formed i && is_positive n) w in
       part_select (signed_decimal n) (subject_spells s (spelled s (and_left _ _ l) (and_left _ _ w))) (low i (spelled i (and_right (is_plain s) (is_plain i) l) (and_left _ _ w1)))
-  spelled (MemberOfTree s n) l w = member_of n (subject_spells s (spelled s (and_left _ _ l) w))
+  spelled (MemberOfTree s n) l w = member_of n (subject_spells s (spelled s (and_right (is_plain_name n) (is_plain s) l) w))
   spelled (ConcatTree NoExpr es) l w = below (concat (list_spells (each_spelled es l w)))
   spelled (ConcatTree (SomeExpr n) es) l w =
       below (replicated (low n (spelled n (and_left _ _ l) (and_left _ _ w))) (list_spells (each_spelled es (and_right (is_plain n) (are_plain es) l) (and_right (is_well_formed n) (are_well_formed es) w))))

@@ -31,7 +31,7 @@ abbrev mutual
   is_plain (IndexTree subject index) = is_plain subject && is_plain index
   is_plain (SliceTree subject high low) = is_plain subject && (is_plain high && is_plain low)
   is_plain (PartSelectTree subject start width) = is_plain subject && is_plain start
-  is_plain (MemberOfTree subject name) = is_plain subject && is_plain_name name
+  is_plain (MemberOfTree subject name) = is_plain_name name && is_plain subject
   is_plain (ConcatTree NoExpr parts) = are_plain parts
   is_plain (ConcatTree (SomeExpr count) parts) = is_plain count && are_plain parts
   is_plain (PatternTree parts) = are_plain parts

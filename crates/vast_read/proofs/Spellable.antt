@@ -7,7 +7,7 @@ use Rattle.vast_literal.specs.declared.kind.AlwaysKind.TheVariants.{AlwaysFF as 
 use Rattle.vast_literal.specs.declared.token.Key.{Key}
 use Rattle.vast_literal.specs.NormalExpr.{NormalExpr, NormalExprs}
 use Rattle.vast_literal.specs.NormalFile.{NormalStatement, NormalStatements, Arms, Labels, Group, NormalDeclaration, Event, NormalConnection, NormalMember, NormalMembers, NormalParameter, NormalPort, NormalItem, NormalFile}
-use Rattle.vast_literal.specs.Grammar.{Spells, up, ternary, binary, unary, index, slice, part_select, name, number, based, quoted, paren, call, system_alone, system_call, concat, replicated, array_pattern, macro_alone, macro_call, number_cast, name_cast, package_cast, paren_cast, word_cast, SpellsList, none, some, SpellsJoined, last, next}
+use Rattle.vast_literal.specs.Grammar.{Spells, up, ternary, binary, unary, index, slice, part_select, member_of, name, number, based, quoted, paren, call, system_alone, system_call, concat, replicated, array_pattern, macro_alone, macro_call, number_cast, name_cast, package_cast, paren_cast, word_cast, SpellsList, none, some, SpellsJoined, last, next}
 use Rattle.vast_literal.specs.FileGrammar.{IsMany, no_items, more_items, IsJoined, last_item, next_item, IsList, empty, full, arrow, IsUnique, unique, not_unique, IsStatement, simple, assigned, task, choice, cases, IsCases, cased, IsAssign, assigns, IsStatements, done, then, IsChoice, only, otherwise, or, IsLabels, no_labels, label, default, IsBody, body, bare, IsGroup, one, range, IsMaybe, absent, present, IsTypeName, no_type, own_type, packaged, IsDeclaration, declares, IsEvent, edge, plain, IsInput, input, IsDeclared, declared, IsGiven, given, IsConnection, connected, unconnected, IsGivenList, no_parameters, with_parameters, IsSemicolon, with_one, without, IsLabel, no_label, labelled, IsFunctionBody, block_body, casez_body, IsMember, declaration, continuous, parameter, macro, macro_with, instance, unclocked, clocked, conditional, function, loop, IsMembers, closed, and_member, IsParameter, header_parameter, IsPort, port, IsParameters, no_header_parameters, header_parameters, IsPorts, no_ports, ports, IsItem, module_item, include_item, IsFile, file}
 
 -- Whether a token is one of the grammar's.
@@ -42,6 +42,7 @@ mutual
   expression_used (index s i) = both (expression_used s) (and refl (both (expression_used i) (and refl nothing)))
   expression_used (slice s h l) = both (expression_used s) (and refl (both (expression_used h) (and refl (both (expression_used l) (and refl nothing)))))
   expression_used (part_select n s i) = both (expression_used s) (and refl (both (expression_used i) (and refl (and refl (and refl nothing)))))
+  expression_used (member_of m s) = both (expression_used s) (and refl (and refl nothing))
   expression_used (name w) = and refl nothing
   expression_used (number w) = and refl nothing
   expression_used (based w) = and refl nothing

@@ -87,6 +87,7 @@ pub enum ExpressionStep {
     MakeNegEdge(usize),
     MakeMacroRef(String),
     MakeMacroRefWithArgs(String, Vec<usize>),
+    MakeMember(usize, String),
 }
 
 /// Calls that make a type.

@@ -59,6 +59,8 @@ pub(super) const EXPRESSION: Parameter = Parameter("expression", kinds::EXPRESSI
 
 pub(super) const EXPRESSIONS: Parameter = Parameter("expressions", kinds::EXPRESSIONS);
 
+pub(super) const FIELD: Parameter = Parameter("field", kinds::TEXT);
+
 pub(super) const FORMAT: Parameter = Parameter("format", kinds::FORMAT);
 
 pub(super) const FUNCTION: Parameter = Parameter("function", kinds::FUNCTION);
