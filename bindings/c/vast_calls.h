@@ -672,6 +672,16 @@ static inline int32_t vast_make_macro_ref_with_args(vast_file *file, vast_string
     return vast_call_make(file, made == NULL ? NULL : &made->id);
 }
 
+/* The member `value.field` of a value of a named type, whose name prints as it is. */
+static inline int32_t vast_make_member(vast_file *file, vast_expression value, vast_string field,
+                                       vast_expression *made)
+{
+    vast_call_begin(file, "MakeMember", 417);
+    vast_call_handle(file, value.id);
+    vast_call_text(file, field);
+    return vast_call_make(file, made == NULL ? NULL : &made->id);
+}
+
 /* Types */
 
 /* The type of one bit. */

@@ -657,6 +657,19 @@ static inline vast_macro v_make_macro_ref_with_args(vast_file *file, const char 
     return answer;
 }
 
+/* `vast_make_member`: the member `value.field` of a value of a named type, whose name prints as
+ * it is. */
+static inline vast_expression v_make_member(vast_file *file, vast_expression value,
+                                            const char *field)
+{
+    vast_expression answer = {{0, 0}};
+    if (file->fault == VAST_OK)
+        file->fault = vast_make_member(file, value, vast_str(field), &answer);
+    return answer;
+}
+#define v_make_member(file, value, field) \
+    v_make_member(file, vast_expression_of(value), field)
+
 /* `vast_make_scalar_type`: the type of one bit. */
 static inline vast_type v_make_scalar_type(vast_file *file)
 {

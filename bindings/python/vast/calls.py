@@ -499,6 +499,12 @@ class Calls(Core):
             MacroRef,
         )
 
+    def make_member(self, value: Operand, field: str) -> Expr:
+        """The member `value.field` of a value of a named type, whose name prints as it is."""
+        if not (isinstance(value, Expression) and value.file is self):
+            value = self._value(value)
+        return self._later(f"MakeMember {value.step} {quoted(field)}", Expr)
+
     def make_scalar_type(self) -> DataType:
         """The type of one bit."""
         return self._later("MakeScalarType", DataType)

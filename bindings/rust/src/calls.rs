@@ -67,6 +67,7 @@ pub(crate) enum Call {
     MakeNegEdge = 369,
     MakeMacroRef = 385,
     MakeMacroRefWithArgs = 401,
+    MakeMember = 417,
     MakeScalarType = 2,
     MakeIntegerType = 18,
     MakeIntType = 34,

@@ -12,6 +12,10 @@ use crate::known::Width;
 
 /// Calls that the original has none of, as methods of a [`VastFile`] where this trait is in scope.
 pub trait VastFileExtension {
+    /// The member `value.field` of a value of a named type, whose name prints as it is. The original crate
+    /// lacks it.
+    fn make_member(&mut self, value: &Expr, field: &str) -> Expr;
+
     /// The packed array of elements of a type, each dimension as many as an expression says;
     /// [`VastFile::dimensions_are_usable`] is the test of these.
     ///
@@ -84,6 +88,11 @@ pub trait VastFileExtension {
 }
 
 impl VastFileExtension for VastFile {
+    fn make_member(&mut self, value: &Expr, field: &str) -> Expr {
+        let value_step = self.own(value.0);
+        Expr(self.later(Call::MakeMember, |calls| calls.step(value_step).text(field)))
+    }
+
     fn make_packed_array_type_expr(
         &mut self,
         element: VastDataType,

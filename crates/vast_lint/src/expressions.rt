@@ -109,8 +109,7 @@ pub(crate) fn expression(
         | ExpressionStep::MakeIndex(_, _)
         | ExpressionStep::MakeSliceExpr(_, _, _)
         | ExpressionStep::MakeIndexExpr(_, _)
-        | ExpressionStep::MakeIndexedPartSelect(_, _, _)
-        | ExpressionStep::MakeMember(_, _) => select(known, step, told)?,
+        | ExpressionStep::MakeIndexedPartSelect(_, _, _) => select(known, step, told)?,
         ExpressionStep::MakeConcat(_)
         | ExpressionStep::MakeReplicatedConcat(_, _)
         | ExpressionStep::MakeReplicatedConcatI64(_, _)
@@ -168,11 +167,6 @@ fn select(
             let form = known.form(*subject);
             told.show_if(form == Form::Signal(Some(0)), Rule::PartOfScalar)?;
             part_of(form, told)
-        }
-        ExpressionStep::MakeMember(value, field) => {
-            told.show_any(known.form(*value).select_rule())?;
-            told.show_if(is_keyword(known.dialect, field), Rule::Keyword)?;
-            Ok(Form::Signal(None))
         }
         _ => Ok(Form::Other),
     }
@@ -256,14 +250,14 @@ fn are_left_sides(known: Known<'_>, parts: &[usize]) -> bool {
         .all(|part| known.form(*part).left_rule().is_none())
 }
 
-/// What a name, a call, a cast, an edge or a macro is.
+/// What a name, a member, a call, a cast, an edge or a macro is.
 fn other(
     known: Known<'_>,
     step: &ExpressionStep,
     told: &mut StepFindings,
 ) -> Result<Form, AllocError> {
     match step {
-        ExpressionStep::MakeName(name) => {
+        ExpressionStep::MakeName(name) | ExpressionStep::MakeMember(_, name) => {
             told.show_if(is_keyword(known.dialect, name), Rule::Keyword)?;
             Ok(Form::Signal(None))
         }

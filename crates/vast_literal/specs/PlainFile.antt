@@ -128,7 +128,7 @@ are_plain_items (IncludeItem path ∷ items) = every is_path_byte path && are_pl
 are_plain_items (_ ∷ items) = are_plain_items items
 
 -- The names of the file's modules, instances, ports, connections, parameters, labels, packages, types and macros are plain, no
--- inline text stands in it, edges stand only in the lists of events, left sides are names, selects and concatenations, and what
+-- inline text stands in it, edges stand only in the lists of events, left sides are names, selects, members and concatenations, and what
 -- stands as a statement by itself is a call. What isn't printed is not asked: the types of names, and events that aren't listed.
 abbrev pub is_plain_file : FileTree → Bool
 is_plain_file f = are_plain_items f.items

@@ -27,8 +27,8 @@ fn is_plain_item(ast: &Ast, item: &FileItem) -> Result<bool, AllocError>
 }
 
 /// Whether the file is plain: each printed name is an identifier and no keyword, edges stand only in lists of events,
-/// left sides are names, selects or concatenations, an include's path has no quote, backslash or line break, and
-/// there is no inline text. Where it is, the grammar derives the normal form of the file's tree from its text.
+/// left sides are names, selects, members or concatenations, an include's path has no quote, backslash or line break,
+/// and there is no inline text. Where it is, the grammar derives the normal form of the file's tree from its text.
 ///
 /// It takes memory for the parts of an expression that wait to be looked at, and stack in proportion to how deep
 /// statements and loops are nested.

@@ -290,6 +290,11 @@ pub fn make(file: &mut VastFile, answers: &Answers, line: &Line) -> Result<Answe
                 file.make_macro_ref_with_args(name, &arguments),
             ))
         }
+        "MakeMember" => {
+            let value = answers.handle(&words[0])?;
+            let field = words[1].text();
+            Ok(Answer::Expr(file.make_member(&value, field)))
+        }
         "MakeScalarType" => Ok(Answer::VastDataType(file.make_scalar_type())),
         "MakeIntegerType" => {
             let signed = words[0].truth();

@@ -128,8 +128,7 @@ impl VastFile {
         self.push_expr(ExprNode::PartSelect(subject.to_expr(), *start, width))
     }
 
-    /// The member `value.field` of a value of a named type, which prints with the name as it is. The Rust crate has no
-    /// such call.
+    /// The member `value.field` of a value of a named type, whose name prints as it is. The original crate lacks it.
     ///
     /// # Errors
     /// `AllocError` where a growth was refused; the file is unchanged.
