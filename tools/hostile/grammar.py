@@ -122,7 +122,11 @@ class Reader:
 
     def postfix(self):
         self.primary()
-        while self.take("["):
+        while self.sees("[", "."):
+            if self.take("."):
+                self.need_kind("name")
+                continue
+            self.need("[")
             self.expression()
             if self.take("+:"):
                 self.need_kind("number")

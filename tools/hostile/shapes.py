@@ -55,6 +55,7 @@ EXPRESSIONS = [
     flat("selects", ("module m;assign x=a", ";endmodule"), "[0]"),
     flat("part selects", ("module m;assign x=a", ";endmodule"), "[1:0]"),
     flat("selects on the left", ("module m;assign a", "=x;endmodule"), "[0]"),
+    flat("members", ("module m;assign x=a", ";endmodule"), ".a"),
     inner("parentheses", "(", ")"),
     inner("parentheses on the right of a sum", "a+(", ")"),
     inner("parentheses on the left of a sum", "(", ")+a"),

@@ -73,7 +73,7 @@ static WORDS: [Word; 49] = [
     (Kind::Reserved(Key::Genvar), "genvar", &["a kind"]),
     (Kind::Reserved(Key::Automatic), "automatic", &[]),
     (Kind::Reserved(Key::Or), "or", &[]),
-    (Kind::Mark(Mark::Dot), "'.'", &[]),
+    (Kind::Mark(Mark::Dot), "'.'", &["an operator"]),
     (Kind::Mark(Mark::Hash), "'#'", &[]),
     (Kind::Mark(Mark::At), "'@'", &[]),
     (Kind::Mark(Mark::PlusColon), "'+:'", &[]),
