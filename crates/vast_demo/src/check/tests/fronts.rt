@@ -19,7 +19,7 @@ type Row = (
     &'static [Kind],
 );
 
-const ROWS: [Row; 12] = [
+const ROWS: [Row; 14] = [
     (
         "",
         "",
@@ -106,6 +106,20 @@ const ROWS: [Row; 12] = [
         false,
         &[SEMICOLON, Kind::Mark(Mark::Assign)],
         &[CLOSE, Kind::Reserved(Key::End)],
+    ),
+    (
+        "module m; assign a = s.1",
+        "module m; assign a = s.",
+        false,
+        &[Kind::Word],
+        &[Kind::Number, SEMICOLON],
+    ),
+    (
+        "module m; assign s.a b",
+        "module m; assign s.a ",
+        false,
+        &[Kind::Mark(Mark::Dot), Kind::Mark(Mark::Assign)],
+        &[OPEN, SEMICOLON],
     ),
 ];
 
