@@ -2,7 +2,7 @@
 
 ghost use Rattle.std.specs.Prelude.{IfOk};
 ghost use Rattle.vast_rows.specs.Built.{make};
-ghost use Rattle.vast_read.specs.Internal.Made.{Grown, seen};
+ghost use Rattle.vast_read.specs.Internal.Made.{Grown, denoted};
 
 use crate::children::Children;
 use crate::made::declarations::{declares, group_of, kind_of, name_before, packaged, sign_of};
@@ -24,7 +24,7 @@ use vast_rows::Action;
 /// Where they are no such parts, some of them leave, and nothing is made.
 #[tactic(auto, unfolding(vast_rows::specs::Built::make))]
 pub(crate) fn make(alloc: Global, action: Action, values: &mut Values<'_>) -> Result<(), AllocError>
-    ensures { IfOk result (λ _. Grown (make action (seen values.old)) values.new) }
+    ensures { IfOk result (λ _. Grown (make action (denoted values.old)) values.new) }
 {
     match action {
         Action::Nothing => values.push(Value::Nothing),
