@@ -368,74 +368,78 @@ static int part_9(answers *have)
 {
     CHECK(vast_hoist_module_declarations(&have->file, have->module, 0) == VAST_OK);
     CHECK(is_written(have, "HoistModuleDeclarations 2 0", "\004\263\002\002\000", 5));
-    CHECK(vast_add_generate_loop(&have->file, have->module, vast_str("name_85"),
+    CHECK(vast_add_import(&have->file, have->module, vast_str("package_85")) == VAST_OK);
+    CHECK(is_written(have, "AddImport 2 \"package_85\"", "\016\303\002\002\012package_85", 15));
+    CHECK(vast_add_file_import(&have->file, vast_str("package_86")) == VAST_OK);
+    CHECK(is_written(have, "AddFileImport \"package_86\"", "\015\323\002\012package_86", 14));
+    CHECK(vast_add_generate_loop(&have->file, have->module, vast_str("name_87"),
                                  vast_expression_of(have->signal), have->expression,
                                  vast_str("label"), &have->loop) == VAST_OK);
-    CHECK(is_written(have, "AddGenerateLoop 2 \"name_85\" 3 0 + \"label\"",
-                           "\023\004\002\007name_85\003\000\001\005label", 20));
-    CHECK(vast_generate_add_generate_loop(&have->file, have->loop, vast_str("name_86"),
+    CHECK(is_written(have, "AddGenerateLoop 2 \"name_87\" 3 0 + \"label\"",
+                           "\023\004\002\007name_87\003\000\001\005label", 20));
+    CHECK(vast_generate_add_generate_loop(&have->file, have->loop, vast_str("name_88"),
                                           vast_expression_of(have->signal), have->expression,
                                           vast_str("label"), NULL) == VAST_OK);
-    CHECK(is_written(have, "GenerateAddGenerateLoop 85 \"name_86\" 3 0 + \"label\"",
-                           "\023\024U\007name_86\003\000\001\005label", 20));
+    CHECK(is_written(have, "GenerateAddGenerateLoop 87 \"name_88\" 3 0 + \"label\"",
+                           "\023\024W\007name_88\003\000\001\005label", 20));
     CHECK(vast_generate_genvar(&have->file, have->loop, NULL) == VAST_OK);
-    CHECK(is_written(have, "GenerateGenvar 85", "\002$U", 3));
+    CHECK(is_written(have, "GenerateGenvar 87", "\002$W", 3));
     CHECK(vast_generate_add_always_comb(&have->file, have->loop, &have->always) == VAST_OK);
-    CHECK(is_written(have, "GenerateAddAlwaysComb 85", "\0024U", 3));
+    CHECK(is_written(have, "GenerateAddAlwaysComb 87", "\0024W", 3));
     CHECK(vast_generate_add_always_ff(&have->file, have->loop, have->expressions, 2,
                                       NULL) == VAST_OK);
-    CHECK(is_written(have, "GenerateAddAlwaysFf 85 [ 3 3 ]", "\005DU\002\003\003", 6));
+    CHECK(is_written(have, "GenerateAddAlwaysFf 87 [ 3 3 ]", "\005DW\002\003\003", 6));
     CHECK(vast_generate_add_always_at(&have->file, have->loop, have->expressions, 2,
                                       NULL) == VAST_OK);
-    CHECK(is_written(have, "GenerateAddAlwaysAt 85 [ 3 3 ]", "\005TU\002\003\003", 6));
-    CHECK(vast_generate_add_localparam(&have->file, have->loop, vast_str("name_91"),
+    CHECK(is_written(have, "GenerateAddAlwaysAt 87 [ 3 3 ]", "\005TW\002\003\003", 6));
+    CHECK(vast_generate_add_localparam(&have->file, have->loop, vast_str("name_93"),
                                        vast_expression_of(have->signal), NULL) == VAST_OK);
-    CHECK(is_written(have, "GenerateAddLocalparam 85 \"name_91\" 3", "\013dU\007name_91\003", 12));
-    CHECK(vast_generate_add_continuous_assignment(&have->file, have->loop,
-                                                  vast_expression_of(have->signal),
-                                                  have->expression, &have->statement) == VAST_OK);
-    CHECK(is_written(have, "GenerateAddContinuousAssignment 85 3 0", "\005\204\001U\003\000", 6));
-    CHECK(vast_generate_add_conditional(&have->file, have->loop, vast_expression_of(have->signal),
-                                        &have->conditional) == VAST_OK);
-    CHECK(is_written(have, "GenerateAddConditional 85 3", "\004\224\001U\003", 5));
+    CHECK(is_written(have, "GenerateAddLocalparam 87 \"name_93\" 3", "\013dW\007name_93\003", 12));
     return 0;
 }
 
 static int part_10(answers *have)
 {
+    CHECK(vast_generate_add_continuous_assignment(&have->file, have->loop,
+                                                  vast_expression_of(have->signal),
+                                                  have->expression, &have->statement) == VAST_OK);
+    CHECK(is_written(have, "GenerateAddContinuousAssignment 87 3 0", "\005\204\001W\003\000", 6));
+    CHECK(vast_generate_add_conditional(&have->file, have->loop, vast_expression_of(have->signal),
+                                        &have->conditional) == VAST_OK);
+    CHECK(is_written(have, "GenerateAddConditional 87 3", "\004\224\001W\003", 5));
     CHECK(vast_generate_add_blank_line(&have->file, have->loop) == VAST_OK);
-    CHECK(is_written(have, "GenerateAddBlankLine 85", "\003\244\001U", 4));
+    CHECK(is_written(have, "GenerateAddBlankLine 87", "\003\244\001W", 4));
     CHECK(vast_generate_add_always_star(&have->file, have->loop, NULL) == VAST_OK);
-    CHECK(is_written(have, "GenerateAddAlwaysStar 85", "\003\364\001U", 4));
+    CHECK(is_written(have, "GenerateAddAlwaysStar 87", "\003\364\001W", 4));
     CHECK(vast_generate_add_always_latch(&have->file, have->loop, NULL) == VAST_OK);
-    CHECK(is_written(have, "GenerateAddAlwaysLatch 85", "\003\204\002U", 4));
+    CHECK(is_written(have, "GenerateAddAlwaysLatch 87", "\003\204\002W", 4));
     CHECK(vast_generate_add_initial(&have->file, have->loop, NULL) == VAST_OK);
-    CHECK(is_written(have, "GenerateAddInitial 85", "\003\224\002U", 4));
-    CHECK(vast_add_function(&have->file, have->module, vast_str("name_98"), have->type,
+    CHECK(is_written(have, "GenerateAddInitial 87", "\003\224\002W", 4));
+    CHECK(vast_add_function(&have->file, have->module, vast_str("name_100"), have->type,
                             &have->function) == VAST_OK);
-    CHECK(is_written(have, "AddFunction 2 \"name_98\" 1", "\013\005\002\007name_98\001", 12));
-    CHECK(vast_function_add_input(&have->file, have->function, vast_str("name_99"), have->type,
+    CHECK(is_written(have, "AddFunction 2 \"name_100\" 1", "\014\005\002\010name_100\001", 13));
+    CHECK(vast_function_add_input(&have->file, have->function, vast_str("name_101"), have->type,
                                   NULL) == VAST_OK);
-    CHECK(is_written(have, "FunctionAddInput 98 \"name_99\" 1", "\013\025b\007name_99\001", 12));
-    CHECK(vast_function_add_logic_input(&have->file, have->function, vast_str("name_100"),
+    CHECK(is_written(have, "FunctionAddInput 100 \"name_101\" 1", "\014\025d\010name_101\001", 13));
+    CHECK(vast_function_add_logic_input(&have->file, have->function, vast_str("name_102"),
                                         have->type, NULL) == VAST_OK);
-    CHECK(is_written(have, "FunctionAddLogicInput 98 \"name_100\" 1", "\014%b\010name_100\001",
+    CHECK(is_written(have, "FunctionAddLogicInput 100 \"name_102\" 1", "\014%d\010name_102\001",
                            13));
-    CHECK(vast_function_add_reg(&have->file, have->function, vast_str("name_101"), have->type,
+    CHECK(vast_function_add_reg(&have->file, have->function, vast_str("name_103"), have->type,
                                 NULL) == VAST_OK);
-    CHECK(is_written(have, "FunctionAddReg 98 \"name_101\" 1", "\0145b\010name_101\001", 13));
-    CHECK(vast_function_add_logic(&have->file, have->function, vast_str("name_102"), have->type,
-                                  NULL) == VAST_OK);
-    CHECK(is_written(have, "FunctionAddLogic 98 \"name_102\" 1", "\014Eb\010name_102\001", 13));
-    CHECK(vast_function_body(&have->file, have->function, &have->block) == VAST_OK);
-    CHECK(is_written(have, "FunctionBody 98", "\002Ub", 3));
+    CHECK(is_written(have, "FunctionAddReg 100 \"name_103\" 1", "\0145d\010name_103\001", 13));
     return 0;
 }
 
 static int part_11(answers *have)
 {
+    CHECK(vast_function_add_logic(&have->file, have->function, vast_str("name_104"), have->type,
+                                  NULL) == VAST_OK);
+    CHECK(is_written(have, "FunctionAddLogic 100 \"name_104\" 1", "\014Ed\010name_104\001", 13));
+    CHECK(vast_function_body(&have->file, have->function, &have->block) == VAST_OK);
+    CHECK(is_written(have, "FunctionBody 100", "\002Ud", 3));
     CHECK(vast_function_result(&have->file, have->function, NULL) == VAST_OK);
-    CHECK(is_written(have, "FunctionResult 98", "\002eb", 3));
+    CHECK(is_written(have, "FunctionResult 100", "\002ed", 3));
     CHECK(vast_add_always_ff(&have->file, have->module, have->expressions, 2, NULL) == VAST_OK);
     CHECK(is_written(have, "AddAlwaysFf 2 [ 3 3 ]", "\005u\002\002\003\003", 6));
     CHECK(vast_add_always_at(&have->file, have->module, have->expressions, 2, NULL) == VAST_OK);
@@ -443,65 +447,65 @@ static int part_11(answers *have)
     CHECK(vast_add_always_comb(&have->file, have->module, NULL) == VAST_OK);
     CHECK(is_written(have, "AddAlwaysComb 2", "\003\225\001\002", 4));
     CHECK(vast_statement_block(&have->file, have->always, NULL) == VAST_OK);
-    CHECK(is_written(have, "StatementBlock 88", "\003\245\001X", 4));
+    CHECK(is_written(have, "StatementBlock 90", "\003\245\001Z", 4));
     CHECK(vast_block_add_blocking_assignment(&have->file, have->block,
                                              vast_expression_of(have->signal), have->expression,
                                              NULL) == VAST_OK);
-    CHECK(is_written(have, "BlockAddBlockingAssignment 103 3 0", "\005\265\001g\003\000", 6));
+    CHECK(is_written(have, "BlockAddBlockingAssignment 105 3 0", "\005\265\001i\003\000", 6));
     CHECK(vast_block_add_nonblocking_assignment(&have->file, have->block,
                                                 vast_expression_of(have->signal), have->expression,
                                                 NULL) == VAST_OK);
-    CHECK(is_written(have, "BlockAddNonblockingAssignment 103 3 0", "\005\305\001g\003\000", 6));
+    CHECK(is_written(have, "BlockAddNonblockingAssignment 105 3 0", "\005\305\001i\003\000", 6));
     CHECK(vast_block_add_continuous_assignment(&have->file, have->block,
                                                vast_expression_of(have->signal), have->expression,
                                                NULL) == VAST_OK);
-    CHECK(is_written(have, "BlockAddContinuousAssignment 103 3 0", "\005\325\001g\003\000", 6));
-    CHECK(vast_block_add_comment_text(&have->file, have->block, vast_str("text_112")) == VAST_OK);
-    CHECK(is_written(have, "BlockAddCommentText 103 \"text_112\"", "\014\345\001g\010text_112",
-                           13));
-    CHECK(vast_block_add_inline_text(&have->file, have->block, vast_str("text_113")) == VAST_OK);
-    CHECK(is_written(have, "BlockAddInlineText 103 \"text_113\"", "\014\365\001g\010text_113", 13));
+    CHECK(is_written(have, "BlockAddContinuousAssignment 105 3 0", "\005\325\001i\003\000", 6));
     return 0;
 }
 
 static int part_12(answers *have)
 {
+    CHECK(vast_block_add_comment_text(&have->file, have->block, vast_str("text_114")) == VAST_OK);
+    CHECK(is_written(have, "BlockAddCommentText 105 \"text_114\"", "\014\345\001i\010text_114",
+                           13));
+    CHECK(vast_block_add_inline_text(&have->file, have->block, vast_str("text_115")) == VAST_OK);
+    CHECK(is_written(have, "BlockAddInlineText 105 \"text_115\"", "\014\365\001i\010text_115", 13));
     CHECK(vast_block_add_blank_line(&have->file, have->block) == VAST_OK);
-    CHECK(is_written(have, "BlockAddBlankLine 103", "\003\205\002g", 4));
+    CHECK(is_written(have, "BlockAddBlankLine 105", "\003\205\002i", 4));
     CHECK(vast_add_conditional(&have->file, have->module, vast_expression_of(have->signal),
                                NULL) == VAST_OK);
     CHECK(is_written(have, "AddConditional 2 3", "\004\225\002\002\003", 5));
     CHECK(vast_block_add_cond(&have->file, have->block, vast_expression_of(have->signal),
                               NULL) == VAST_OK);
-    CHECK(is_written(have, "BlockAddCond 103 3", "\004\245\002g\003", 5));
+    CHECK(is_written(have, "BlockAddCond 105 3", "\004\245\002i\003", 5));
     CHECK(vast_conditional_then_block(&have->file, have->conditional, NULL) == VAST_OK);
-    CHECK(is_written(have, "ConditionalThenBlock 93", "\003\265\002]", 4));
+    CHECK(is_written(have, "ConditionalThenBlock 95", "\003\265\002_", 4));
     CHECK(vast_conditional_add_else_if(&have->file, have->conditional,
                                        vast_expression_of(have->signal), NULL) == VAST_OK);
-    CHECK(is_written(have, "ConditionalAddElseIf 93 3", "\004\305\002]\003", 5));
+    CHECK(is_written(have, "ConditionalAddElseIf 95 3", "\004\305\002_\003", 5));
     CHECK(vast_conditional_add_else(&have->file, have->conditional, NULL) == VAST_OK);
-    CHECK(is_written(have, "ConditionalAddElse 93", "\003\325\002]", 4));
+    CHECK(is_written(have, "ConditionalAddElse 95", "\003\325\002_", 4));
     CHECK(vast_block_add_case(&have->file, have->block, vast_expression_of(have->signal),
                               &have->cases) == VAST_OK);
-    CHECK(is_written(have, "BlockAddCase 103 3", "\004\345\002g\003", 5));
+    CHECK(is_written(have, "BlockAddCase 105 3", "\004\345\002i\003", 5));
     CHECK(vast_block_add_casez(&have->file, have->block, vast_expression_of(have->signal),
                                NULL) == VAST_OK);
-    CHECK(is_written(have, "BlockAddCasez 103 3", "\004\365\002g\003", 5));
-    CHECK(vast_block_add_casex(&have->file, have->block, vast_expression_of(have->signal),
-                               NULL) == VAST_OK);
-    CHECK(is_written(have, "BlockAddCasex 103 3", "\004\205\003g\003", 5));
-    CHECK(vast_case_add_item(&have->file, have->cases, vast_expression_of(have->signal),
-                             NULL) == VAST_OK);
-    CHECK(is_written(have, "CaseAddItem 120 3", "\004\225\003x\003", 5));
+    CHECK(is_written(have, "BlockAddCasez 105 3", "\004\365\002i\003", 5));
     return 0;
 }
 
 static int part_13(answers *have)
 {
+    CHECK(vast_block_add_casex(&have->file, have->block, vast_expression_of(have->signal),
+                               NULL) == VAST_OK);
+    CHECK(is_written(have, "BlockAddCasex 105 3", "\004\205\003i\003", 5));
+    CHECK(vast_case_add_item(&have->file, have->cases, vast_expression_of(have->signal),
+                             NULL) == VAST_OK);
+    CHECK(is_written(have, "CaseAddItem 122 3", "\004\225\003z\003", 5));
     CHECK(vast_case_add_default(&have->file, have->cases, NULL) == VAST_OK);
-    CHECK(is_written(have, "CaseAddDefault 120", "\003\245\003x", 4));
+    CHECK(is_written(have, "CaseAddDefault 122", "\003\245\003z", 4));
     CHECK(vast_case_set_unique(&have->file, have->cases, true) == VAST_OK);
-    CHECK(is_written(have, "CaseSetUnique 120 true", "\004\265\003x\001", 5));
+    CHECK(is_written(have, "CaseSetUnique 122 true", "\004\265\003z\001", 5));
     CHECK(vast_add_always_star(&have->file, have->module, NULL) == VAST_OK);
     CHECK(is_written(have, "AddAlwaysStar 2", "\003\305\003\002", 4));
     CHECK(vast_add_always_latch(&have->file, have->module, NULL) == VAST_OK);
@@ -510,98 +514,98 @@ static int part_13(answers *have)
     CHECK(is_written(have, "AddInitial 2", "\003\345\003\002", 4));
     CHECK(vast_block_add_task_call(&have->file, have->block,
                                    vast_expression_of(have->signal)) == VAST_OK);
-    CHECK(is_written(have, "BlockAddTaskCall 103 3", "\004\365\003g\003", 5));
-    CHECK(vast_make_def(&have->file, vast_str("name_130"), VAST_DATA_KIND_GENVAR, have->type,
+    CHECK(is_written(have, "BlockAddTaskCall 105 3", "\004\365\003i\003", 5));
+    CHECK(vast_make_def(&have->file, vast_str("name_132"), VAST_DATA_KIND_GENVAR, have->type,
                         &have->definition) == VAST_OK);
-    CHECK(is_written(have, "MakeDef \"name_130\" Genvar 1", "\014\006\010name_130\007\001", 13));
+    CHECK(is_written(have, "MakeDef \"name_132\" Genvar 1", "\014\006\010name_132\007\001", 13));
     CHECK(vast_add_parameter_with_def(&have->file, have->module, have->definition,
                                       vast_expression_of(have->signal), NULL) == VAST_OK);
-    CHECK(is_written(have, "AddParameterWithDef 2 130 3", "\006\363\001\002\202\001\003", 7));
-    CHECK(vast_add_typed_localparam(&have->file, have->module, have->definition,
-                                    vast_expression_of(have->signal), NULL) == VAST_OK);
-    CHECK(is_written(have, "AddTypedLocalparam 2 130 3", "\006\243\002\002\202\001\003", 7));
-    CHECK(vast_generate_add_typed_localparam(&have->file, have->loop, have->definition,
-                                             vast_expression_of(have->signal), NULL) == VAST_OK);
-    CHECK(is_written(have, "GenerateAddTypedLocalparam 85 130 3", "\005tU\202\001\003", 6));
+    CHECK(is_written(have, "AddParameterWithDef 2 132 3", "\006\363\001\002\204\001\003", 7));
     return 0;
 }
 
 static int part_14(answers *have)
 {
+    CHECK(vast_add_typed_localparam(&have->file, have->module, have->definition,
+                                    vast_expression_of(have->signal), NULL) == VAST_OK);
+    CHECK(is_written(have, "AddTypedLocalparam 2 132 3", "\006\243\002\002\204\001\003", 7));
+    CHECK(vast_generate_add_typed_localparam(&have->file, have->loop, have->definition,
+                                             vast_expression_of(have->signal), NULL) == VAST_OK);
+    CHECK(is_written(have, "GenerateAddTypedLocalparam 87 132 3", "\005tW\204\001\003", 6));
     CHECK(vast_make_blank_line(&have->file, &have->blank_line) == VAST_OK);
     CHECK(is_written(have, "MakeBlankLine", "\001\026", 2));
     CHECK(vast_add_blank_line(&have->file, have->blank_line) == VAST_OK);
-    CHECK(is_written(have, "AddBlankLine 134", "\003\023\206\001", 4));
-    CHECK(vast_make_comment(&have->file, vast_str("text_136"), &have->comment) == VAST_OK);
-    CHECK(is_written(have, "MakeComment \"text_136\"", "\012&\010text_136", 11));
+    CHECK(is_written(have, "AddBlankLine 136", "\003\023\210\001", 4));
+    CHECK(vast_make_comment(&have->file, vast_str("text_138"), &have->comment) == VAST_OK);
+    CHECK(is_written(have, "MakeComment \"text_138\"", "\012&\010text_138", 11));
     CHECK(vast_generate_add_comment(&have->file, have->loop, have->comment) == VAST_OK);
-    CHECK(is_written(have, "GenerateAddComment 85 136", "\005\264\001U\210\001", 6));
-    CHECK(vast_make_inline_verilog_statement(&have->file, vast_str("text_138"),
+    CHECK(is_written(have, "GenerateAddComment 87 138", "\005\264\001W\212\001", 6));
+    CHECK(vast_make_inline_verilog_statement(&have->file, vast_str("text_140"),
                                              &have->inline_statement) == VAST_OK);
-    CHECK(is_written(have, "MakeInlineVerilogStatement \"text_138\"", "\0126\010text_138", 11));
+    CHECK(is_written(have, "MakeInlineVerilogStatement \"text_140\"", "\0126\010text_140", 11));
     CHECK(vast_generate_add_inline_statement(&have->file, have->loop,
                                              have->inline_statement) == VAST_OK);
-    CHECK(is_written(have, "GenerateAddInlineStatement 85 138", "\005\324\001U\212\001", 6));
+    CHECK(is_written(have, "GenerateAddInlineStatement 87 140", "\005\324\001W\214\001", 6));
     CHECK(vast_make_macro_statement(&have->file, have->macro, true,
                                     &have->macro_statement) == VAST_OK);
     CHECK(is_written(have, "MakeMacroStatement 58 true", "\003F:\001", 4));
     CHECK(vast_generate_add_macro_statement(&have->file, have->loop,
                                             have->macro_statement) == VAST_OK);
-    CHECK(is_written(have, "GenerateAddMacroStatement 85 140", "\005\344\001U\214\001", 6));
+    CHECK(is_written(have, "GenerateAddMacroStatement 87 142", "\005\344\001W\216\001", 6));
+    return 0;
+}
+
+static int part_15(answers *have)
+{
     CHECK(vast_make_continuous_assignment(&have->file, vast_expression_of(have->signal),
                                           have->expression, &have->assignment) == VAST_OK);
     CHECK(is_written(have, "MakeContinuousAssignment 3 0", "\003V\003\000", 4));
     CHECK(vast_make_nonblocking_assignment(&have->file, vast_expression_of(have->signal),
                                            have->expression, NULL) == VAST_OK);
     CHECK(is_written(have, "MakeNonblockingAssignment 3 0", "\003f\003\000", 4));
-    return 0;
-}
-
-static int part_15(answers *have)
-{
     CHECK(vast_make_blocking_assignment(&have->file, vast_expression_of(have->signal),
                                         have->expression, NULL) == VAST_OK);
     CHECK(is_written(have, "MakeBlockingAssignment 3 0", "\003v\003\000", 4));
-    CHECK(vast_make_instantiation(&have->file, vast_str("module_name_145"),
-                                  vast_str("instance_name_145"), have->strings, 2,
+    CHECK(vast_make_instantiation(&have->file, vast_str("module_name_147"),
+                                  vast_str("instance_name_147"), have->strings, 2,
                                   have->expressions, 2, have->strings, 2, have->options, 2,
                                   &have->instantiation) == VAST_OK);
     CHECK(is_written(have,
-                           "MakeInstantiation \"module_name_145\" \"instance_name_145\" [ \"first\" \"second\" ] [ 3 3 ] [ \"first\" \"second\" ] [ + 3 - ]",
-                           "G\206\001\017module_name_145\021instance_name_145\002\005first\006second\002\003\003\002\005first\006second\002\001\003\000",
+                           "MakeInstantiation \"module_name_147\" \"instance_name_147\" [ \"first\" \"second\" ] [ 3 3 ] [ \"first\" \"second\" ] [ + 3 - ]",
+                           "G\206\001\017module_name_147\021instance_name_147\002\005first\006second\002\003\003\002\005first\006second\002\001\003\000",
                            72));
     CHECK(vast_generate_add_instantiation(&have->file, have->loop, have->instantiation) == VAST_OK);
-    CHECK(is_written(have, "GenerateAddInstantiation 85 145", "\005\304\001U\221\001", 6));
+    CHECK(is_written(have, "GenerateAddInstantiation 87 147", "\005\304\001W\223\001", 6));
     CHECK(vast_add_member_instantiation(&have->file, have->module, have->instantiation) == VAST_OK);
-    CHECK(is_written(have, "AddMemberInstantiation 2 145", "\005\226\001\002\221\001", 6));
+    CHECK(is_written(have, "AddMemberInstantiation 2 147", "\005\226\001\002\223\001", 6));
     CHECK(vast_add_member_continuous_assignment(&have->file, have->module,
                                                 have->assignment) == VAST_OK);
-    CHECK(is_written(have, "AddMemberContinuousAssignment 2 142", "\005\246\001\002\216\001", 6));
+    CHECK(is_written(have, "AddMemberContinuousAssignment 2 144", "\005\246\001\002\220\001", 6));
     CHECK(vast_add_member_blank_line(&have->file, have->module, have->blank_line) == VAST_OK);
-    CHECK(is_written(have, "AddMemberBlankLine 2 134", "\005\266\001\002\206\001", 6));
+    CHECK(is_written(have, "AddMemberBlankLine 2 136", "\005\266\001\002\210\001", 6));
     CHECK(vast_add_member_comment(&have->file, have->module, have->comment) == VAST_OK);
-    CHECK(is_written(have, "AddMemberComment 2 136", "\005\306\001\002\210\001", 6));
+    CHECK(is_written(have, "AddMemberComment 2 138", "\005\306\001\002\212\001", 6));
     CHECK(vast_add_member_inline_statement(&have->file, have->module,
                                            have->inline_statement) == VAST_OK);
-    CHECK(is_written(have, "AddMemberInlineStatement 2 138", "\005\326\001\002\212\001", 6));
-    CHECK(vast_add_member_macro_statement(&have->file, have->module,
-                                          have->macro_statement) == VAST_OK);
-    CHECK(is_written(have, "AddMemberMacroStatement 2 140", "\005\346\001\002\214\001", 6));
-    CHECK(vast_conditional_has_else(&have->file, have->conditional, &have->truth) == VAST_OK);
-    CHECK(is_written(have, "?ConditionalHasElse 93", "\002\007]", 3));
+    CHECK(is_written(have, "AddMemberInlineStatement 2 140", "\005\326\001\002\214\001", 6));
     return 0;
 }
 
 static int part_16(answers *have)
 {
+    CHECK(vast_add_member_macro_statement(&have->file, have->module,
+                                          have->macro_statement) == VAST_OK);
+    CHECK(is_written(have, "AddMemberMacroStatement 2 142", "\005\346\001\002\216\001", 6));
+    CHECK(vast_conditional_has_else(&have->file, have->conditional, &have->truth) == VAST_OK);
+    CHECK(is_written(have, "?ConditionalHasElse 95", "\002\007_", 3));
     CHECK(vast_emit_expression(&have->file, vast_expression_of(have->signal),
                                &have->text) == VAST_OK);
     CHECK(is_written(have, "?EmitExpression 3", "\002'\003", 3));
     CHECK(vast_file_is_plain(&have->file, &have->truth) == VAST_OK);
     CHECK(is_written(have, "?FileIsPlain", "\0017", 2));
-    CHECK(vast_is_system_verilog_keyword(&have->file, vast_str("identifier_156"),
+    CHECK(vast_is_system_verilog_keyword(&have->file, vast_str("identifier_158"),
                                          &have->truth) == VAST_OK);
-    CHECK(is_written(have, "?IsSystemVerilogKeyword \"identifier_156\"", "\020G\016identifier_156",
+    CHECK(is_written(have, "?IsSystemVerilogKeyword \"identifier_158\"", "\020G\016identifier_158",
                            17));
     CHECK(vast_logic_ref_name(&have->file, have->signal, &have->text) == VAST_OK);
     CHECK(is_written(have, "?LogicRefName 3", "\002W\003", 3));
@@ -613,16 +617,16 @@ static int part_16(answers *have)
     CHECK(is_written(have, "?ModuleName 2", "\003\207\001\002", 4));
     CHECK(vast_module_output_ports(&have->file, have->module, &have->ports) == VAST_OK);
     CHECK(is_written(have, "?ModuleOutputPorts 2", "\003\227\001\002", 4));
-    CHECK(vast_module_ports(&have->file, have->module, &have->ports) == VAST_OK);
-    CHECK(is_written(have, "?ModulePorts 2", "\003\247\001\002", 4));
-    CHECK(vast_name_is_free(&have->file, have->module, vast_str("name_163"),
-                            &have->truth) == VAST_OK);
-    CHECK(is_written(have, "?NameIsFree 2 \"name_163\"", "\014\267\001\002\010name_163", 13));
     return 0;
 }
 
 static int part_17(answers *have)
 {
+    CHECK(vast_module_ports(&have->file, have->module, &have->ports) == VAST_OK);
+    CHECK(is_written(have, "?ModulePorts 2", "\003\247\001\002", 4));
+    CHECK(vast_name_is_free(&have->file, have->module, vast_str("name_165"),
+                            &have->truth) == VAST_OK);
+    CHECK(is_written(have, "?NameIsFree 2 \"name_165\"", "\014\267\001\002\010name_165", 13));
     CHECK(vast_type_can_be_cast(&have->file, have->type, &have->truth) == VAST_OK);
     CHECK(is_written(have, "?TypeCanBeCast 1", "\003\307\001\001", 4));
     CHECK(vast_type_can_be_packed(&have->file, have->type, &have->truth) == VAST_OK);
@@ -640,19 +644,19 @@ static int part_17(answers *have)
     CHECK(is_written(have, "?WidthIsUsable 3", "\003\247\002\003", 4));
     CHECK(vast_add_registers(&have->file, vast_expression_of(have->signal), &have->reset,
                              have->definitions, 2, vast_scope_of(have->loop)) == VAST_OK);
-    CHECK(is_written(have, "!AddRegisters 3 + [ 3 true ] [ [ 3 0 + 3 - ] [ 3 0 - + 3 ] ] 85",
-                           "\021\010\003\001\003\001\002\003\000\001\003\000\003\000\000\001\003U",
+    CHECK(is_written(have, "!AddRegisters 3 + [ 3 true ] [ [ 3 0 + 3 - ] [ 3 0 - + 3 ] ] 87",
+                           "\021\010\003\001\003\001\002\003\000\001\003\000\003\000\000\001\003W",
                            18));
-    CHECK(vast_bitwise_or_reduce(&have->file, have->expressions, 2, NULL) == VAST_OK);
-    CHECK(is_written(have, "!BitwiseOrReduce [ 3 3 ]", "\004\030\002\003\003", 5));
-    CHECK(vast_bitwise_or_reduce_array_elements(&have->file, vast_indexable_of(have->memory),
-                                                have->integers, 1, NULL) == VAST_OK);
-    CHECK(is_written(have, "!BitwiseOrReduceArrayElements 77 [ 2 ]", "\004(M\001\004", 5));
     return 0;
 }
 
 static int part_18(answers *have)
 {
+    CHECK(vast_bitwise_or_reduce(&have->file, have->expressions, 2, NULL) == VAST_OK);
+    CHECK(is_written(have, "!BitwiseOrReduce [ 3 3 ]", "\004\030\002\003\003", 5));
+    CHECK(vast_bitwise_or_reduce_array_elements(&have->file, vast_indexable_of(have->memory),
+                                                have->integers, 1, NULL) == VAST_OK);
+    CHECK(is_written(have, "!BitwiseOrReduceArrayElements 77 [ 2 ]", "\004(M\001\004", 5));
     CHECK(vast_logical_and_reduce(&have->file, have->expressions, 2, true, NULL) == VAST_OK);
     CHECK(is_written(have, "!LogicalAndReduce [ 3 3 ] true", "\0058\002\003\003\001", 6));
     CHECK(vast_logical_or_reduce(&have->file, have->expressions, 2, true, NULL) == VAST_OK);
@@ -674,7 +678,7 @@ int main(void)
         for (size_t part = 0; part < sizeof parts / sizeof parts[0]; part++)
             if (parts[part](&have))
                 return 1;
-        CHECK(have.file.count == 158 && vast_emit(&have.file, &text) == VAST_OK);
+        CHECK(have.file.count == 160 && vast_emit(&have.file, &text) == VAST_OK);
         vast_file_close(&have.file);
     }
     return 0;
