@@ -66,11 +66,7 @@ pub(crate) fn module(
 }
 
 /// The import of the package.
-fn import(
-    known: Known<'_>,
-    package: &str,
-    told: &mut StepFindings,
-) -> Result<Fact, AllocError> {
+fn import(known: Known<'_>, package: &str, told: &mut StepFindings) -> Result<Fact, AllocError> {
     told.tell_any(name_rule(known.dialect, package))?;
     told.tell_any(Some(if known.is_verilog() {
         Rule::VerilogImport
