@@ -128,7 +128,9 @@ pub ruleset instances = (indented-instance, indented-head-bare, indented-head-pa
 
 -- files
 
-pub ruleset items = (indented-include, indented-import, indented-import-item, indented-comment-item, indented-blank-item, stops)
+pub ruleset imports = (indented-import, stops)
+
+pub ruleset items = (indented-include, indented-import-item, indented-comment-item, indented-blank-item, stops)
 
 -- what a call returns that prints
 
