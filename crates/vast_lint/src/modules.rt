@@ -32,7 +32,7 @@ pub(crate) fn module(
             Ok(Fact::Other)
         }
         ModuleStep::AddImport(_, package) | ModuleStep::AddFileImport(package) => {
-            import(known, package, told)
+            imported(known, package, told)
         }
         ModuleStep::AddModule(name) => {
             declare_module(known, declared, name, told)?;
@@ -66,7 +66,7 @@ pub(crate) fn module(
 }
 
 /// The import of the package.
-fn import(known: Known<'_>, package: &str, told: &mut StepFindings) -> Result<Fact, AllocError> {
+fn imported(known: Known<'_>, package: &str, told: &mut StepFindings) -> Result<Fact, AllocError> {
     told.tell_any(name_rule(known.dialect, package))?;
     told.tell_any(Some(if known.is_verilog() {
         Rule::VerilogImport

@@ -16,7 +16,7 @@ ghost use Rattle.vast_print.specs.Text.{expr_text};
 ghost use Rattle.vast_print.specs.Layout.{item_page, layout};
 
 use crate::expression::print_expression;
-use crate::import::print_import;
+use crate::imports::print_import;
 use crate::module::print_module;
 use crate::refusal::PrintFault;
 use crate::writer::Writer;

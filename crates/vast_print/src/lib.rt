@@ -12,7 +12,7 @@ mod expression;
 mod file;
 mod function;
 mod generate_loop;
-mod import;
+mod imports;
 mod instance;
 pub mod laws;
 mod levels;

@@ -16,7 +16,7 @@ use crate::declaration::print_declaration;
 use crate::expression::print_expression;
 use crate::function::print_function;
 use crate::generate_loop::print_loop;
-use crate::import::print_import;
+use crate::imports::print_import;
 use crate::instance::print_instance;
 use crate::parameter::print_parameter;
 use crate::refusal::PrintFault;

@@ -20,7 +20,7 @@ impl VastFile {
     pub fn add_import(&mut self, owner: VastModule, package: &str) -> Result<(), AllocError>
         requires { OwnsModule self.old owner }
         ensures built { Leaves self.old self.new result
-            (with_member owner (ImportEntry package.now)) }
+            (with_member owner (ImportEntry «package».now)) }
         ensures kept { Keeps self.old self.new }
     {
         let package = Text::new(self.ast.allocator(), package)?;
@@ -32,7 +32,7 @@ impl VastFile {
     /// # Errors
     /// `AllocError` where a growth was refused; the file is unchanged.
     pub fn add_file_import(&mut self, package: &str) -> Result<(), AllocError>
-        ensures built { Leaves self.old self.new result (with_item (FileImportEntry package.now)) }
+        ensures built { Leaves self.old self.new result (with_item (FileImportEntry «package».now)) }
         ensures kept { Keeps self.old self.new }
     {
         self.ast.append_file_import(package)

@@ -76,7 +76,7 @@ impl Ast {
     /// # Errors
     /// `AllocError` where a growth was refused; nothing changed.
     pub fn append_file_import(&mut self, package: &str) -> Result<(), AllocError>
-        ensures { GrowsBy self.old self.new result (with_item (FileImportEntry package.now)) }
+        ensures { GrowsBy self.old self.new result (with_item (FileImportEntry «package».now)) }
     {
         let package = Text::new(self.alloc, package)?;
         self.push_item(FileItem::Import(package))

@@ -10,7 +10,7 @@ use crate::writer::Writer;
 /// Writes the import of all that a package declares on a line of its own.
 #[tactic(auto, using(crate::proofs::ArenaLaws::imports))]
 pub(crate) fn print_import(package: &str, out: &mut Writer) -> Result<(), PrintFault>
-    ensures { WritesLines out.old out.new result (written (import_text package.now)) }
+    ensures { WritesLines out.old out.new result (written (import_text «package».now)) }
 {
     out.next()?;
     out.word("import ")?;
