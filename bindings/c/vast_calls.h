@@ -1025,6 +1025,23 @@ static inline int32_t vast_hoist_module_declarations(vast_file *file, vast_modul
     return vast_call_make(file, NULL);
 }
 
+/* `import PACKAGE::*;`, as the module's last member. */
+static inline int32_t vast_add_import(vast_file *file, vast_module owner, vast_string package)
+{
+    vast_call_begin(file, "AddImport", 323);
+    vast_call_handle(file, owner.id);
+    vast_call_text(file, package);
+    return vast_call_make(file, NULL);
+}
+
+/* `import PACKAGE::*;`, as the last item of the file. */
+static inline int32_t vast_add_file_import(vast_file *file, vast_string package)
+{
+    vast_call_begin(file, "AddFileImport", 339);
+    vast_call_text(file, package);
+    return vast_call_make(file, NULL);
+}
+
 /* Loops */
 
 /* A generate loop without members, as the module's last member.

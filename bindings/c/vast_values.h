@@ -1003,6 +1003,20 @@ static inline void v_hoist_module_declarations(vast_file *file, vast_module owne
         file->fault = vast_hoist_module_declarations(file, owner, start);
 }
 
+/* `vast_add_import`: `import PACKAGE::*;`, as the module's last member. */
+static inline void v_add_import(vast_file *file, vast_module owner, const char *package)
+{
+    if (file->fault == VAST_OK)
+        file->fault = vast_add_import(file, owner, vast_str(package));
+}
+
+/* `vast_add_file_import`: `import PACKAGE::*;`, as the last item of the file. */
+static inline void v_add_file_import(vast_file *file, const char *package)
+{
+    if (file->fault == VAST_OK)
+        file->fault = vast_add_file_import(file, vast_str(package));
+}
+
 /* `vast_add_generate_loop`: a generate loop without members, as the module's last member. */
 static inline vast_loop v_add_generate_loop(vast_file *file, vast_module owner, const char *name,
                                             vast_expression start, vast_expression end,

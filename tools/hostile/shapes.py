@@ -119,6 +119,7 @@ FLAT = [
     flat("blocks", MODULE, "always_comb begin end "),
     flat("modules", FILE, "module m;endmodule "),
     flat("includes", FILE, '`include "a"\n'),
+    flat("imports", FILE, "import p::*;"),
     flat("comments", FILE, "//\n"),
     flat("one comment", ("//", ""), "/", "\n"),
     flat("spaces", FILE, " "),

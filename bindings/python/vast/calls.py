@@ -812,6 +812,16 @@ class Calls(Core):
             owner = self._own(owner, Module)
         self._now(f"HoistModuleDeclarations {owner.step} {size(start)}")
 
+    def add_import(self, owner: Module, package: str) -> None:
+        """`import PACKAGE::*;`, as the module's last member."""
+        if not (isinstance(owner, Module) and owner.file is self):
+            owner = self._own(owner, Module)
+        self._later(f"AddImport {owner.step} {quoted(package)}")
+
+    def add_file_import(self, package: str) -> None:
+        """`import PACKAGE::*;`, as the last item of the file."""
+        self._later(f"AddFileImport {quoted(package)}")
+
     def add_generate_loop(
         self,
         owner: Module,

@@ -372,6 +372,10 @@ class Module(ModuleWords):
         """
         return self.file.hoist_module_declarations(self, start)
 
+    def add_import(self, package: str) -> None:
+        """`File.add_import`: `import PACKAGE::*;`, as the module's last member."""
+        return self.file.add_import(self, package)
+
     def add_generate_loop(
         self,
         name: str,

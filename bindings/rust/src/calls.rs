@@ -99,6 +99,8 @@ pub(crate) enum Call {
     AddIntLocalparam = 275,
     AddTypedLocalparam = 291,
     HoistModuleDeclarations = 307,
+    AddImport = 323,
+    AddFileImport = 339,
     AddGenerateLoop = 4,
     GenerateAddGenerateLoop = 20,
     GenerateGenvar = 36,

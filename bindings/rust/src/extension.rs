@@ -39,6 +39,12 @@ pub trait VastFileExtension {
         dimensions: &[&Expr],
     ) -> VastDataType;
 
+    /// `import PACKAGE::*;`, as the module's last member.
+    fn add_import(&mut self, owner: VastModule, package: &str);
+
+    /// `import PACKAGE::*;`, as the last item of the file.
+    fn add_file_import(&mut self, package: &str);
+
     /// An `always @*` with an empty block, as the loop's last member.
     ///
     /// # Errors
@@ -120,6 +126,17 @@ impl VastFileExtension for VastFile {
         );
         self.keep_width(made, Width::Element(element_step));
         VastDataType(made)
+    }
+
+    fn add_import(&mut self, owner: VastModule, package: &str) {
+        let owner_step = self.own(owner.0);
+        self.later(Call::AddImport, |calls| {
+            calls.step(owner_step).text(package)
+        });
+    }
+
+    fn add_file_import(&mut self, package: &str) {
+        self.later(Call::AddFileImport, |calls| calls.text(package));
     }
 
     fn generate_add_always_star(

@@ -11,7 +11,7 @@ pub(crate) struct Row(
     pub(crate) &'static [Form],
 );
 
-pub(crate) static ROWS: [Row; 178] = [
+pub(crate) static ROWS: [Row; 180] = [
     Row(0, "MakeNot", &[Step]),
     Row(16, "MakeBitwiseNot", &[Step]),
     Row(32, "MakeNegate", &[Step]),
@@ -120,6 +120,8 @@ pub(crate) static ROWS: [Row; 178] = [
     Row(275, "AddIntLocalparam", &[Step, Text, Step]),
     Row(291, "AddTypedLocalparam", &[Step, Step, Step]),
     Row(307, "HoistModuleDeclarations", &[Step, Count]),
+    Row(323, "AddImport", &[Step, Text]),
+    Row(339, "AddFileImport", &[Text]),
     Row(
         4,
         "AddGenerateLoop",

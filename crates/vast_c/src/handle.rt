@@ -20,10 +20,10 @@ pub struct Handle {
 }
 
 impl Model for Handle {
-    ghost use Rattle.vast_handle.specs.Internal.Kept.{holds};
+    ghost use Rattle.vast_handle.specs.Internal.Kept.{owns_box};
     ghost use Rattle.vast_c.specs.contracts.kept.Kept.{the_row as kept_row};
 
-    ghost also_owns = { λ h. holds kept_row h.alloc h.at h.kept };
+    ghost also_owns = { λ h. owns_box kept_row h.alloc h.at h.kept };
 }
 
 // C may use it on any thread, in one call at a time.

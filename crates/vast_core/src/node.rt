@@ -131,6 +131,8 @@ pub enum Member {
     Parameter(bool, ParameterForm, Expr),
     BlankLine,
     Comment(Comment),
+    /// The package whose declarations are imported.
+    Import(Text),
     Inline(InlineVerilogStatement),
     Macro(MacroStatement),
     Instantiation(Instantiation),
@@ -164,6 +166,8 @@ pub enum FileItem {
     Module(VastModule),
     /// The path of an included file.
     Include(Text),
+    /// The package whose declarations are imported.
+    Import(Text),
     Comment(Text),
     BlankLine,
 }

@@ -83,6 +83,7 @@ pub enum Rule {
     QuoteInMacro,
     VerilatorComment,
     SynthesisComment,
+    PackageImport,
     // The dialect Verilog
     VerilogGenvar,
     VerilogNoInputs,
@@ -95,6 +96,7 @@ pub enum Rule {
     VerilogLogic,
     VerilogPattern,
     VerilogType,
+    VerilogImport,
 }
 
 impl Rule {

@@ -8,7 +8,7 @@ ghost use Rattle.vast_core.specs.View.{bench};
 ghost use Rattle.vast_plain.specs.Internal.Values.{Answers};
 
 use crate::module::is_plain_module;
-use crate::names::is_plain_path;
+use crate::names::{is_plain_name, is_plain_path};
 use std::alloc::AllocError;
 use vast_core::{Ast, FileItem};
 
@@ -21,6 +21,7 @@ fn is_plain_item(ast: &Ast, item: &FileItem) -> Result<bool, AllocError>
     match item {
         FileItem::Module(m) => is_plain_module(ast, ast.module(*m)),
         FileItem::Include(path) => Ok(is_plain_path(path.as_str())),
+        FileItem::Import(package) => Ok(is_plain_name(package.as_str())),
         FileItem::Comment(_) => Ok(true),
         FileItem::BlankLine => Ok(true),
     }

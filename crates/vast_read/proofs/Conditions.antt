@@ -23,19 +23,19 @@ bound_is i (Binary Less (Name j) e) d h = go (bytes_eq i j) refl h
     go false same f = absurd (cc f)
 bound_is i _ d h = absurd (cc h)
 
-module _ {E : Type 0} (sees : E → NormalExpr) (i : List ℕ) (ts us : List Token) where
+module _ {E : Type 0} (denotes : E → NormalExpr) (i : List ℕ) (ts us : List Token) where
   -- none was read
-  pub nothing_bound : (o : Option E) → ReadsTree sees 0 o ts us → o ≡ None → IsUnbound i ts
-  nothing_bound o r e = λ fs rest x s w q. subst (λ v. ReadsTree sees 0 v ts us) e r fs rest (less_than i x) s w q
+  pub nothing_bound : (o : Option E) → ReadsTree denotes 0 o ts us → o ≡ None → IsUnbound i ts
+  nothing_bound o r e = λ fs rest x s w q. subst (λ v. ReadsTree denotes 0 v ts us) e r fs rest (less_than i x) s w q
 
-  pub reads_bound : {F : Type 0} (ends : F → NormalExpr) (o : Option E) (x : E) (b : Option F) → ReadsTree sees 0 o ts us → o ≡ Some x →
-      MatchOption b (bound_of i (sees x) ≡ None) (λ e. bound_of i (sees x) ≡ Some (ends e)) → ReadsBound ends i b ts us
+  pub reads_bound : {F : Type 0} (ends : F → NormalExpr) (o : Option E) (x : E) (b : Option F) → ReadsTree denotes 0 o ts us → o ≡ Some x →
+      MatchOption b (bound_of i (denotes x) ≡ None) (λ e. bound_of i (denotes x) ≡ Some (ends e)) → ReadsBound ends i b ts us
   reads_bound ends o x None r e m = λ fs rest y s w q.
-      let read : IsRead 0 ts (sees x) us = subst (λ v. ReadsTree sees 0 v ts us) e r in
-      let same : less_than i y ≡ sees x = (read.same fs rest (less_than i y) s w q).0 in
+      let read : IsRead 0 ts (denotes x) us = subst (λ v. ReadsTree denotes 0 v ts us) e r in
+      let same : less_than i y ≡ denotes x = (read.same fs rest (less_than i y) s w q).0 in
       let none : Some y ≡ None = sym (bound_gives i y) ∙ (ap (bound_of i) same ∙ m) in absurd (cc none)
   reads_bound ends o x (Some f) r e m =
-      let read : IsRead 0 ts (sees x) us = subst (λ v. ReadsTree sees 0 v ts us) e r in
-      subst (λ t. IsRead 0 ts t us) (bound_is i (sees x) (ends f) m) read
+      let read : IsRead 0 ts (denotes x) us = subst (λ v. ReadsTree denotes 0 v ts us) e r in
+      subst (λ t. IsRead 0 ts t us) (bound_is i (denotes x) (ends f) m) read
 
 pub ruleset conditions = (nothing_bound, reads_bound)

@@ -78,9 +78,9 @@ module _ (i : List ℕ) (ts firsts : List Token) (started : ts ≡ start_of i fi
       }
 
 -- The step is missing.
-pub stepless : {E : Type 0} (sees : E → NormalExpr) (i : List ℕ) (ts firsts bs cs : List Token) (o p : Option E) (x y : E) → ts ≡ start_of i firsts → ReadsClosed sees o firsts bs → o ≡ Some x →
-    ReadsClosedBound sees i p bs cs → p ≡ Some y → ((us : List Token) → cs ≢ step_of i us) → HasNone LoopHead ts
-stepless sees i ts firsts bs cs o p x y s r e q f n =
-    no_step i ts firsts s (sees x) bs (subst (λ v. ReadsClosed sees v firsts bs) e r) (sees y) cs (subst (λ v. ReadsClosedBound sees i v bs cs) f q) n
+pub stepless : {E : Type 0} (denotes : E → NormalExpr) (i : List ℕ) (ts firsts bs cs : List Token) (o p : Option E) (x y : E) → ts ≡ start_of i firsts → ReadsClosed denotes o firsts bs → o ≡ Some x →
+    ReadsClosedBound denotes i p bs cs → p ≡ Some y → ((us : List Token) → cs ≢ step_of i us) → HasNone LoopHead ts
+stepless denotes i ts firsts bs cs o p x y s r e q f n =
+    no_step i ts firsts s (denotes x) bs (subst (λ v. ReadsClosed denotes v firsts bs) e r) (denotes y) cs (subst (λ v. ReadsClosedBound denotes i v bs cs) f q) n
 
 pub ruleset heads = (no_start, no_first, no_second, no_step, has_head)

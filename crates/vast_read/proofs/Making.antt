@@ -8,7 +8,7 @@ use Rattle.vast_rows.specs.Built.{Seen, SeenFile, and_then, happens, built}
 use Rattle.vast_rows.specs.Events.{Event}
 use Rattle.vast_rows.specs.Trace.{trace}
 use Rattle.vast_rows.proofs.Builds.{trace_builds}
-use Rattle.vast_read.specs.Internal.Made.{Grown, events_heard, seen, told_event}
+use Rattle.vast_read.specs.Internal.Made.{Grown, events_heard, denoted, told_event}
 use Rattle.vast_read.specs.Internal.StatementView.{arm_view}
 use Rattle.vast_read.specs.StatementParts.{ChoicePart, arms_of}
 use Rattle.vast_read.specs.declared.made.heard.Told.{Told}
@@ -41,7 +41,7 @@ heard_more t ts = reverse-append (told_event t ∷ []) (map told_event ts)
 pub record Building (all left : List Told) (values : List Value) : Type 0 where
   pub after : List Event
   pub split : events_heard all ≡ events_heard left ++ after
-  pub fits : (vs : List Seen) → built after ≡ Some vs → seen values ≡ vs
+  pub fits : (vs : List Seen) → built after ≡ Some vs → denoted values ≡ vs
 
 pub begins_built : (all : List Told) → Building all all []
 unfolding built
@@ -51,17 +51,17 @@ happened : (before : Option (List Seen)) (f : List Seen → Option (List Seen)) 
 happened None f vs e = absurd (cc e)
 happened (Some us) f vs e = (us, refl, e)
 
-pub goes_on_built : (all left rest : List Told) (t : Told) (before now : List Value) → Building all left before → left ≡ t ∷ rest → Grown (happens (told_event t) (seen before)) now → Building all rest now
+pub goes_on_built : (all left rest : List Told) (t : Told) (before now : List Value) → Building all left before → left ≡ t ∷ rest → Grown (happens (told_event t) (denoted before)) now → Building all rest now
 unfolding built
 goes_on_built all left rest t before now b e g = record {
   after = told_event t ∷ b.after;
   split = b.split ∙ (ap (λ (v : List Told). events_heard v ++ b.after) e ∙ (ap (λ (v : List Event). v ++ b.after) (heard_more t rest) ∙ append_assoc (events_heard rest) (told_event t ∷ []) b.after));
   fits = λ vs h. let x = happened (built b.after) (happens (told_event t)) vs h in
-      let same : happens (told_event t) (seen before) ≡ Some vs = ap (happens (told_event t)) (b.fits x.0 x.1) ∙ x.2 in
+      let same : happens (told_event t) (denoted before) ≡ Some vs = ap (happens (told_event t)) (b.fits x.0 x.1) ∙ x.2 in
       subst (λ (o : Option (List Seen)). Grown o now) same g;
 }
 
-pub ends_built : (all left : List Told) (values : List Value) (t : normal.NormalFile) → Building all left values → left ≡ [] → events_heard all ≡ trace t [] → seen values ≡ SeenFile t ∷ []
+pub ends_built : (all left : List Told) (values : List Value) (t : normal.NormalFile) → Building all left values → left ≡ [] → events_heard all ≡ trace t [] → denoted values ≡ SeenFile t ∷ []
 unfolding built
 ends_built all left values t b e h =
     let after : b.after ≡ trace t [] = sym (b.split ∙ ap (λ (v : List Told). events_heard v ++ b.after) e) ∙ h in

@@ -65,8 +65,8 @@ pub has_tree : (is_target : Bool) (ts us : List Token) (t : NormalExpr) → IsRe
 has_tree true = has_target
 has_tree false = has_expression
 
-pub unread_tree : {E : Type 0} (sees : E → NormalExpr) (is_target : Bool) (o : Option E) (ts us : List Token) → ReadsTree sees (level_of is_target) o ts us → o ≡ None → HasNone (phrase_of is_target) ts
-unread_tree sees is_target o ts us r e = no_tree is_target ts (subst (λ v. ReadsTree sees (level_of is_target) v ts us) e r)
+pub unread_tree : {E : Type 0} (denotes : E → NormalExpr) (is_target : Bool) (o : Option E) (ts us : List Token) → ReadsTree denotes (level_of is_target) o ts us → o ≡ None → HasNone (phrase_of is_target) ts
+unread_tree denotes is_target o ts us r e = no_tree is_target ts (subst (λ v. ReadsTree denotes (level_of is_target) v ts us) e r)
 
 pub ruleset trees = (has_tree)
 

@@ -21,19 +21,19 @@ unfolding joined
 listed_more [] x = refl
 listed_more (y ∷ ys) x = ap (MoreNormals (view y)) (listed_more ys x)
 
-module _ {A : Type 0} (seen : A → List Value) (k : ℕ) (ts us : List Token) (a c : A) where
-  grown : Reads (Hears seen) k ts a true us c → seen a ≡ [] → (t : NormalExpr) × IsRead k ts t us × (seen c ≡ (Tree t ∷ []))
-  grown (t, r, h) n = (t, r, heard_one seen t a c h ∙ ap (λ vs. Tree t ∷ vs) n)
+module _ {A : Type 0} (denoted : A → List Value) (k : ℕ) (ts us : List Token) (a c : A) where
+  grown : Reads (Hears denoted) k ts a true us c → denoted a ≡ [] → (t : NormalExpr) × IsRead k ts t us × (denoted c ≡ (Tree t ∷ []))
+  grown (t, r, h) n = (t, r, heard_one denoted t a c h ∙ ap (λ vs. Tree t ∷ vs) n)
 
-  pub grown_read : {E : Type 0} (sees : E → NormalExpr) (b : Bool) (o : Option E) → Reads (Hears seen) k ts a b us c → b ≡ true → seen a ≡ [] →
-      MatchOption o (take_tree (seen c) ≡ None) (λ x. first_tree (seen c) ≡ sees x) → ReadsTree sees k o ts us
-  grown_read sees b None r e n m = let g = grown (subst (λ v. Reads (Hears seen) k ts a v us c) e r) n in
+  pub grown_read : {E : Type 0} (denotes : E → NormalExpr) (b : Bool) (o : Option E) → Reads (Hears denoted) k ts a b us c → b ≡ true → denoted a ≡ [] →
+      MatchOption o (take_tree (denoted c) ≡ None) (λ x. first_tree (denoted c) ≡ denotes x) → ReadsTree denotes k o ts us
+  grown_read denotes b None r e n m = let g = grown (subst (λ v. Reads (Hears denoted) k ts a v us c) e r) n in
       let none : Some (g.0, []) ≡ None = sym (ap take_tree g.2) ∙ m in absurd (cc none)
-  grown_read sees b (Some x) r e n m = let g = grown (subst (λ v. Reads (Hears seen) k ts a v us c) e r) n in
+  grown_read denotes b (Some x) r e n m = let g = grown (subst (λ v. Reads (Hears denoted) k ts a v us c) e r) n in
       subst (λ t. IsRead k ts t us) (sym (ap first_tree g.2) ∙ m) g.1
 
-  pub told_read : (b : Bool) → Reads (Hears seen) k ts a b us c → b ≡ true → seen a ≡ [] → IsRead k ts (first_tree (seen c)) us
-  told_read b r e n = let g = grown (subst (λ v. Reads (Hears seen) k ts a v us c) e r) n in subst (λ t. IsRead k ts t us) (sym (ap first_tree g.2)) g.1
+  pub told_read : (b : Bool) → Reads (Hears denoted) k ts a b us c → b ≡ true → denoted a ≡ [] → IsRead k ts (first_tree (denoted c)) us
+  told_read b r e n = let g = grown (subst (λ v. Reads (Hears denoted) k ts a v us c) e r) n in subst (λ t. IsRead k ts t us) (sym (ap first_tree g.2)) g.1
 
 -- Of what was not told yet nothing is made.
 pub told_nothing : told Nothing ≡ []

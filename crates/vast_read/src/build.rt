@@ -20,21 +20,21 @@ use vast_expressions::{Sink, read_expression, read_target};
 
 /// What a reader of expressions makes of what it reads, from texts that live for `'t`.
 ///
-/// `sees` is the tree that what was made stands for.
+/// `denotes` is the tree that what was made stands for.
 pub(crate) trait Build<'t> {
     /// What is made of an expression.
     type Expr: Drop;
 
-    ghost sees: { Self.Expr → NormalExpr };
+    ghost denotes: { Self.Expr → NormalExpr };
 
     /// Reads an expression, or what is assigned to.
     fn read(reader: &mut Reader<'t>, is_target: bool) -> Result<Option<Self::Expr>, AllocError>
-        ensures { IfOk result (λ o. ReadsTree sees (level_of is_target) o reader.old reader.new) };
+        ensures { IfOk result (λ o. ReadsTree denotes (level_of is_target) o reader.old reader.new) };
 
     /// Reads an expression that says of this name that it is less than another expression, of which
     /// alone something is made.
     fn bound(reader: &mut Reader<'t>, name: &str) -> Result<Option<Self::Expr>, AllocError>
-        ensures { IfOk result (λ o. ReadsBound sees name.now o reader.old reader.new) };
+        ensures { IfOk result (λ o. ReadsBound denotes name.now o reader.old reader.new) };
 }
 
 /// Reads an expression, or what is assigned to, and tells it; `false` where none stands there.

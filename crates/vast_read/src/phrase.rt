@@ -33,7 +33,7 @@ impl<'t> Reader<'t> {
         &mut self,
         phrase: Phrase,
     ) -> Result<Option<Made<'t, B::Expr>>, AllocError>
-        ensures { IfOk result (λ o. ReadsPhrase B.sees phrase o self.old self.new) }
+        ensures { IfOk result (λ o. ReadsPhrase B.denotes phrase o self.old self.new) }
     {
         match phrase {
             Phrase::Expression => self.tree::<B>(false),
@@ -49,7 +49,7 @@ impl<'t> Reader<'t> {
         &mut self,
         is_target: bool,
     ) -> Result<Option<Made<'t, B::Expr>>, AllocError>
-        ensures { IfOk result (λ o. ReadsPhrase B.sees (phrase_of is_target) o self.old self.new) }
+        ensures { IfOk result (λ o. ReadsPhrase B.denotes (phrase_of is_target) o self.old self.new) }
     {
         match B::read(self, is_target)? {
             None => Ok(None),
@@ -60,7 +60,7 @@ impl<'t> Reader<'t> {
     /// Reads a string as the path between its quotes.
     #[tactic(auto, using(crate::proofs::Phrases::paths))]
     fn path<B: Build<'t>>(&mut self) -> Option<Made<'t, B::Expr>>
-        ensures { ReadsPhrase B.sees Path result self.old self.new }
+        ensures { ReadsPhrase B.denotes Path result self.old self.new }
     {
         match self.first() {
             Some(Token::Quoted(text)) => match path_of(text) {
@@ -101,7 +101,7 @@ impl<'t, B: Build<'t>> Source for Phrases<'t, B> {
 
     ghost left = { λ s. s.reader };
 
-    ghost sees = { meaning_of B.sees };
+    ghost denotes = { meaning_of B.denotes };
 
     ghost text = { λ w. w.now };
 

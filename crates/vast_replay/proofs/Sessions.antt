@@ -7,10 +7,10 @@ use Rattle.std.specs.Io.KnownBytes.{Appends}
 use Rattle.vast_list.specs.Lines.{lines_of, longer}
 use Rattle.vast_replay.specs.Sessions.{RepliesOnce, RepliesToEach}
 use Rattle.vast_replay.specs.Internal.Sessions.{IsWithoutFeed, ReadsLine}
-use Rattle.vast_talk.specs.declared.talk.Talk.{Talk}
+use Rattle.vast_talk.specs.declared.repl.Repl.{Repl}
 
 -- The first lines of the bytes were replied to, and these are left.
-abbrev pub HasReplied : (bytes : List ℕ) → (old new : Talk) → (before behind : Option (List ℕ)) → (left : Option (List ℕ)) → Type 0
+abbrev pub HasReplied : (bytes : List ℕ) → (old new : Repl) → (before behind : Option (List ℕ)) → (left : Option (List ℕ)) → Type 0
 HasReplied bytes old new before behind left =
     (rest : List ℕ) × (lines : List (List ℕ)) × (text : List ℕ) × (left ≡ Some rest) × (lines_of bytes ≡ lines ++ lines_of rest) × RepliesToEach old new lines text × Appends before behind text
 
@@ -62,13 +62,13 @@ line_read (Some xs) behind old piece line none some grown rest without =
 -- One line more was replied to.
 
 one_behind :
-    (old between new : Talk) (lines : List (List ℕ)) (line text reply : List ℕ) → RepliesToEach old between lines text → RepliesOnce between new line reply → RepliesToEach old new (lines ++ line ∷ []) (text ++ reply)
-one_behind old between new [] line text reply (same, none) once = (new, reply, [], subst (λ (t : Talk). RepliesOnce t new line reply) same once, (refl, refl), ap (λ (t : List ℕ). t ++ reply) none ∙ sym (append-nil reply))
+    (old between new : Repl) (lines : List (List ℕ)) (line text reply : List ℕ) → RepliesToEach old between lines text → RepliesOnce between new line reply → RepliesToEach old new (lines ++ line ∷ []) (text ++ reply)
+one_behind old between new [] line text reply (same, none) once = (new, reply, [], subst (λ (t : Repl). RepliesOnce t new line reply) same once, (refl, refl), ap (λ (t : List ℕ). t ++ reply) none ∙ sym (append-nil reply))
 one_behind old between new (l ∷ lines) line text reply (after, first, more, is, are, same) once =
     (after, first, more ++ reply, is, one_behind after between new lines line more reply are once, ap (λ (t : List ℕ). t ++ reply) same ∙ append_assoc first more reply)
 
 pub more_replied :
-    (start : Option (List ℕ)) (first old new : Talk) (before between behind left next : Option (List ℕ)) (line : Vec ℕ Global) (reply : List ℕ) →
+    (start : Option (List ℕ)) (first old new : Repl) (before between behind left next : Option (List ℕ)) (line : Vec ℕ Global) (reply : List ℕ) →
     IfSome start (λ bytes. HasReplied bytes first old before between left) → IfSome left (λ bytes. ReadsLine bytes next (Some line)) → RepliesOnce old new line.items reply → Appends between behind reply →
     IfSome start (λ bytes. HasReplied bytes first new before behind next)
 more_replied None first old new before between behind left next line reply has reads once wrote = tt

@@ -3,7 +3,7 @@
 ghost use Rattle.std.specs.Prelude.{◌≡◌, IfOk, IfSome, OnOk};
 ghost use Rattle.std.specs.Io.KnownBytes.{Appends};
 ghost use Rattle.vast_list.specs.Lines.{lines_of};
-ghost use Rattle.vast_talk.specs.Linted.{IsTalking};
+ghost use Rattle.vast_talk.specs.Linted.{HasItsLint};
 ghost use Rattle.vast_replay.specs.Sessions.{IsBegun, WritesReplies};
 ghost use Rattle.vast_replay.specs.Internal.Sessions.{HasRepliedAll, IsWithoutFeed, ReadsLine};
 
@@ -12,7 +12,7 @@ use std::alloc::Global;
 use std::io;
 use std::io::{BufRead, Write};
 use vast_shell::{Failure, WriteFault, ended, write_whole};
-use vast_talk::Talk;
+use vast_talk::Repl;
 
 /// Answers each line of `input` by a line of JSON on `out`, written through at once, to the end of the input; with `lint`
 /// each tells too what its call prints that is no SystemVerilog or Verilog, or that a tool refuses.
@@ -32,21 +32,21 @@ pub fn answer_lines<R: BufRead, W: Write, E: Write>(
     ensures replies { result ≡ Outcome.Made → IfSome (R.remaining input.old)
         (λ bytes. WritesReplies lint (lines_of bytes) (W.contents out.old) (W.contents out.new)) }
 {
-    let mut talk = talk_of(alloc, lint);
-    let answered = answer_each(alloc, &mut talk, input, out);
-    drop(talk);
+    let mut repl = repl_of(alloc, lint);
+    let answered = answer_each(alloc, &mut repl, input, out);
+    drop(repl);
     ended(answered, Outcome::Failed, err)
 }
 
-/// Answers each line in this talk.
+/// Answers each line in this session.
 fn answer_each<R: BufRead, W: Write>(
     alloc: Global,
-    talk: &mut Talk,
+    repl: &mut Repl,
     input: &mut R,
     out: &mut W,
 ) -> Result<Outcome, Failure>
-    ensures { IsTalking talk.old → OnOk result (IfSome (R.remaining input.old)
-        (λ bytes. HasRepliedAll bytes talk.old talk.new (W.contents out.old) (W.contents out.new))) }
+    ensures { HasItsLint repl.old → OnOk result (IfSome (R.remaining input.old)
+        (λ bytes. HasRepliedAll bytes repl.old repl.new (W.contents out.old) (W.contents out.new))) }
 {
     for _ in 0..u64::MAX {
         let line = match read_line(alloc, input) {
@@ -54,7 +54,7 @@ fn answer_each<R: BufRead, W: Write>(
             Ok(None) => return Ok(Outcome::Made),
             Err(error) => return Err(Failure::of_read(error)),
         };
-        write_through(out, &talk.reply(&line)?)?;
+        write_through(out, &repl.reply(&line)?)?;
     }
     Err(Failure::Lines)
 }
@@ -67,13 +67,13 @@ fn write_through<W: Write>(out: &mut W, text: &str) -> Result<(), WriteFault>
     out.flush().map_err(|_| WriteFault)
 }
 
-fn talk_of(alloc: Global, lint: bool) -> Talk
+fn repl_of(alloc: Global, lint: bool) -> Repl
     ensures { IsBegun lint result }
 {
     if lint {
-        Talk::with_lint(alloc)
+        Repl::with_lint(alloc)
     } else {
-        Talk::new(alloc)
+        Repl::new(alloc)
     }
 }
 

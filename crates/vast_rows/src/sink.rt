@@ -19,7 +19,7 @@ pub trait Sink<S: Source> {
 
     /// A phrase was read.
     fn reads(&mut self, made: S::Made) -> Result<(), AllocError>
-        ensures { IfOk result (λ _. after self.old (Reads (S.sees made) ∷ []) self.new) };
+        ensures { IfOk result (λ _. after self.old (Reads (S.denotes made) ∷ []) self.new) };
 
     /// A name was taken.
     fn names(&mut self, name: S::Name) -> Result<(), AllocError>

@@ -11,7 +11,7 @@ use std::alloc::AllocError;
 
 /// Tokens that are left to read, and a reader of the phrases of the grammar of files.
 ///
-/// `left` is the list of those tokens, `sees` what was made of a phrase, and `text` that of a name.
+/// `left` is the list of those tokens, `denotes` what was made of a phrase, and `text` that of a name.
 pub trait Source {
     /// What is made of a phrase.
     type Made: Drop;
@@ -20,7 +20,7 @@ pub trait Source {
 
     ghost left: { Self → List Token };
 
-    ghost sees: { Self.Made → Meaning };
+    ghost denotes: { Self.Made → Meaning };
 
     ghost text: { Self.Name → List ℕ };
 
@@ -38,7 +38,7 @@ pub trait Source {
     fn phrase(&mut self, phrase: Phrase) -> Result<Option<Self::Made>, AllocError>
         ensures { IfOk result (λ made. MatchOption made
             (HasNone phrase (left self.old))
-            (λ m. HasRead phrase (left self.old) (sees m) (left self.new))) };
+            (λ m. HasRead phrase (left self.old) (denotes m) (left self.new))) };
 }
 
 /// A source that sees more of the next token than its kind.

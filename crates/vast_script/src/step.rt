@@ -129,6 +129,8 @@ pub enum ModuleStep {
     AddIntLocalparam(usize, String, usize),
     AddTypedLocalparam(usize, usize, usize),
     HoistModuleDeclarations(usize, usize),
+    AddImport(usize, String),
+    AddFileImport(String),
 }
 
 /// Calls of generate loops and their members.

@@ -3,7 +3,7 @@ use Rattle.std.specs.Prelude.{◌≡◌, ℕ, length, Option, Some, None, Bool, 
 use Rattle.vast_lint.specs.Lint.{counted}
 use Rattle.vast_talk.specs.declared.linted.SessionLint.{SessionLint}
 use Rattle.vast_list.specs.declared.session.Session.{Session}
-use Rattle.vast_talk.specs.declared.talk.Talk.{Talk}
+use Rattle.vast_talk.specs.declared.repl.Repl.{Repl}
 
 -- The lint has counted so many answers, and has a name of a call for each.
 abbrev pub HasCounted : SessionLint → ℕ → Type 0
@@ -21,5 +21,5 @@ AreBeside (Some session) None has_lint = has_lint ≡ false
 AreBeside (Some session) (Some lint) has_lint = (has_lint ≡ true) × IsLevel lint session
 
 -- Of lines that are answered one by one: beside a session there is a lint exactly where one is asked for.
-abbrev pub IsTalking : Talk → Type 0
-IsTalking talk = AreBeside talk.session talk.lint talk.has_lint
+abbrev pub HasItsLint : Repl → Type 0
+HasItsLint repl = AreBeside repl.session repl.lint repl.has_lint

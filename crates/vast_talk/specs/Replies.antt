@@ -1,4 +1,4 @@
--- What a talk replies to a line: an object of JSON, and a line break. A text is a list of bytes.
+-- What is replied to a line: an object of JSON, and a line break. A text is a list of bytes.
 use Rattle.std.specs.Prelude.{◌≡◌, ◌⊎◌, ℕ, ◌==◌, List, ◌++◌, drop, codes, Bool, true, false, Option, Some, None, Result, Ok, Err, IfErr, IfOk}
 use Rattle.std.specs.List.{starts_with}
 use Rattle.std.specs.Str.Lossy.{utf8_lossy}
@@ -13,7 +13,7 @@ use Rattle.vast_list.specs.Lines.{HasKind, NamesDialect, Passed, dialect_word, w
 use Rattle.vast_list.specs.Replies.{IsGivenObject, fault_object, line_front, text_member}
 use Rattle.vast_list.specs.Session.{IsCausedBy, IsGivenBy, IsNew, IsNumbered, NamesCall, Takes}
 use Rattle.vast_talk.specs.Warnings.{IsWarningList}
-use Rattle.vast_talk.specs.declared.talk.Talk.{Talk}
+use Rattle.vast_talk.specs.declared.repl.Repl.{Repl}
 
 -- A line that begins anew.
 abbrev pub is_header : List ℕ → Bool
@@ -97,6 +97,6 @@ RepliesTo true has_lint old new number line object = (new ≡ None) × (object �
 RepliesTo false has_lint old new number line object = RepliesToTaken has_lint old new number line object
 
 -- The reply is the object that tells what came of the line, and a line break.
-abbrev pub IsReply : (old new : Talk) → (line reply : List ℕ) → Type 0
+abbrev pub IsReply : (old new : Repl) → (line reply : List ℕ) → Type 0
 IsReply old new line reply =
     (object : List ℕ) × RepliesTo (is_header line) old.has_lint old.session new.session new.number line object × (reply ≡ object ++ codes "\n")

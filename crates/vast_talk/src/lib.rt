@@ -1,13 +1,13 @@
-//! Lists of builder calls in talk with a program: what their calls print that is no SystemVerilog or Verilog, and sessions
+//! Lists of builder calls in exchange with a program: what their calls print that is no SystemVerilog or Verilog, and sessions
 //! whose lines are answered one by one, by JSON.
 //!
-//! A [`Talk`] takes the lines of a session; [`list_warnings`] lints a whole list. `docs/use/LISTS.md` has the form of lists
+//! A [`Repl`] takes the lines of a session; [`list_warnings`] lints a whole list. `docs/use/LISTS.md` has the form of lists
 //! and of the replies.
 #![tactic(auto)]
 
 mod linted;
-mod talk;
+mod repl;
 mod warnings;
 
-pub use talk::Talk;
+pub use repl::Repl;
 pub use warnings::{LineWarning, json_with_warnings, list_warnings};

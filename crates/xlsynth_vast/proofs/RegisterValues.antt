@@ -9,7 +9,7 @@ use Rattle.vast_core.specs.Bench.{Bench}
 use Rattle.xlsynth_vast.specs.declared.helpers.registers.RegisterDefinition.{RegisterDefinition}
 use Rattle.vast_core.specs.Records.{IsFree}
 use Rattle.vast_core.specs.Sound.{AreDistinct}
-use Rattle.xlsynth_vast.specs.Registers.{RegisterTree, ResetTree, has_reset_value, is_given, unless_unresettable, running_value, unreset_value, value_at_reset, value_outside_reset, given, assigned_all, block_of, active_tree, register_block, holds, settle, is_named, assigned_in, assigned, is_active, next_value_outside, next_value_with, next_value, name_in, register_trees, TakeTheirValues, RegistersTakeTheirValues}
+use Rattle.xlsynth_vast.specs.Registers.{RegisterTree, ResetTree, has_reset_value, is_given, unless_unresettable, running_value, unreset_value, value_at_reset, value_outside_reset, given, assigned_all, block_of, active_tree, register_block, is_true, settle, is_named, assigned_in, assigned, is_active, next_value_outside, next_value_with, next_value, name_in, register_trees, TakeTheirValues, RegistersTakeTheirValues}
 
 -- Names.
 
@@ -90,9 +90,9 @@ running : (v : ExprTree → Bool) (r : RegisterTree) (o : Option ExprTree) → r
 running v r None e named = rw e refl
 running v r (Some enable) e named = rw (e, settle-name v r.target named) refl
 
-active-holds : (v : ExprTree → Bool) (signal : ExprTree) (low : Bool) → holds v (active_tree (record { signal = signal; active_low = low })) ≡ is_active v (Some (record { signal = signal; active_low = low }))
-active-holds v signal true = refl
-active-holds v signal false = refl
+active-is_true : (v : ExprTree → Bool) (signal : ExprTree) (low : Bool) → is_true v (active_tree (record { signal = signal; active_low = low })) ≡ is_active v (Some (record { signal = signal; active_low = low }))
+active-is_true v signal true = refl
+active-is_true v signal false = refl
 
 none-given : (rs : List RegisterTree) (i : ℕ) (r : RegisterTree) → list_any has_reset_value rs ≡ false → slice_get rs i ≡ Some r → has_reset_value r ≡ false
 none-given [] i r none e = cc
@@ -136,7 +136,7 @@ takes v (Some s) rs false e rule i r d named there = rw e (alone v (is_active v 
 takes v (Some s) rs true e rule i r d named there =
     rw e (
     in-append v (name_in r.target) (assigned_all unreset_value rs) (ConditionalTree (active_tree s) (block_of (assigned_all value_at_reset rs)) (Else (block_of (assigned_all value_outside_reset rs))) ∷ []) None
-    ∙ rw (share-value v unreset_value rs i r None d named there, active-holds v s.signal s.active_low) (branched v (is_active v (Some s)) rs i r r.reset_value refl d named there)
+    ∙ rw (share-value v unreset_value rs i r None d named there, active-is_true v s.signal s.active_low) (branched v (is_active v (Some s)) rs i r r.reset_value refl d named there)
     )
 
 pub registers-take-their-values : RegistersTakeTheirValues

@@ -110,14 +110,14 @@ registers_member clk reset registers = AlwaysMember AlwaysFFWord (MoreExprs (Pos
 -- What the statements mean. A set of trees says which of them hold: it is given by its test.
 
 -- Whether a tree holds, by the set of those that do.
-abbrev pub holds : (ExprTree → Bool) → ExprTree → Bool
-holds v (UnaryTree LogicalNotOp operand) = not (holds v operand)
-holds v (TernaryTree condition consequent alternate) = if holds v condition then holds v consequent else holds v alternate
-holds v e = v e
+abbrev pub is_true : (ExprTree → Bool) → ExprTree → Bool
+is_true v (UnaryTree LogicalNotOp operand) = not (is_true v operand)
+is_true v (TernaryTree condition consequent alternate) = if is_true v condition then is_true v consequent else is_true v alternate
+is_true v e = v e
 
 -- A ternary is settled by its condition; any other tree is settled.
 abbrev pub settle : (ExprTree → Bool) → ExprTree → ExprTree
-settle v (TernaryTree condition consequent alternate) = if holds v condition then settle v consequent else settle v alternate
+settle v (TernaryTree condition consequent alternate) = if is_true v condition then settle v consequent else settle v alternate
 settle v e = e
 
 abbrev pub is_named : List ℕ → ExprTree → Bool
@@ -133,12 +133,12 @@ abbrev mutual
 
   pub assigned_by : (ExprTree → Bool) → (name : List ℕ) → StatementTree → (before : Option ExprTree) → Option ExprTree
   assigned_by v name (AssignTree form left right) before = if is_named name left then Some (settle v right) else before
-  assigned_by v name (ConditionalTree condition consequent alternates) before = if holds v condition then assigned_in v name consequent before else assigned_else v name alternates before
+  assigned_by v name (ConditionalTree condition consequent alternates) before = if is_true v condition then assigned_in v name consequent before else assigned_else v name alternates before
   assigned_by v name _ before = before
 
   pub assigned_else : (ExprTree → Bool) → (name : List ℕ) → Alternates → (before : Option ExprTree) → Option ExprTree
   assigned_else v name NoElse before = before
-  assigned_else v name (ElseIf condition block alternates) before = if holds v condition then assigned_in v name block before else assigned_else v name alternates before
+  assigned_else v name (ElseIf condition block alternates) before = if is_true v condition then assigned_in v name block before else assigned_else v name alternates before
   assigned_else v name (Else block) before = assigned_in v name block before
 
 -- The last value that the block assigns to the name, by the set of trees that hold.
@@ -150,11 +150,11 @@ assigned v block name = assigned_in v name block None
 
 abbrev pub is_active : (ExprTree → Bool) → Option ResetTree → Bool
 is_active v None = false
-is_active v (Some reset) = if reset.active_low then not (holds v reset.signal) else holds v reset.signal
+is_active v (Some reset) = if reset.active_low then not (is_true v reset.signal) else is_true v reset.signal
 
 abbrev pub is_enabled : (ExprTree → Bool) → Option ExprTree → Bool
 is_enabled v None = true
-is_enabled v (Some enable) = holds v enable
+is_enabled v (Some enable) = is_true v enable
 
 abbrev pub next_value_outside : (ExprTree → Bool) → RegisterTree → ExprTree
 next_value_outside v r = if is_enabled v r.enable then settle v r.next else r.target

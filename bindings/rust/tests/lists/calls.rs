@@ -495,6 +495,17 @@ pub fn make(file: &mut VastFile, answers: &Answers, line: &Line) -> Result<Answe
             file.hoist_module_declarations(owner, start);
             Ok(Answer::Nothing)
         }
+        "AddImport" => {
+            let owner = answers.handle(&words[0])?;
+            let package = words[1].text();
+            file.add_import(owner, package);
+            Ok(Answer::Nothing)
+        }
+        "AddFileImport" => {
+            let package = words[0].text();
+            file.add_file_import(package);
+            Ok(Answer::Nothing)
+        }
         "AddGenerateLoop" => {
             let owner = answers.handle(&words[0])?;
             let name = words[1].text();

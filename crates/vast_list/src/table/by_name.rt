@@ -109,6 +109,8 @@ pub(super) const NAME: Parameter = Parameter("name", kinds::TEXT);
 
 pub(super) const OWNER: Parameter = Parameter("owner", kinds::MODULE);
 
+pub(super) const PACKAGE: Parameter = Parameter("package", kinds::TEXT);
+
 pub(super) const PACKAGE_NAME: Parameter = Parameter("package_name", kinds::TEXT);
 
 pub(super) const PARAMETER_EXPRESSIONS: Parameter = Parameter(

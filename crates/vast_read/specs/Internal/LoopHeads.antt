@@ -22,13 +22,13 @@ abbrev pub IsUnclosed : List Token → Type 0
 IsUnclosed ts = (fs us : List Token) (t : NormalExpr) → Spells 0 fs t → ts ≡ (fs ++ (Mark Semicolon ∷ us)) → ⊥
 
 abbrev pub ReadsClosed : {E : Type 0} → (E → NormalExpr) → Option E → List Token → List Token → Type 0
-ReadsClosed sees None ts us = IsUnclosed ts
-ReadsClosed sees (Some x) ts us = IsRead 0 ts (sees x) (Mark Semicolon ∷ us)
+ReadsClosed denotes None ts us = IsUnclosed ts
+ReadsClosed denotes (Some x) ts us = IsRead 0 ts (denotes x) (Mark Semicolon ∷ us)
 
 -- The same of one that says that the name is less than another.
 abbrev pub IsUnclosedBound : List ℕ → List Token → Type 0
 IsUnclosedBound i ts = (fs us : List Token) (e : NormalExpr) → Spells 0 fs (less_than i e) → ts ≡ (fs ++ (Mark Semicolon ∷ us)) → ⊥
 
 abbrev pub ReadsClosedBound : {E : Type 0} → (E → NormalExpr) → List ℕ → Option E → List Token → List Token → Type 0
-ReadsClosedBound sees i None ts us = IsUnclosedBound i ts
-ReadsClosedBound sees i (Some x) ts us = IsRead 0 ts (less_than i (sees x)) (Mark Semicolon ∷ us)
+ReadsClosedBound denotes i None ts us = IsUnclosedBound i ts
+ReadsClosedBound denotes i (Some x) ts us = IsRead 0 ts (less_than i (denotes x)) (Mark Semicolon ∷ us)

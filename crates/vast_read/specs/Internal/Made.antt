@@ -19,8 +19,8 @@ use Rattle.vast_read.specs.declared.made.heard.Told.{Told}
 use Rattle.vast_read.specs.declared.made.heard.Told.TheVariants as told
 
 -- The arms of a conditional so far.
-abbrev pub arms_seen : Alternatives → normal.Arms
-arms_seen a = arms_of (map arm_view (reverse a.before ++ (a.innermost ∷ []))) (option_map block_view a.last)
+abbrev pub arms_denoted : Alternatives → normal.Arms
+arms_denoted a = arms_of (map arm_view (reverse a.before ++ (a.innermost ∷ []))) (option_map block_view a.last)
 
 -- What a value stands for: lists grow from the right, so their last part stands first.
 abbrev pub value_view : Value → Seen
@@ -41,7 +41,7 @@ value_view (value.Event e) = SeenEvent (event_view e)
 value_view (value.Events es) = SeenEvents (events_view (reverse es))
 value_view (value.Statement s) = SeenStatement (statement_view s)
 value_view (value.Statements ss) = SeenStatements (block_view (reverse ss))
-value_view (value.Arms a) = SeenArms (arms_seen a)
+value_view (value.Arms a) = SeenArms (arms_denoted a)
 value_view (value.Labels ls) = SeenLabels (labels_view (reverse ls))
 value_view (value.Member m) = SeenMember (member_view m)
 value_view (value.Members ms) = SeenMembers (members_view (reverse ms))
@@ -52,13 +52,13 @@ value_view (value.Ports ps) = SeenPorts (ports_view (reverse ps))
 value_view (value.Item i) = SeenItem (item_view i)
 value_view (value.Items is) = SeenFile (record { items = items_view (reverse is) })
 
-abbrev pub seen : List Value → List Seen
-seen vs = map value_view vs
+abbrev pub denoted : List Value → List Seen
+denoted vs = map value_view vs
 
 -- What was to be made was made, where anything was.
 abbrev pub Grown : Option (List Seen) → List Value → Type 0
 Grown None new = Unit {0}
-Grown (Some vs) new = seen new ≡ vs
+Grown (Some vs) new = denoted new ≡ vs
 
 -- What a header of a loop means.
 abbrev pub range_view : Range → Meaning

@@ -12,8 +12,8 @@ level_of is_target = cond is_target 13 0
 
 -- A tree of the level stands at the front and was read, or none does before what goes on with none.
 abbrev pub ReadsTree : {E : Type 0} → (E → NormalExpr) → ℕ → Option E → List Token → List Token → Type 0
-ReadsTree sees k None ts us = IsUnread k ts
-ReadsTree sees k (Some x) ts us = IsRead k ts (sees x) us
+ReadsTree denotes k None ts us = IsUnread k ts
+ReadsTree denotes k (Some x) ts us = IsRead k ts (denotes x) us
 
 -- i < e
 abbrev pub less_than : List ℕ → NormalExpr → NormalExpr
@@ -24,5 +24,5 @@ IsUnbound i ts = (fs rest : List Token) (e : NormalExpr) → Spells 0 fs (less_t
 
 -- The same of a tree that says that the name is less than another, which is what was made.
 abbrev pub ReadsBound : {E : Type 0} → (E → NormalExpr) → List ℕ → Option E → List Token → List Token → Type 0
-ReadsBound sees i None ts us = IsUnbound i ts
-ReadsBound sees i (Some x) ts us = IsRead 0 ts (less_than i (sees x)) us
+ReadsBound denotes i None ts us = IsUnbound i ts
+ReadsBound denotes i (Some x) ts us = IsRead 0 ts (less_than i (denotes x)) us

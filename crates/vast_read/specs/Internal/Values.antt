@@ -15,8 +15,8 @@ value_view (value.Tree x) = values.Tree (view x.value)
 value_view (value.Trees xs) = values.Trees (listed xs)
 value_view (value.Bytes w) = values.Bytes w.now
 
-abbrev pub seen : List Value → List values.Value
-seen vs = map value_view vs
+abbrev pub denoted : List Value → List values.Value
+denoted vs = map value_view vs
 
 -- What was made, or what was there.
 abbrev pub made_or : Option (List values.Value) → List values.Value → List values.Value

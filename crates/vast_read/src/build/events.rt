@@ -7,7 +7,7 @@ ghost use Rattle.vast_read.specs.Internal.Bounds.{bound_of};
 ghost use Rattle.vast_read.specs.Internal.Readings.{less_than};
 ghost use Rattle.vast_read.specs.Internal.Transcripts.{Adds, IsOf, entry_of, piece_view, written_in};
 ghost use Rattle.vast_read.specs.Internal.Transcribed.{IsWhole, tree_of};
-ghost use Rattle.vast_read.specs.Internal.Values.{seen};
+ghost use Rattle.vast_read.specs.Internal.Values.{denoted};
 
 use crate::build::trees::Growing;
 use crate::build::{Build, read_told};
@@ -64,7 +64,7 @@ struct Condition<'t> {
 
 impl<'t> Sink<'t> for Condition<'t> {
     ghost hears = { λ a e b.
-        Grown (grown e (seen a.growing.values)) (seen b.growing.values)
+        Grown (grown e (denoted a.growing.values)) (denoted b.growing.values)
         × Adds a.told (entry_of e ∷ []) b.told };
 
     fn tell(&mut self, event: Event<'t>) -> Result<(), AllocError> {
@@ -76,10 +76,10 @@ impl<'t> Sink<'t> for Condition<'t> {
 impl<'t> Condition<'t> {
     /// What this name is less than, where the condition says so of it.
     fn end(self, alloc: Global, name: &str) -> Result<Option<Spoken<'t>>, AllocError>
-        requires { (x : Normal) × (seen self.growing.values ≡ (Tree x ∷ []))
+        requires { (x : Normal) × (denoted self.growing.values ≡ (Tree x ∷ []))
             × IsOf x (written_in self.told) }
         ensures { IfOk result (λ o. (x : Normal) →
-            seen self.entry.growing.values ≡ (Tree x ∷ []) → MatchOption o
+            denoted self.entry.growing.values ≡ (Tree x ∷ []) → MatchOption o
             (bound_of name.now x ≡ None)
             (λ e. bound_of name.now x ≡ Some (tree_of (written_in e.told)))) }
     {
@@ -112,7 +112,7 @@ fn end_of<'t>(alloc: Global, condition: Transcript<'t>) -> Result<Option<Spoken<
 impl<'t> Build<'t> for Events {
     type Expr = Spoken<'t>;
 
-    ghost sees = { λ x. tree_of (written_in x.told) };
+    ghost denotes = { λ x. tree_of (written_in x.told) };
 
     fn read(reader: &mut Reader<'t>, is_target: bool) -> Result<Option<Spoken<'t>>, AllocError> {
         let mut told = Transcript::new(reader.alloc);

@@ -5,7 +5,7 @@ ghost use Rattle.std.specs.Prelude.{◌≡◌, ◌∷◌, IfOk};
 ghost use Rattle.vast_expressions.specs.Internal.Values.{Grown, Tree, grown, grown_first, grown_list, grown_made, grown_named, grown_one, grown_package, grown_part, grown_push, grown_replicated, grown_three, grown_two};
 ghost use Rattle.vast_expressions.specs.Internal.Views.{event_view};
 ghost use Rattle.vast_literal.specs.NormalExpr.{Binary, Call, Cast, Concat, Index, MacroCall, MemberOf, Pattern, Slice, Ternary, Unary, WordCast};
-ghost use Rattle.vast_read.specs.Internal.Values.{seen};
+ghost use Rattle.vast_read.specs.Internal.Values.{denoted};
 ghost use Rattle.vast_read.specs.View.{view};
 
 use crate::build::value::{Value, Values, pop_bytes, pop_tree, pop_trees};
@@ -21,7 +21,7 @@ use vast_names::Word;
 /// One more tree on top.
 #[tactic(auto)]
 fn put_tree(alloc: Global, tree: NormalExpr, values: &mut Values<'_>) -> Result<(), AllocError>
-    ensures { IfOk result (λ _. seen values.new ≡ (Tree (view tree) ∷ seen values.old)) }
+    ensures { IfOk result (λ _. denoted values.new ≡ (Tree (view tree) ∷ denoted values.old)) }
 {
     let tree = Box::new(alloc, tree)?;
     values.push(Value::Tree(tree))
@@ -29,7 +29,7 @@ fn put_tree(alloc: Global, tree: NormalExpr, values: &mut Values<'_>) -> Result<
 
 /// A sign before a tree.
 fn make_unary(alloc: Global, sign: Sign, values: &mut Values<'_>) -> Result<(), AllocError>
-    ensures { IfOk result (λ _. Grown (grown_one (Unary sign) (seen values.old)) (seen values.new)) }
+    ensures { IfOk result (λ _. Grown (grown_one (Unary sign) (denoted values.old)) (denoted values.new)) }
 {
     let operand = wanted!(pop_tree(values));
     let made = NormalExpr::Unary(sign_word(alloc, sign)?, operand);
@@ -38,7 +38,7 @@ fn make_unary(alloc: Global, sign: Sign, values: &mut Values<'_>) -> Result<(), 
 
 /// A cast by a keyword.
 fn make_word_cast(alloc: Global, key: Key, values: &mut Values<'_>) -> Result<(), AllocError>
-    ensures { IfOk result (λ _. Grown (grown_one (WordCast key) (seen values.old)) (seen values.new)) }
+    ensures { IfOk result (λ _. Grown (grown_one (WordCast key) (denoted values.old)) (denoted values.new)) }
 {
     let operand = wanted!(pop_tree(values));
     let made = NormalExpr::WordCast(key_word(alloc, key)?, operand);
@@ -47,7 +47,7 @@ fn make_word_cast(alloc: Global, key: Key, values: &mut Values<'_>) -> Result<()
 
 /// A sign between two trees.
 fn make_binary(alloc: Global, sign: Sign, values: &mut Values<'_>) -> Result<(), AllocError>
-    ensures { IfOk result (λ _. Grown (grown_two (Binary sign) (seen values.old)) (seen values.new)) }
+    ensures { IfOk result (λ _. Grown (grown_two (Binary sign) (denoted values.old)) (denoted values.new)) }
 {
     let right = wanted!(pop_tree(values));
     let left = wanted!(pop_tree(values));
@@ -57,7 +57,7 @@ fn make_binary(alloc: Global, sign: Sign, values: &mut Values<'_>) -> Result<(),
 
 /// An index.
 fn make_index(alloc: Global, values: &mut Values<'_>) -> Result<(), AllocError>
-    ensures { IfOk result (λ _. Grown (grown_two Index (seen values.old)) (seen values.new)) }
+    ensures { IfOk result (λ _. Grown (grown_two Index (denoted values.old)) (denoted values.new)) }
 {
     let index = wanted!(pop_tree(values));
     let subject = wanted!(pop_tree(values));
@@ -66,7 +66,7 @@ fn make_index(alloc: Global, values: &mut Values<'_>) -> Result<(), AllocError>
 
 /// A cast by a tree.
 fn make_cast(alloc: Global, values: &mut Values<'_>) -> Result<(), AllocError>
-    ensures { IfOk result (λ _. Grown (grown_two Cast (seen values.old)) (seen values.new)) }
+    ensures { IfOk result (λ _. Grown (grown_two Cast (denoted values.old)) (denoted values.new)) }
 {
     let operand = wanted!(pop_tree(values));
     let head = wanted!(pop_tree(values));
@@ -75,7 +75,7 @@ fn make_cast(alloc: Global, values: &mut Values<'_>) -> Result<(), AllocError>
 
 /// A part select of this width.
 fn make_part_select(alloc: Global, width: &str, values: &mut Values<'_>) -> Result<(), AllocError>
-    ensures { IfOk result (λ _. Grown (grown_part width.now (seen values.old)) (seen values.new)) }
+    ensures { IfOk result (λ _. Grown (grown_part width.now (denoted values.old)) (denoted values.new)) }
 {
     let start = wanted!(pop_tree(values));
     let subject = wanted!(pop_tree(values));
@@ -85,8 +85,8 @@ fn make_part_select(alloc: Global, width: &str, values: &mut Values<'_>) -> Resu
 
 /// The member of this name.
 fn make_member(alloc: Global, name: &str, values: &mut Values<'_>) -> Result<(), AllocError>
-    ensures { IfOk result (λ _. Grown (grown_one (λ s. MemberOf s name.now) (seen values.old))
-        (seen values.new)) }
+    ensures { IfOk result (λ _. Grown (grown_one (λ s. MemberOf s name.now) (denoted values.old))
+        (denoted values.new)) }
 {
     let subject = wanted!(pop_tree(values));
     let made = NormalExpr::MemberOf(subject, Word::new(alloc, name)?);
@@ -95,7 +95,7 @@ fn make_member(alloc: Global, name: &str, values: &mut Values<'_>) -> Result<(),
 
 /// A choice.
 fn make_ternary(alloc: Global, values: &mut Values<'_>) -> Result<(), AllocError>
-    ensures { IfOk result (λ _. Grown (grown_three Ternary (seen values.old)) (seen values.new)) }
+    ensures { IfOk result (λ _. Grown (grown_three Ternary (denoted values.old)) (denoted values.new)) }
 {
     let second = wanted!(pop_tree(values));
     let first = wanted!(pop_tree(values));
@@ -105,7 +105,7 @@ fn make_ternary(alloc: Global, values: &mut Values<'_>) -> Result<(), AllocError
 
 /// A slice.
 fn make_slice(alloc: Global, values: &mut Values<'_>) -> Result<(), AllocError>
-    ensures { IfOk result (λ _. Grown (grown_three Slice (seen values.old)) (seen values.new)) }
+    ensures { IfOk result (λ _. Grown (grown_three Slice (denoted values.old)) (denoted values.new)) }
 {
     let low = wanted!(pop_tree(values));
     let high = wanted!(pop_tree(values));
@@ -115,7 +115,7 @@ fn make_slice(alloc: Global, values: &mut Values<'_>) -> Result<(), AllocError>
 
 /// A concatenation.
 fn make_concat(alloc: Global, values: &mut Values<'_>) -> Result<(), AllocError>
-    ensures { IfOk result (λ _. Grown (grown_list Concat (seen values.old)) (seen values.new)) }
+    ensures { IfOk result (λ _. Grown (grown_list Concat (denoted values.old)) (denoted values.new)) }
 {
     let xs = wanted!(pop_trees(values));
     put_tree(alloc, NormalExpr::Concat(xs), values)
@@ -123,7 +123,7 @@ fn make_concat(alloc: Global, values: &mut Values<'_>) -> Result<(), AllocError>
 
 /// An array pattern.
 fn make_pattern(alloc: Global, values: &mut Values<'_>) -> Result<(), AllocError>
-    ensures { IfOk result (λ _. Grown (grown_list Pattern (seen values.old)) (seen values.new)) }
+    ensures { IfOk result (λ _. Grown (grown_list Pattern (denoted values.old)) (denoted values.new)) }
 {
     let xs = wanted!(pop_trees(values));
     put_tree(alloc, NormalExpr::Pattern(xs), values)
@@ -131,7 +131,7 @@ fn make_pattern(alloc: Global, values: &mut Values<'_>) -> Result<(), AllocError
 
 /// A replication.
 fn make_replicated(alloc: Global, values: &mut Values<'_>) -> Result<(), AllocError>
-    ensures { IfOk result (λ _. Grown (grown_replicated (seen values.old)) (seen values.new)) }
+    ensures { IfOk result (λ _. Grown (grown_replicated (denoted values.old)) (denoted values.new)) }
 {
     let xs = wanted!(pop_trees(values));
     let count = wanted!(pop_tree(values));
@@ -140,7 +140,7 @@ fn make_replicated(alloc: Global, values: &mut Values<'_>) -> Result<(), AllocEr
 
 /// A call.
 fn make_call(alloc: Global, values: &mut Values<'_>) -> Result<(), AllocError>
-    ensures { IfOk result (λ _. Grown (grown_named Call (seen values.old)) (seen values.new)) }
+    ensures { IfOk result (λ _. Grown (grown_named Call (denoted values.old)) (denoted values.new)) }
 {
     let xs = wanted!(pop_trees(values));
     let name = wanted!(pop_bytes(values));
@@ -150,7 +150,7 @@ fn make_call(alloc: Global, values: &mut Values<'_>) -> Result<(), AllocError>
 
 /// The use of a macro with arguments.
 fn make_macro_call(alloc: Global, values: &mut Values<'_>) -> Result<(), AllocError>
-    ensures { IfOk result (λ _. Grown (grown_named MacroCall (seen values.old)) (seen values.new)) }
+    ensures { IfOk result (λ _. Grown (grown_named MacroCall (denoted values.old)) (denoted values.new)) }
 {
     let xs = wanted!(pop_trees(values));
     let name = wanted!(pop_bytes(values));
@@ -160,7 +160,7 @@ fn make_macro_call(alloc: Global, values: &mut Values<'_>) -> Result<(), AllocEr
 
 /// A cast by a package's type.
 fn make_package_cast(alloc: Global, values: &mut Values<'_>) -> Result<(), AllocError>
-    ensures { IfOk result (λ _. Grown (grown_package (seen values.old)) (seen values.new)) }
+    ensures { IfOk result (λ _. Grown (grown_package (denoted values.old)) (denoted values.new)) }
 {
     let operand = wanted!(pop_tree(values));
     let name = wanted!(pop_bytes(values));
@@ -172,7 +172,7 @@ fn make_package_cast(alloc: Global, values: &mut Values<'_>) -> Result<(), Alloc
 
 /// A list of one tree.
 fn make_first(alloc: Global, values: &mut Values<'_>) -> Result<(), AllocError>
-    ensures { IfOk result (λ _. Grown (grown_first (seen values.old)) (seen values.new)) }
+    ensures { IfOk result (λ _. Grown (grown_first (denoted values.old)) (denoted values.new)) }
 {
     let x = wanted!(pop_tree(values));
     let mut trees = Children::new(alloc);
@@ -183,7 +183,7 @@ fn make_first(alloc: Global, values: &mut Values<'_>) -> Result<(), AllocError>
 /// One more tree at the end of a list.
 #[tactic(auto, using(crate::proofs::Trees::listed_more), unfolding(vast_expressions::specs::Internal::Values::grown_push))]
 fn make_push(values: &mut Values<'_>) -> Result<(), AllocError>
-    ensures { IfOk result (λ _. Grown (grown_push (seen values.old)) (seen values.new)) }
+    ensures { IfOk result (λ _. Grown (grown_push (denoted values.old)) (denoted values.new)) }
 {
     let x = wanted!(pop_tree(values));
     let mut trees = wanted!(pop_trees(values));
@@ -194,7 +194,7 @@ fn make_push(values: &mut Values<'_>) -> Result<(), AllocError>
 /// What is made of what was made before.
 #[tactic(auto)]
 fn make(alloc: Global, told: Told, values: &mut Values<'_>) -> Result<(), AllocError>
-    ensures { IfOk result (λ _. Grown (grown_made told (seen values.old)) (seen values.new)) }
+    ensures { IfOk result (λ _. Grown (grown_made told (denoted values.old)) (denoted values.new)) }
 {
     match told {
         Told::Unary(sign) => make_unary(alloc, sign, values),
@@ -223,8 +223,8 @@ pub(crate) fn hear<'t>(
     event: Event<'t>,
     values: &mut Values<'t>,
 ) -> Result<(), AllocError>
-    ensures { IfOk result (λ _. Grown (grown (event_view event.entry) (seen values.old))
-        (seen values.new)) }
+    ensures { IfOk result (λ _. Grown (grown (event_view event.entry) (denoted values.old))
+        (denoted values.new)) }
 {
     match event {
         Event::Name(text) => put_tree(alloc, NormalExpr::Name(Word::new(alloc, text)?), values),

@@ -2,7 +2,7 @@
 
 ghost use Rattle.std.specs.Prelude.{◌≡◌, [], MatchOption, None};
 ghost use Rattle.vast_expressions.specs.Internal.Values.{Grown, grown, take_tree};
-ghost use Rattle.vast_read.specs.Internal.Values.{first_tree, seen};
+ghost use Rattle.vast_read.specs.Internal.Values.{first_tree, denoted};
 ghost use Rattle.vast_read.specs.View.{view};
 
 use crate::build::make::hear;
@@ -25,7 +25,7 @@ pub(crate) struct Growing<'t> {
 }
 
 impl<'t> Sink<'t> for Growing<'t> {
-    ghost hears = { λ a e b. Grown (grown e (seen a.values)) (seen b.values) };
+    ghost hears = { λ a e b. Grown (grown e (denoted a.values)) (denoted b.values) };
 
     fn tell(&mut self, event: Event<'t>) -> Result<(), AllocError> {
         hear(self.alloc, event, &mut self.values)
@@ -46,8 +46,8 @@ impl<'t> Growing<'t> {
     /// The tree that was made last.
     pub(crate) fn tree(self) -> Option<Box<NormalExpr>>
         ensures { MatchOption result
-            (take_tree (seen self.entry.values) ≡ None)
-            (λ x. first_tree (seen self.entry.values) ≡ view x.value) }
+            (take_tree (denoted self.entry.values) ≡ None)
+            (λ x. first_tree (denoted self.entry.values) ≡ view x.value) }
     {
         let Growing {
             alloc: _,
@@ -60,7 +60,7 @@ impl<'t> Growing<'t> {
 impl<'t> Build<'t> for Trees {
     type Expr = Box<NormalExpr>;
 
-    ghost sees = { λ x. view x.value };
+    ghost denotes = { λ x. view x.value };
 
     fn read(
         reader: &mut Reader<'t>,

@@ -48,7 +48,7 @@ impl<'t> Sink<'t> for Shaded<'t> {
 impl<'t> Build<'t> for Unbuilt {
     type Expr = Snapshot<Shadow<'t>>;
 
-    ghost sees = { λ x. first_tree (told x.value) };
+    ghost denotes = { λ x. first_tree (told x.value) };
 
     fn read(
         reader: &mut Reader<'t>,

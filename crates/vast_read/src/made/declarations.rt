@@ -5,7 +5,7 @@ ghost use Rattle.std.specs.Prelude.{◌≡◌, ◌∷◌, IfOk, option_map, reve
 ghost use Rattle.vast_rows.specs.Built.{make, name_before, name_behind};
 ghost use Rattle.vast_rows.specs.declared.action.Action.TheVariants as action;
 ghost use Rattle.vast_read.specs.DeclarationView.{groups_view, package_of, sign_of, type_name_of};
-ghost use Rattle.vast_read.specs.Internal.Made.{Grown, names_type, seen, value_view};
+ghost use Rattle.vast_read.specs.Internal.Made.{Grown, names_type, denoted, value_view};
 ghost use Rattle.vast_read.specs.Texts.{key_of};
 
 use crate::children::Children;
@@ -20,7 +20,7 @@ use vast_names::Word;
 
 /// A group of one expression or of two.
 pub(crate) fn group_of(values: &mut Values<'_>) -> Result<(), AllocError>
-    ensures { IfOk result (λ _. Grown (make action.GroupOf (seen values.old)) values.new) }
+    ensures { IfOk result (λ _. Grown (make action.GroupOf (denoted values.old)) values.new) }
 {
     let first = wanted!(first::<Box<NormalExpr>>(values));
     let second = wanted!(maybe::<Box<NormalExpr>>(values));
@@ -31,7 +31,7 @@ pub(crate) fn group_of(values: &mut Values<'_>) -> Result<(), AllocError>
 /// follows.
 #[tactic(auto, unfolding(vast_rows::specs::Built::name_behind, vast_rows::specs::Built::make, vast_rows::specs::Built::of_one, vast_rows::specs::Built::of_two, vast_rows::specs::Built::of_three, vast_rows::specs::Built::of_four))]
 pub(crate) fn declares(alloc: Global, values: &mut Values<'_>) -> Result<(), AllocError>
-    ensures { IfOk result (λ _. Grown (make action.Declares (seen values.old)) values.new) }
+    ensures { IfOk result (λ _. Grown (make action.Declares (denoted values.old)) values.new) }
 {
     let groups = wanted!(first::<Children<Group>>(values));
     match values.pop() {
@@ -50,7 +50,7 @@ fn name_behind<'t>(
     values: &mut Values<'t>,
 ) -> Result<(), AllocError>
     ensures { IfOk result (λ _. Grown (name_behind (groups_view (reverse groups))
-        (value_view value.entry ∷ seen values.old)) values.new) }
+        (value_view value.entry ∷ denoted values.old)) values.new) }
 {
     match value {
         Value::Nothing => values.push(Value::Groups(groups)),
@@ -86,7 +86,7 @@ fn typed_parts(typed: Option<Box<DeclaredType>>) -> DeclaredType
 /// package's where it has one.
 #[tactic(auto, unfolding(vast_rows::specs::Built::name_before, vast_rows::specs::Built::make, vast_rows::specs::Built::of_one, vast_rows::specs::Built::of_two, vast_rows::specs::Built::of_three, vast_rows::specs::Built::of_four))]
 pub(crate) fn name_before(alloc: Global, values: &mut Values<'_>) -> Result<(), AllocError>
-    ensures { IfOk result (λ _. Grown (make action.NameBefore (seen values.old)) values.new) }
+    ensures { IfOk result (λ _. Grown (make action.NameBefore (denoted values.old)) values.new) }
 {
     let name = wanted!(first::<&str>(values));
     match values.pop() {
@@ -104,7 +104,7 @@ fn named<'t>(
     values: &mut Values<'t>,
 ) -> Result<(), AllocError>
     ensures { IfOk result (λ _. Grown (name_before name.now
-        (value_view value.entry ∷ seen values.old)) values.new) }
+        (value_view value.entry ∷ denoted values.old)) values.new) }
 {
     match value {
         Value::Groups(after) => {
@@ -144,7 +144,7 @@ fn name_type(
 
 /// The declaration that follows, of a package whose name is still to come.
 pub(crate) fn packaged(alloc: Global, values: &mut Values<'_>) -> Result<(), AllocError>
-    ensures { IfOk result (λ _. Grown (make action.Packaged (seen values.old)) values.new) }
+    ensures { IfOk result (λ _. Grown (make action.Packaged (denoted values.old)) values.new) }
 {
     let mut declared = wanted!(first::<NormalDeclaration>(values));
     let mut typed = typed_parts(declared.typed);
@@ -155,7 +155,7 @@ pub(crate) fn packaged(alloc: Global, values: &mut Values<'_>) -> Result<(), All
 
 /// The declaration that follows, of that sign.
 pub(crate) fn sign_of(alloc: Global, key: Key, values: &mut Values<'_>) -> Result<(), AllocError>
-    ensures { IfOk result (λ _. Grown (make (action.SignOf key) (seen values.old)) values.new) }
+    ensures { IfOk result (λ _. Grown (make (action.SignOf key) (denoted values.old)) values.new) }
 {
     let mut declared = wanted!(first::<NormalDeclaration>(values));
     let mut typed = typed_parts(declared.typed);
@@ -166,7 +166,7 @@ pub(crate) fn sign_of(alloc: Global, key: Key, values: &mut Values<'_>) -> Resul
 
 /// The declaration that follows, of that kind.
 pub(crate) fn kind_of(alloc: Global, key: Key, values: &mut Values<'_>) -> Result<(), AllocError>
-    ensures { IfOk result (λ _. Grown (make (action.KindOf key) (seen values.old)) values.new) }
+    ensures { IfOk result (λ _. Grown (make (action.KindOf key) (denoted values.old)) values.new) }
 {
     let mut declared = wanted!(first::<NormalDeclaration>(values));
     declared.kind = Some(key_word(alloc, key)?);

@@ -4,7 +4,7 @@ ghost use Rattle.std.specs.Prelude.{◌≡◌, [], ◌∷◌, ◌++◌, IfOk, So
 ghost use Rattle.std.proofs.Common.{sym, ap, ◌∙◌, append-nil, append_assoc};
 ghost use Rattle.vast_literal.specs.NormalFile as normal;
 ghost use Rattle.vast_read.specs.FileView.{file_view};
-ghost use Rattle.vast_read.specs.Internal.Made.{Grown, events_heard, seen, told_event};
+ghost use Rattle.vast_read.specs.Internal.Made.{Grown, events_heard, denoted, told_event};
 ghost use Rattle.vast_rows.specs.Built.{SeenFile, happens};
 ghost use Rattle.vast_rows.specs.Trace.{trace};
 
@@ -106,7 +106,7 @@ impl<'t> Heard<'t> {
 /// What the events make, from the last to the first.
 fn built<'t>(alloc: Global, events: Pile<Told<'t>>) -> Result<Values<'t>, AllocError>
     ensures { IfOk result (λ values. (t : normal.NormalFile) →
-        events_heard events.entry ≡ trace t [] → seen values ≡ (SeenFile t ∷ [])) }
+        events_heard events.entry ≡ trace t [] → denoted values ≡ (SeenFile t ∷ [])) }
 {
     let mut events = events;
     let mut values: Values<'t> = Stack::new(alloc);
@@ -118,7 +118,7 @@ fn built<'t>(alloc: Global, events: Pile<Told<'t>>) -> Result<Values<'t>, AllocE
 
 /// Puts what the event makes in the place of what it makes it of.
 fn happens<'t>(alloc: Global, event: Told<'t>, values: &mut Values<'t>) -> Result<(), AllocError>
-    ensures { IfOk result (λ _. Grown (happens (told_event event.entry) (seen values.old)) values.new) }
+    ensures { IfOk result (λ _. Grown (happens (told_event event.entry) (denoted values.old)) values.new) }
 {
     match event {
         Told::Makes(action) => make(alloc, action, values),

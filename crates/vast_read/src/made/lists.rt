@@ -2,7 +2,7 @@
 #![tactic(auto, using(crate::proofs::Making::lists), unfolding(vast_rows::specs::Built::make_more, vast_rows::specs::Built::of_one, vast_rows::specs::Built::of_two))]
 
 ghost use Rattle.std.specs.Prelude.{◌≡◌, IfOk};
-ghost use Rattle.vast_read.specs.Internal.Made.{Grown, seen, value_view};
+ghost use Rattle.vast_read.specs.Internal.Made.{Grown, denoted, value_view};
 ghost use Rattle.vast_rows.specs.Built.{make_more, make_none};
 ghost use Rattle.vast_rows.specs.declared.action.Listed.TheVariants as listed;
 
@@ -48,7 +48,7 @@ pub(crate) fn none_of<'t>(alloc: Global, what: Listed) -> Value<'t>
 
 /// One more part in front of a list.
 pub(crate) fn one_more(what: Listed, values: &mut Values<'_>) -> Result<(), AllocError>
-    ensures { IfOk result (λ _. Grown (make_more what (seen values.old)) values.new) }
+    ensures { IfOk result (λ _. Grown (make_more what (denoted values.old)) values.new) }
 {
     match what {
         Listed::Item => one_more_item(values),
@@ -65,61 +65,61 @@ pub(crate) fn one_more(what: Listed, values: &mut Values<'_>) -> Result<(), Allo
 }
 
 fn one_more_item(values: &mut Values<'_>) -> Result<(), AllocError>
-    ensures { IfOk result (λ _. Grown (make_more listed.Item (seen values.old)) values.new) }
+    ensures { IfOk result (λ _. Grown (make_more listed.Item (denoted values.old)) values.new) }
 {
     one_more!(values, NormalItem, Items)
 }
 
 fn one_more_parameter(values: &mut Values<'_>) -> Result<(), AllocError>
-    ensures { IfOk result (λ _. Grown (make_more listed.Parameter (seen values.old)) values.new) }
+    ensures { IfOk result (λ _. Grown (make_more listed.Parameter (denoted values.old)) values.new) }
 {
     one_more!(values, Parameter, Parameters)
 }
 
 fn one_more_port(values: &mut Values<'_>) -> Result<(), AllocError>
-    ensures { IfOk result (λ _. Grown (make_more listed.Port (seen values.old)) values.new) }
+    ensures { IfOk result (λ _. Grown (make_more listed.Port (denoted values.old)) values.new) }
 {
     one_more!(values, Port, Ports)
 }
 
 fn one_more_member(values: &mut Values<'_>) -> Result<(), AllocError>
-    ensures { IfOk result (λ _. Grown (make_more listed.Member (seen values.old)) values.new) }
+    ensures { IfOk result (λ _. Grown (make_more listed.Member (denoted values.old)) values.new) }
 {
     one_more!(values, NormalMember, Members)
 }
 
 fn one_more_group(values: &mut Values<'_>) -> Result<(), AllocError>
-    ensures { IfOk result (λ _. Grown (make_more listed.Group (seen values.old)) values.new) }
+    ensures { IfOk result (λ _. Grown (make_more listed.Group (denoted values.old)) values.new) }
 {
     one_more!(values, Group, Groups)
 }
 
 fn one_more_declaration(values: &mut Values<'_>) -> Result<(), AllocError>
-    ensures { IfOk result (λ _. Grown (make_more listed.Declaration (seen values.old)) values.new) }
+    ensures { IfOk result (λ _. Grown (make_more listed.Declaration (denoted values.old)) values.new) }
 {
     one_more!(values, NormalDeclaration, Declarations)
 }
 
 fn one_more_connection(values: &mut Values<'_>) -> Result<(), AllocError>
-    ensures { IfOk result (λ _. Grown (make_more listed.Connection (seen values.old)) values.new) }
+    ensures { IfOk result (λ _. Grown (make_more listed.Connection (denoted values.old)) values.new) }
 {
     one_more!(values, Connection, Connections)
 }
 
 fn one_more_event(values: &mut Values<'_>) -> Result<(), AllocError>
-    ensures { IfOk result (λ _. Grown (make_more listed.Event (seen values.old)) values.new) }
+    ensures { IfOk result (λ _. Grown (make_more listed.Event (denoted values.old)) values.new) }
 {
     one_more!(values, Event, Events)
 }
 
 fn one_more_statement(values: &mut Values<'_>) -> Result<(), AllocError>
-    ensures { IfOk result (λ _. Grown (make_more listed.Statement (seen values.old)) values.new) }
+    ensures { IfOk result (λ _. Grown (make_more listed.Statement (denoted values.old)) values.new) }
 {
     one_more!(values, NormalStatement, Statements)
 }
 
 fn one_more_expression(values: &mut Values<'_>) -> Result<(), AllocError>
-    ensures { IfOk result (λ _. Grown (make_more listed.Expression (seen values.old)) values.new) }
+    ensures { IfOk result (λ _. Grown (make_more listed.Expression (denoted values.old)) values.new) }
 {
     let part = wanted!(first::<Box<NormalExpr>>(values));
     let mut list = wanted!(first::<Children<NormalExpr>>(values));

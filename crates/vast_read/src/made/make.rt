@@ -2,15 +2,15 @@
 
 ghost use Rattle.std.specs.Prelude.{IfOk};
 ghost use Rattle.vast_rows.specs.Built.{make};
-ghost use Rattle.vast_read.specs.Internal.Made.{Grown, seen};
+ghost use Rattle.vast_read.specs.Internal.Made.{Grown, denoted};
 
 use crate::children::Children;
 use crate::made::declarations::{declares, group_of, kind_of, name_before, packaged, sign_of};
 use crate::made::lists::{none_of, one_more};
 use crate::made::members::{
     always_member, assign_member, change_of, conditional_member, connects, declaration_member,
-    edge_of, function_member, header_parameter, include_item, instance_member, loop_member,
-    macro_member, module_item, parameter_member, port_of,
+    edge_of, function_member, header_parameter, import_item, import_member, include_item,
+    instance_member, loop_member, macro_member, module_item, parameter_member, port_of,
 };
 use crate::made::statements::{
     arm, assigns, assigns_by_word, case_of, chooses, conditional, default_arm, unique_case,
@@ -24,7 +24,7 @@ use vast_rows::Action;
 /// Where they are no such parts, some of them leave, and nothing is made.
 #[tactic(auto, unfolding(vast_rows::specs::Built::make))]
 pub(crate) fn make(alloc: Global, action: Action, values: &mut Values<'_>) -> Result<(), AllocError>
-    ensures { IfOk result (λ _. Grown (make action (seen values.old)) values.new) }
+    ensures { IfOk result (λ _. Grown (make action (denoted values.old)) values.new) }
 {
     match action {
         Action::Nothing => values.push(Value::Nothing),
@@ -35,11 +35,13 @@ pub(crate) fn make(alloc: Global, action: Action, values: &mut Values<'_>) -> Re
         Action::OneMore(what) => one_more(what, values),
         Action::ModuleItem => module_item(alloc, values),
         Action::IncludeItem => include_item(alloc, values),
+        Action::ImportItem => import_item(alloc, values),
         Action::HeaderParameter => header_parameter(alloc, values),
         Action::PortOf(key) => port_of(alloc, key, values),
         Action::DeclarationMember => declaration_member(alloc, values),
         Action::AssignMember => assign_member(values),
         Action::ParameterMember(key) => parameter_member(alloc, key, values),
+        Action::ImportMember => import_member(alloc, values),
         Action::MacroMember => macro_member(alloc, values),
         Action::InstanceMember => instance_member(alloc, values),
         Action::AlwaysMember(kind) => always_member(alloc, kind, values),

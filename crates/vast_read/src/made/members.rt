@@ -4,7 +4,7 @@
 ghost use Rattle.std.specs.Prelude.{IfOk};
 ghost use Rattle.vast_rows.specs.Built.{make};
 ghost use Rattle.vast_rows.specs.declared.action.Action.TheVariants as action;
-ghost use Rattle.vast_read.specs.Internal.Made.{Grown, seen};
+ghost use Rattle.vast_read.specs.Internal.Made.{Grown, denoted};
 
 use crate::children::Children;
 use crate::macros::wanted;
@@ -21,7 +21,7 @@ use vast_names::Word;
 
 /// A member of its declaration.
 pub(crate) fn declaration_member(alloc: Global, values: &mut Values<'_>) -> Result<(), AllocError>
-    ensures { IfOk result (λ _. Grown (make action.DeclarationMember (seen values.old)) values.new) }
+    ensures { IfOk result (λ _. Grown (make action.DeclarationMember (denoted values.old)) values.new) }
 {
     let declared = wanted!(first::<NormalDeclaration>(values));
     let declared = Box::new(alloc, declared)?;
@@ -30,7 +30,7 @@ pub(crate) fn declaration_member(alloc: Global, values: &mut Values<'_>) -> Resu
 
 /// An assignment of its sides.
 pub(crate) fn assign_member(values: &mut Values<'_>) -> Result<(), AllocError>
-    ensures { IfOk result (λ _. Grown (make action.AssignMember (seen values.old)) values.new) }
+    ensures { IfOk result (λ _. Grown (make action.AssignMember (denoted values.old)) values.new) }
 {
     let left = wanted!(first::<Box<NormalExpr>>(values));
     let right = wanted!(first::<Box<NormalExpr>>(values));
@@ -43,7 +43,7 @@ pub(crate) fn parameter_member(
     key: Key,
     values: &mut Values<'_>,
 ) -> Result<(), AllocError>
-    ensures { IfOk result (λ _. Grown (make (action.ParameterMember key) (seen values.old)) values.new) }
+    ensures { IfOk result (λ _. Grown (make (action.ParameterMember key) (denoted values.old)) values.new) }
 {
     let declared = wanted!(first::<NormalDeclaration>(values));
     let value = wanted!(first::<Box<NormalExpr>>(values));
@@ -52,9 +52,18 @@ pub(crate) fn parameter_member(
     values.push(Value::Member(NormalMember::Parameter(word, declared, value)))
 }
 
+/// The import of a package by its name.
+pub(crate) fn import_member(alloc: Global, values: &mut Values<'_>) -> Result<(), AllocError>
+    ensures { IfOk result (λ _. Grown (make action.ImportMember (denoted values.old)) values.new) }
+{
+    let package = wanted!(first::<&str>(values));
+    let package = Word::new(alloc, package)?;
+    values.push(Value::Member(NormalMember::Import(package)))
+}
+
 /// A macro of its name, its arguments where it has any, and whether there is a semicolon.
 pub(crate) fn macro_member(alloc: Global, values: &mut Values<'_>) -> Result<(), AllocError>
-    ensures { IfOk result (λ _. Grown (make action.MacroMember (seen values.old)) values.new) }
+    ensures { IfOk result (λ _. Grown (make action.MacroMember (denoted values.old)) values.new) }
 {
     let name = wanted!(first::<&str>(values));
     let arguments = wanted!(maybe::<Children<NormalExpr>>(values));
@@ -72,7 +81,7 @@ pub(crate) fn macro_member(alloc: Global, values: &mut Values<'_>) -> Result<(),
 
 /// An instance of its module's name, what is given to parameters, its name, and its ports.
 pub(crate) fn instance_member(alloc: Global, values: &mut Values<'_>) -> Result<(), AllocError>
-    ensures { IfOk result (λ _. Grown (make action.InstanceMember (seen values.old)) values.new) }
+    ensures { IfOk result (λ _. Grown (make action.InstanceMember (denoted values.old)) values.new) }
 {
     let definition = wanted!(first::<&str>(values));
     let parameters = wanted!(first::<Children<Connection>>(values));
@@ -93,7 +102,7 @@ pub(crate) fn always_member(
     kind: AlwaysKind,
     values: &mut Values<'_>,
 ) -> Result<(), AllocError>
-    ensures { IfOk result (λ _. Grown (make (action.AlwaysMember kind) (seen values.old)) values.new) }
+    ensures { IfOk result (λ _. Grown (make (action.AlwaysMember kind) (denoted values.old)) values.new) }
 {
     let events = wanted!(first::<Children<Event>>(values));
     let body = wanted!(first::<Children<NormalStatement>>(values));
@@ -107,7 +116,7 @@ pub(crate) fn always_member(
 
 /// A conditional of its arms.
 pub(crate) fn conditional_member(alloc: Global, values: &mut Values<'_>) -> Result<(), AllocError>
-    ensures { IfOk result (λ _. Grown (make action.ConditionalMember (seen values.old)) values.new) }
+    ensures { IfOk result (λ _. Grown (make action.ConditionalMember (denoted values.old)) values.new) }
 {
     let alternatives = wanted!(first::<Alternatives>(values));
     let (arms, last) = alternatives.in_order()?;
@@ -117,7 +126,7 @@ pub(crate) fn conditional_member(alloc: Global, values: &mut Values<'_>) -> Resu
 
 /// A function of its declaration, inputs, locals and statements.
 pub(crate) fn function_member(alloc: Global, values: &mut Values<'_>) -> Result<(), AllocError>
-    ensures { IfOk result (λ _. Grown (make action.FunctionMember (seen values.old)) values.new) }
+    ensures { IfOk result (λ _. Grown (make action.FunctionMember (denoted values.old)) values.new) }
 {
     let declared = wanted!(first::<NormalDeclaration>(values));
     let inputs = wanted!(first::<Children<NormalDeclaration>>(values));
@@ -134,7 +143,7 @@ pub(crate) fn function_member(alloc: Global, values: &mut Values<'_>) -> Result<
 
 /// A loop of its head, its label where it has one, and its members.
 pub(crate) fn loop_member(alloc: Global, values: &mut Values<'_>) -> Result<(), AllocError>
-    ensures { IfOk result (λ _. Grown (make action.LoopMember (seen values.old)) values.new) }
+    ensures { IfOk result (λ _. Grown (make action.LoopMember (denoted values.old)) values.new) }
 {
     let range = wanted!(first::<Range<'_>>(values));
     let label = wanted!(maybe::<&str>(values));
@@ -151,7 +160,7 @@ pub(crate) fn loop_member(alloc: Global, values: &mut Values<'_>) -> Result<(), 
 
 /// A connection of its name, and of its value where it has one.
 pub(crate) fn connects(alloc: Global, values: &mut Values<'_>) -> Result<(), AllocError>
-    ensures { IfOk result (λ _. Grown (make action.Connects (seen values.old)) values.new) }
+    ensures { IfOk result (λ _. Grown (make action.Connects (denoted values.old)) values.new) }
 {
     let name = wanted!(first::<&str>(values));
     let value = wanted!(maybe::<Box<NormalExpr>>(values));
@@ -161,7 +170,7 @@ pub(crate) fn connects(alloc: Global, values: &mut Values<'_>) -> Result<(), All
 
 /// That edge of an expression.
 pub(crate) fn edge_of(alloc: Global, key: Key, values: &mut Values<'_>) -> Result<(), AllocError>
-    ensures { IfOk result (λ _. Grown (make (action.EdgeOf key) (seen values.old)) values.new) }
+    ensures { IfOk result (λ _. Grown (make (action.EdgeOf key) (denoted values.old)) values.new) }
 {
     let expression = wanted!(first::<Box<NormalExpr>>(values));
     let edge = Some(key_word(alloc, key)?);
@@ -170,7 +179,7 @@ pub(crate) fn edge_of(alloc: Global, key: Key, values: &mut Values<'_>) -> Resul
 
 /// Any change of a name.
 pub(crate) fn change_of(alloc: Global, values: &mut Values<'_>) -> Result<(), AllocError>
-    ensures { IfOk result (λ _. Grown (make action.ChangeOf (seen values.old)) values.new) }
+    ensures { IfOk result (λ _. Grown (make action.ChangeOf (denoted values.old)) values.new) }
 {
     let name = wanted!(first::<&str>(values));
     let name = NormalExpr::Name(Word::new(alloc, name)?);
@@ -183,7 +192,7 @@ pub(crate) fn change_of(alloc: Global, values: &mut Values<'_>) -> Result<(), Al
 
 /// A parameter of a header, of its declaration and value.
 pub(crate) fn header_parameter(alloc: Global, values: &mut Values<'_>) -> Result<(), AllocError>
-    ensures { IfOk result (λ _. Grown (make action.HeaderParameter (seen values.old)) values.new) }
+    ensures { IfOk result (λ _. Grown (make action.HeaderParameter (denoted values.old)) values.new) }
 {
     let declared = wanted!(first::<NormalDeclaration>(values));
     let value = wanted!(first::<Box<NormalExpr>>(values));
@@ -193,7 +202,7 @@ pub(crate) fn header_parameter(alloc: Global, values: &mut Values<'_>) -> Result
 
 /// A port of that direction, of its declaration.
 pub(crate) fn port_of(alloc: Global, key: Key, values: &mut Values<'_>) -> Result<(), AllocError>
-    ensures { IfOk result (λ _. Grown (make (action.PortOf key) (seen values.old)) values.new) }
+    ensures { IfOk result (λ _. Grown (make (action.PortOf key) (denoted values.old)) values.new) }
 {
     let declared = wanted!(first::<NormalDeclaration>(values));
     let made = Port {
@@ -205,7 +214,7 @@ pub(crate) fn port_of(alloc: Global, key: Key, values: &mut Values<'_>) -> Resul
 
 /// A module of its name, parameters, ports and members.
 pub(crate) fn module_item(alloc: Global, values: &mut Values<'_>) -> Result<(), AllocError>
-    ensures { IfOk result (λ _. Grown (make action.ModuleItem (seen values.old)) values.new) }
+    ensures { IfOk result (λ _. Grown (make action.ModuleItem (denoted values.old)) values.new) }
 {
     let name = wanted!(first::<&str>(values));
     let parameters = wanted!(first::<Children<Parameter>>(values));
@@ -222,10 +231,19 @@ pub(crate) fn module_item(alloc: Global, values: &mut Values<'_>) -> Result<(), 
 
 /// An include of its path, after the macro's name.
 pub(crate) fn include_item(alloc: Global, values: &mut Values<'_>) -> Result<(), AllocError>
-    ensures { IfOk result (λ _. Grown (make action.IncludeItem (seen values.old)) values.new) }
+    ensures { IfOk result (λ _. Grown (make action.IncludeItem (denoted values.old)) values.new) }
 {
     let _macro = wanted!(first::<&str>(values));
     let path = wanted!(first::<Path<'_>>(values));
     let path = Word::new(alloc, path.text)?;
     values.push(Value::Item(NormalItem::Include(path)))
+}
+
+/// The import of a package by its name, as an item of a file.
+pub(crate) fn import_item(alloc: Global, values: &mut Values<'_>) -> Result<(), AllocError>
+    ensures { IfOk result (λ _. Grown (make action.ImportItem (denoted values.old)) values.new) }
+{
+    let package = wanted!(first::<&str>(values));
+    let package = Word::new(alloc, package)?;
+    values.push(Value::Item(NormalItem::Import(package)))
 }

@@ -5,7 +5,7 @@ ghost use Rattle.vast_literal.specs.NormalExpr as normal_expr;
 ghost use Rattle.vast_literal.specs.NormalFile as normal;
 ghost use Rattle.vast_read.specs.DeclarationView.{group_view, declaration_view};
 ghost use Rattle.vast_read.specs.FileView.{parameter_view, port_view, item_view};
-ghost use Rattle.vast_read.specs.Internal.Made.{arms_seen, seen, value_view};
+ghost use Rattle.vast_read.specs.Internal.Made.{arms_denoted, denoted, value_view};
 ghost use Rattle.vast_read.specs.MemberView.{event_view, connection_view, member_view};
 ghost use Rattle.vast_read.specs.StatementView.{statement_view};
 ghost use Rattle.vast_read.specs.View.{view};
@@ -23,12 +23,12 @@ pub(crate) trait Part<'t>: Sized {
 
     ghost kind: { Seen → Option Normal };
 
-    ghost sees: { Self → Normal };
+    ghost denotes: { Self → Normal };
 
     /// The value, if it is such a part.
     fn of(value: Value<'t>) -> Option<Self>
         ensures { MatchOption result (kind (value_view value.entry) ≡ None)
-            (λ x. kind (value_view value.entry) ≡ Some (sees x)) };
+            (λ x. kind (value_view value.entry) ≡ Some (denotes x)) };
 }
 
 /// No part: the value is none of the kind. It is let go by a call, since where it went out of scope, the check of each
@@ -42,8 +42,8 @@ pub(crate) fn no_part<T>(value: Value<'_>) -> Option<T>
 
 /// The first of these values, if it is such a part. Whatever it is, it leaves.
 pub(crate) fn first<'t, P: Part<'t>>(values: &mut Values<'t>) -> Option<P>
-    ensures { MatchOption result (first P.kind (seen values.old) ≡ None)
-        (λ x. first P.kind (seen values.old) ≡ Some (P.sees x, seen values.new)) }
+    ensures { MatchOption result (first P.kind (denoted values.old) ≡ None)
+        (λ x. first P.kind (denoted values.old) ≡ Some (P.denotes x, denoted values.new)) }
 {
     match values.pop() {
         None => None,
@@ -53,9 +53,9 @@ pub(crate) fn first<'t, P: Part<'t>>(values: &mut Values<'t>) -> Option<P>
 
 /// The same, or the mark of a part that is left out.
 pub(crate) fn maybe<'t, P: Part<'t>>(values: &mut Values<'t>) -> Option<Option<P>>
-    ensures { MatchOption result (first (maybe P.kind) (seen values.old) ≡ None)
-        (λ x. first (maybe P.kind) (seen values.old)
-        ≡ Some (option_map P.sees x, seen values.new)) }
+    ensures { MatchOption result (first (maybe P.kind) (denoted values.old) ≡ None)
+        (λ x. first (maybe P.kind) (denoted values.old)
+        ≡ Some (option_map P.denotes x, denoted values.new)) }
 {
     match values.pop() {
         None => None,
@@ -84,7 +84,7 @@ impl<'t> Part<'t> for bool {
 
     ghost kind = { as_answer };
 
-    ghost sees = { λ b. b };
+    ghost denotes = { λ b. b };
 
     fn of(value: Value<'t>) -> Option<bool> {
         held!(value, Answer)
@@ -96,7 +96,7 @@ impl<'t> Part<'t> for &'t str {
 
     ghost kind = { as_name };
 
-    ghost sees = { λ w. w.now };
+    ghost denotes = { λ w. w.now };
 
     fn of(value: Value<'t>) -> Option<&'t str> {
         held!(value, Name)
@@ -108,7 +108,7 @@ impl<'t> Part<'t> for Path<'t> {
 
     ghost kind = { as_path };
 
-    ghost sees = { λ p. p.text.now };
+    ghost denotes = { λ p. p.text.now };
 
     fn of(value: Value<'t>) -> Option<Path<'t>> {
         held!(value, Path)
@@ -120,7 +120,7 @@ impl<'t> Part<'t> for Box<NormalExpr> {
 
     ghost kind = { as_expression };
 
-    ghost sees = { λ x. view x.value };
+    ghost denotes = { λ x. view x.value };
 
     fn of(value: Value<'t>) -> Option<Box<NormalExpr>> {
         held!(value, Expression)
@@ -132,7 +132,7 @@ impl<'t> Part<'t> for Range<'t> {
 
     ghost kind = { as_loop };
 
-    ghost sees = { λ r. (r.variable.now, view r.start.value, view r.end.value) };
+    ghost denotes = { λ r. (r.variable.now, view r.start.value, view r.end.value) };
 
     fn of(value: Value<'t>) -> Option<Range<'t>> {
         held!(value, Loop)
@@ -144,7 +144,7 @@ impl<'t> Part<'t> for Group {
 
     ghost kind = { as_group };
 
-    ghost sees = { group_view };
+    ghost denotes = { group_view };
 
     fn of(value: Value<'t>) -> Option<Group> {
         held!(value, Group)
@@ -156,7 +156,7 @@ impl<'t> Part<'t> for NormalDeclaration {
 
     ghost kind = { as_declaration };
 
-    ghost sees = { declaration_view };
+    ghost denotes = { declaration_view };
 
     fn of(value: Value<'t>) -> Option<NormalDeclaration> {
         held!(value, Declaration)
@@ -168,7 +168,7 @@ impl<'t> Part<'t> for Connection {
 
     ghost kind = { as_connection };
 
-    ghost sees = { connection_view };
+    ghost denotes = { connection_view };
 
     fn of(value: Value<'t>) -> Option<Connection> {
         held!(value, Connection)
@@ -180,7 +180,7 @@ impl<'t> Part<'t> for Event {
 
     ghost kind = { as_event };
 
-    ghost sees = { event_view };
+    ghost denotes = { event_view };
 
     fn of(value: Value<'t>) -> Option<Event> {
         held!(value, Event)
@@ -192,7 +192,7 @@ impl<'t> Part<'t> for NormalStatement {
 
     ghost kind = { as_statement };
 
-    ghost sees = { statement_view };
+    ghost denotes = { statement_view };
 
     fn of(value: Value<'t>) -> Option<NormalStatement> {
         held!(value, Statement)
@@ -204,7 +204,7 @@ impl<'t> Part<'t> for Alternatives {
 
     ghost kind = { as_arms };
 
-    ghost sees = { arms_seen };
+    ghost denotes = { arms_denoted };
 
     fn of(value: Value<'t>) -> Option<Alternatives> {
         held!(value, Arms)
@@ -216,7 +216,7 @@ impl<'t> Part<'t> for NormalMember {
 
     ghost kind = { as_member };
 
-    ghost sees = { member_view };
+    ghost denotes = { member_view };
 
     fn of(value: Value<'t>) -> Option<NormalMember> {
         held!(value, Member)
@@ -228,7 +228,7 @@ impl<'t> Part<'t> for Parameter {
 
     ghost kind = { as_parameter };
 
-    ghost sees = { parameter_view };
+    ghost denotes = { parameter_view };
 
     fn of(value: Value<'t>) -> Option<Parameter> {
         held!(value, Parameter)
@@ -240,7 +240,7 @@ impl<'t> Part<'t> for Port {
 
     ghost kind = { as_port };
 
-    ghost sees = { port_view };
+    ghost denotes = { port_view };
 
     fn of(value: Value<'t>) -> Option<Port> {
         held!(value, Port)
@@ -252,7 +252,7 @@ impl<'t> Part<'t> for NormalItem {
 
     ghost kind = { as_item };
 
-    ghost sees = { item_view };
+    ghost denotes = { item_view };
 
     fn of(value: Value<'t>) -> Option<NormalItem> {
         held!(value, Item)

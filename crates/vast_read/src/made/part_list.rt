@@ -24,7 +24,7 @@ impl<'t> Part<'t> for Children<NormalExpr> {
 
     ghost kind = { as_expressions };
 
-    ghost sees = { λ xs. listed (reverse xs) };
+    ghost denotes = { λ xs. listed (reverse xs) };
 
     fn of(value: Value<'t>) -> Option<Children<NormalExpr>> {
         held!(value, Expressions)
@@ -36,7 +36,7 @@ impl<'t> Part<'t> for Children<Group> {
 
     ghost kind = { as_groups };
 
-    ghost sees = { λ gs. groups_view (reverse gs) };
+    ghost denotes = { λ gs. groups_view (reverse gs) };
 
     fn of(value: Value<'t>) -> Option<Children<Group>> {
         held!(value, Groups)
@@ -48,7 +48,7 @@ impl<'t> Part<'t> for Children<NormalDeclaration> {
 
     ghost kind = { as_declarations };
 
-    ghost sees = { λ ds. declarations_view (reverse ds) };
+    ghost denotes = { λ ds. declarations_view (reverse ds) };
 
     fn of(value: Value<'t>) -> Option<Children<NormalDeclaration>> {
         held!(value, Declarations)
@@ -60,7 +60,7 @@ impl<'t> Part<'t> for Children<Connection> {
 
     ghost kind = { as_connections };
 
-    ghost sees = { λ cs. connections_view (reverse cs) };
+    ghost denotes = { λ cs. connections_view (reverse cs) };
 
     fn of(value: Value<'t>) -> Option<Children<Connection>> {
         held!(value, Connections)
@@ -72,7 +72,7 @@ impl<'t> Part<'t> for Children<Event> {
 
     ghost kind = { as_events };
 
-    ghost sees = { λ es. events_view (reverse es) };
+    ghost denotes = { λ es. events_view (reverse es) };
 
     fn of(value: Value<'t>) -> Option<Children<Event>> {
         held!(value, Events)
@@ -84,7 +84,7 @@ impl<'t> Part<'t> for Children<NormalStatement> {
 
     ghost kind = { as_statements };
 
-    ghost sees = { λ ss. block_view (reverse ss) };
+    ghost denotes = { λ ss. block_view (reverse ss) };
 
     fn of(value: Value<'t>) -> Option<Children<NormalStatement>> {
         held!(value, Statements)
@@ -96,7 +96,7 @@ impl<'t> Part<'t> for Children<CaseArm> {
 
     ghost kind = { as_labels };
 
-    ghost sees = { λ ls. labels_view (reverse ls) };
+    ghost denotes = { λ ls. labels_view (reverse ls) };
 
     fn of(value: Value<'t>) -> Option<Children<CaseArm>> {
         held!(value, Labels)
@@ -108,7 +108,7 @@ impl<'t> Part<'t> for Children<NormalMember> {
 
     ghost kind = { as_members };
 
-    ghost sees = { λ ms. members_view (reverse ms) };
+    ghost denotes = { λ ms. members_view (reverse ms) };
 
     fn of(value: Value<'t>) -> Option<Children<NormalMember>> {
         held!(value, Members)
@@ -120,7 +120,7 @@ impl<'t> Part<'t> for Children<Parameter> {
 
     ghost kind = { as_parameters };
 
-    ghost sees = { λ ps. parameters_view (reverse ps) };
+    ghost denotes = { λ ps. parameters_view (reverse ps) };
 
     fn of(value: Value<'t>) -> Option<Children<Parameter>> {
         held!(value, Parameters)
@@ -132,7 +132,7 @@ impl<'t> Part<'t> for Children<Port> {
 
     ghost kind = { as_ports };
 
-    ghost sees = { λ ps. ports_view (reverse ps) };
+    ghost denotes = { λ ps. ports_view (reverse ps) };
 
     fn of(value: Value<'t>) -> Option<Children<Port>> {
         held!(value, Ports)
@@ -144,7 +144,7 @@ impl<'t> Part<'t> for Children<NormalItem> {
 
     ghost kind = { as_file };
 
-    ghost sees = { λ is. record { items = items_view (reverse is) } };
+    ghost denotes = { λ is. record { items = items_view (reverse is) } };
 
     fn of(value: Value<'t>) -> Option<Children<NormalItem>> {
         held!(value, Items)

@@ -4,7 +4,7 @@
 ghost use Rattle.std.specs.Prelude.{◌≡◌, ◌∷◌, IfOk, option_map, map};
 ghost use Rattle.vast_rows.specs.Built.{alternated, assigned, make};
 ghost use Rattle.vast_rows.specs.declared.action.Action.TheVariants as action;
-ghost use Rattle.vast_read.specs.Internal.Made.{Grown, arms_seen, seen, value_view};
+ghost use Rattle.vast_read.specs.Internal.Made.{Grown, arms_denoted, denoted, value_view};
 ghost use Rattle.vast_read.specs.Internal.StatementView.{arm_view};
 ghost use Rattle.vast_read.specs.StatementParts.{arms_of};
 ghost use Rattle.vast_read.specs.StatementView.{block_view};
@@ -22,7 +22,7 @@ use vast_literal::Key;
 /// A statement of its left side and what follows that.
 #[tactic(auto, unfolding(vast_rows::specs::Built::assigned, vast_rows::specs::Built::make, vast_rows::specs::Built::of_one))]
 pub(crate) fn assigns(values: &mut Values<'_>) -> Result<(), AllocError>
-    ensures { IfOk result (λ _. Grown (make action.Assigns (seen values.old)) values.new) }
+    ensures { IfOk result (λ _. Grown (make action.Assigns (denoted values.old)) values.new) }
 {
     let left = wanted!(first::<Box<NormalExpr>>(values));
     match values.pop() {
@@ -40,7 +40,7 @@ fn assigned<'t>(
     values: &mut Values<'t>,
 ) -> Result<(), AllocError>
     ensures { IfOk result (λ _. Grown (assigned (view left.value)
-        (value_view value.entry ∷ seen values.old)) values.new) }
+        (value_view value.entry ∷ denoted values.old)) values.new) }
 {
     match value {
         Value::Nothing => values.push(Value::Statement(NormalStatement::Task(left))),
@@ -62,7 +62,7 @@ fn assigned<'t>(
 
 /// An assignment by its word, of its sides.
 pub(crate) fn assigns_by_word(values: &mut Values<'_>) -> Result<(), AllocError>
-    ensures { IfOk result (λ _. Grown (make action.AssignsByWord (seen values.old)) values.new) }
+    ensures { IfOk result (λ _. Grown (make action.AssignsByWord (denoted values.old)) values.new) }
 {
     let left = wanted!(first::<Box<NormalExpr>>(values));
     let right = wanted!(first::<Box<NormalExpr>>(values));
@@ -76,7 +76,7 @@ impl Alternatives {
         self,
     ) -> Result<(Children<Arm>, Option<Children<NormalStatement>>), AllocError>
         ensures { IfOk result (λ r. arms_of (map arm_view r.0) (option_map block_view r.1)
-            ≡ arms_seen self) }
+            ≡ arms_denoted self) }
     {
         let Alternatives {
             innermost,
@@ -91,7 +91,7 @@ impl Alternatives {
 
 /// A statement of the arms of a conditional.
 pub(crate) fn chooses(values: &mut Values<'_>) -> Result<(), AllocError>
-    ensures { IfOk result (λ _. Grown (make action.Chooses (seen values.old)) values.new) }
+    ensures { IfOk result (λ _. Grown (make action.Chooses (denoted values.old)) values.new) }
 {
     let alternatives = wanted!(first::<Alternatives>(values));
     let (arms, last) = alternatives.in_order()?;
@@ -100,7 +100,7 @@ pub(crate) fn chooses(values: &mut Values<'_>) -> Result<(), AllocError>
 
 /// The case that follows, which is unique.
 pub(crate) fn unique_case(values: &mut Values<'_>) -> Result<(), AllocError>
-    ensures { IfOk result (λ _. Grown (make action.UniqueCase (seen values.old)) values.new) }
+    ensures { IfOk result (λ _. Grown (make action.UniqueCase (denoted values.old)) values.new) }
 {
     let statement = wanted!(first::<NormalStatement>(values));
     values.push(Value::Statement(statement.into_unique()))
@@ -108,7 +108,7 @@ pub(crate) fn unique_case(values: &mut Values<'_>) -> Result<(), AllocError>
 
 /// A case by that word, of its selector and arms.
 pub(crate) fn case_of(alloc: Global, key: Key, values: &mut Values<'_>) -> Result<(), AllocError>
-    ensures { IfOk result (λ _. Grown (make (action.CaseOf key) (seen values.old)) values.new) }
+    ensures { IfOk result (λ _. Grown (make (action.CaseOf key) (denoted values.old)) values.new) }
 {
     let selector = wanted!(first::<Box<NormalExpr>>(values));
     let arms = wanted!(first::<Children<CaseArm>>(values));
@@ -119,7 +119,7 @@ pub(crate) fn case_of(alloc: Global, key: Key, values: &mut Values<'_>) -> Resul
 /// The arms of a conditional, of its condition, its block and what follows that.
 #[tactic(auto, unfolding(vast_rows::specs::Built::alternated, vast_rows::specs::Built::make, vast_rows::specs::Built::of_one, vast_rows::specs::Built::of_two, vast_rows::specs::Built::of_three, vast_rows::specs::Built::of_four))]
 pub(crate) fn conditional(alloc: Global, values: &mut Values<'_>) -> Result<(), AllocError>
-    ensures { IfOk result (λ _. Grown (make action.Conditional (seen values.old)) values.new) }
+    ensures { IfOk result (λ _. Grown (make action.Conditional (denoted values.old)) values.new) }
 {
     let condition = wanted!(first::<Box<NormalExpr>>(values));
     let block = wanted!(first::<Children<NormalStatement>>(values));
@@ -142,7 +142,7 @@ fn alternated<'t>(
     values: &mut Values<'t>,
 ) -> Result<(), AllocError>
     ensures { IfOk result (λ _. Grown (alternated (arm_view arm).0 (arm_view arm).1
-        (value_view value.entry ∷ seen values.old)) values.new) }
+        (value_view value.entry ∷ denoted values.old)) values.new) }
 {
     match value {
         Value::Nothing => values.push(Value::Arms(Alternatives {
@@ -169,7 +169,7 @@ fn alternated<'t>(
 /// An arm of a case of its label and block, before others.
 #[tactic(auto, using(crate::proofs::Making::lists), unfolding(vast_rows::specs::Built::make, vast_rows::specs::Built::of_one, vast_rows::specs::Built::of_two, vast_rows::specs::Built::of_three, vast_rows::specs::Built::of_four))]
 pub(crate) fn arm(values: &mut Values<'_>) -> Result<(), AllocError>
-    ensures { IfOk result (λ _. Grown (make action.Arm (seen values.old)) values.new) }
+    ensures { IfOk result (λ _. Grown (make action.Arm (denoted values.old)) values.new) }
 {
     let label = wanted!(first::<Box<NormalExpr>>(values));
     let block = wanted!(first::<Children<NormalStatement>>(values));
@@ -184,7 +184,7 @@ pub(crate) fn arm(values: &mut Values<'_>) -> Result<(), AllocError>
 /// An arm of a case without a label, before others.
 #[tactic(auto, using(crate::proofs::Making::lists), unfolding(vast_rows::specs::Built::make, vast_rows::specs::Built::of_one, vast_rows::specs::Built::of_two, vast_rows::specs::Built::of_three, vast_rows::specs::Built::of_four))]
 pub(crate) fn default_arm(values: &mut Values<'_>) -> Result<(), AllocError>
-    ensures { IfOk result (λ _. Grown (make action.DefaultArm (seen values.old)) values.new) }
+    ensures { IfOk result (λ _. Grown (make action.DefaultArm (denoted values.old)) values.new) }
 {
     let block = wanted!(first::<Children<NormalStatement>>(values));
     let mut arms = wanted!(first::<Children<CaseArm>>(values));

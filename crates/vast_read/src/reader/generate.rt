@@ -20,7 +20,7 @@ impl<'t> Reader<'t> {
     pub(crate) fn loop_head<B: Build<'t>>(
         &mut self,
     ) -> Result<Option<Made<'t, B::Expr>>, AllocError>
-        ensures { IfOk result (λ o. ReadsPhrase B.sees LoopHead o self.old self.new) }
+        ensures { IfOk result (λ o. ReadsPhrase B.denotes LoopHead o self.old self.new) }
     {
         let Some(variable) = self.loop_variable() else {
             return Ok(None);
@@ -62,7 +62,7 @@ impl<'t> Reader<'t> {
 
     /// Reads an expression and the semicolon after it.
     fn closed<B: Build<'t>>(&mut self) -> Result<Option<B::Expr>, AllocError>
-        ensures { IfOk result (λ o. ReadsClosed B.sees o self.old self.new) }
+        ensures { IfOk result (λ o. ReadsClosed B.denotes o self.old self.new) }
     {
         match B::read(self, false)? {
             None => Ok(None),
@@ -78,7 +78,7 @@ impl<'t> Reader<'t> {
 
     /// The same of the condition of a loop: of its end something is made.
     fn closed_bound<B: Build<'t>>(&mut self, name: &str) -> Result<Option<B::Expr>, AllocError>
-        ensures { IfOk result (λ o. ReadsClosedBound B.sees name.now o self.old self.new) }
+        ensures { IfOk result (λ o. ReadsClosedBound B.denotes name.now o self.old self.new) }
     {
         match B::bound(self, name)? {
             None => Ok(None),

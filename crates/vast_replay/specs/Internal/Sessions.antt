@@ -4,7 +4,7 @@ use Rattle.std.specs.declared.alloc.Global.{Global}
 use Rattle.std.specs.Io.KnownBytes.{Appends}
 use Rattle.vast_list.specs.Lines.{lines_of}
 use Rattle.vast_replay.specs.Sessions.{RepliesToEach}
-use Rattle.vast_talk.specs.declared.talk.Talk.{Talk}
+use Rattle.vast_talk.specs.declared.repl.Repl.{Repl}
 
 -- A line without the line feed at its end, if it has one.
 abbrev pub IsWithoutFeed : (piece line : List ℕ) → Type 0
@@ -16,5 +16,5 @@ ReadsLine bytes behind None = bytes ≡ []
 ReadsLine bytes behind (Some line) = (rest : List ℕ) × (behind ≡ Some rest) × (lines_of bytes ≡ line.items ∷ lines_of rest)
 
 -- The replies to all lines of the bytes were written.
-abbrev pub HasRepliedAll : (bytes : List ℕ) → (old new : Talk) → (before behind : Option (List ℕ)) → Type 0
+abbrev pub HasRepliedAll : (bytes : List ℕ) → (old new : Repl) → (before behind : Option (List ℕ)) → Type 0
 HasRepliedAll bytes old new before behind = (text : List ℕ) × RepliesToEach old new (lines_of bytes) text × Appends before behind text

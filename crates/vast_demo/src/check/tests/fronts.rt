@@ -19,12 +19,16 @@ type Row = (
     &'static [Kind],
 );
 
-const ROWS: [Row; 14] = [
+const ROWS: [Row; 15] = [
     (
         "",
         "",
         true,
-        &[Kind::IncludeWord, Kind::Reserved(Key::Module)],
+        &[
+            Kind::IncludeWord,
+            Kind::Reserved(Key::Import),
+            Kind::Reserved(Key::Module),
+        ],
         &[Kind::Reserved(Key::EndModule)],
     ),
     (
@@ -92,6 +96,13 @@ const ROWS: [Row; 14] = [
         true,
         &[Kind::IncludeWord, Kind::Reserved(Key::Module)],
         &[Kind::Quoted],
+    ),
+    (
+        "import p::q;",
+        "import p::",
+        false,
+        &[Kind::Operator(Sign::Times)],
+        &[Kind::Word, SEMICOLON],
     ),
     (
         "module m; wire a; é",

@@ -51,8 +51,8 @@ returns-in-None g c =
 
 pub tokens-preserved : goal.tokens-preserved
 tokens-preserved g c =
-    let h : HasRead c.in-Phrase.phrase (g.S.Source.left c.tokens.source) (g.S.Source.sees c.in-Some.made) (g.S.Source.left c.phrase.new.self) = rw c.in-Some.is at c.in_ok-phrase-in-Phrase.ensures in
-    reads (rows_view c.args.table.now.items.now c.args.table.now.rows.now) (fact_in (facts_view c.args.table.now.facts.now)) (rule_number c.args.start) (g.S.Source.left c.args.source.now) (g.S.Source.left c.tokens.source) (g.S.Source.left c.phrase.new.self) c.open.new.stack c.in-Phrase.phrase (g.S.Source.sees c.in-Some.made) c.args.sink.now c.open.new.sink c.reads.new.self
+    let h : HasRead c.in-Phrase.phrase (g.S.Source.left c.tokens.source) (g.S.Source.denotes c.in-Some.made) (g.S.Source.left c.phrase.new.self) = rw c.in-Some.is at c.in_ok-phrase-in-Phrase.ensures in
+    reads (rows_view c.args.table.now.items.now c.args.table.now.rows.now) (fact_in (facts_view c.args.table.now.facts.now)) (rule_number c.args.start) (g.S.Source.left c.args.source.now) (g.S.Source.left c.tokens.source) (g.S.Source.left c.phrase.new.self) c.open.new.stack c.in-Phrase.phrase (g.S.Source.denotes c.in-Some.made) c.args.sink.now c.open.new.sink c.reads.new.self
     c.args.table.now.checked g.met.K.Sink.joined
     (led (rows_view c.args.table.now.items.now c.args.table.now.rows.now) (fact_in (facts_view c.args.table.now.facts.now)) (g.S.Source.left c.tokens.source) c.tokens.stack c.tokens.sink c.open.new.stack c.open.new.sink c.in_ok-open.field-0 (due.Phrase c.in-Phrase.phrase) (c.in_ok-open.ensures (g.S.Source.left c.tokens.source) (c.number-kind.ensures.number ∙ ap number c.kind.ensures)) c.in-Phrase.is
     (rule_number c.args.start) (g.S.Source.left c.args.source.now) c.args.sink.now c.tokens.invariant)

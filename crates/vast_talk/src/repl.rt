@@ -3,7 +3,7 @@
 ghost use Rattle.std.specs.Prelude.{◌≡◌, ◌+◌, ◌-◌, ◌^◌, ◌++◌, ◌↔◌, IfOk, IsTrue, MatchOption, OnOk, None, codes, false, min, string_bytes, true};
 ghost use Rattle.std.specs.Str.Lossy.{utf8_lossy};
 ghost use Rattle.vast_list.specs.Lines.{dialect_word};
-ghost use Rattle.vast_talk.specs.Linted.{HasCounted, IsLevel, IsTalking};
+ghost use Rattle.vast_talk.specs.Linted.{HasCounted, IsLevel, HasItsLint};
 ghost use Rattle.vast_talk.specs.Replies.{AsksForWarnings, IsReply, RepliesLinted, RepliesTo, RepliesToFirst, RepliesToLine, is_header, text_object};
 ghost use Rattle.vast_talk.specs.Internal.Linted.{is_memory};
 ghost use Rattle.vast_talk.specs.Internal.Replies.{AddsAnswer, AddsFault, AddsReply, AddsWarned};
@@ -23,7 +23,7 @@ const ASKED: &[u8] = b"?Warnings";
 
 /// A session, or none before the line that names its dialect.
 #[derive(Drop)]
-pub struct Talk {
+pub struct Repl {
     alloc: Global,
     /// Whether what calls print is told.
     has_lint: bool,
@@ -34,15 +34,15 @@ pub struct Talk {
     number: usize,
 }
 
-impl Talk {
+impl Repl {
     /// Before the first line. It takes no memory.
-    pub fn new(alloc: Global) -> Talk
+    pub fn new(alloc: Global) -> Repl
         ensures lint { result.has_lint ≡ false }
         ensures session { result.session ≡ None }
         ensures number { result.number ≡ 0 }
-        ensures talking { IsTalking result }
+        ensures beside { HasItsLint result }
     {
-        Talk {
+        Repl {
             alloc,
             has_lint: false,
             session: None,
@@ -55,15 +55,15 @@ impl Talk {
     /// has the last member `"warnings":[{"line":12,"call":"MakeIndex",..}]`, in the form of
     /// [`json_with_warnings`](crate::json_with_warnings). The line `?Warnings` is answered by what would be told at the
     /// end of the list, if it ended there: `{"line":13,"call":"?Warnings","answer":[..]}`. It takes no memory.
-    pub fn with_lint(alloc: Global) -> Talk
+    pub fn with_lint(alloc: Global) -> Repl
         ensures lint { result.has_lint ≡ true }
         ensures session { result.session ≡ None }
         ensures number { result.number ≡ 0 }
-        ensures talking { IsTalking result }
+        ensures beside { HasItsLint result }
     {
-        let mut talk = Talk::new(alloc);
-        talk.has_lint = true;
-        talk
+        let mut repl = Repl::new(alloc);
+        repl.has_lint = true;
+        repl
     }
 
     /// Takes the next line, without its line feed, and returns what it gave, an object of JSON with a line break.
@@ -72,10 +72,10 @@ impl Talk {
     /// `== TITLE`, begins anew, `{"line":9,"title":"TITLE"}`. A line with a fault counts for nothing but its number.
     #[tactic(auto, using(crate::proofs::Replied::replies))]
     pub fn reply(&mut self, line: &[u8]) -> Result<String, AllocError>
-        ensures talking { IsTalking self.old → OnOk result (IsTalking self.new) }
+        ensures beside { HasItsLint self.old → OnOk result (HasItsLint self.new) }
         ensures lint { self.new.has_lint ≡ self.old.has_lint }
         ensures number { self.new.number ≡ min (self.old.number + 1) (2 ^ 64 - 1) }
-        ensures reply { IsTalking self.old
+        ensures reply { HasItsLint self.old
             → IfOk result (λ text. IsReply self.old self.new line.now (string_bytes text)) }
     {
         self.number = self.number.saturating_add(1);
@@ -87,10 +87,10 @@ impl Talk {
     }
 
     fn take(&mut self, line: &[u8], text: &mut String) -> Result<(), Fault>
-        ensures talking { IsTalking self.old → is_memory result ≡ false → IsTalking self.new }
+        ensures beside { HasItsLint self.old → is_memory result ≡ false → HasItsLint self.new }
         ensures lint { self.new.has_lint ≡ self.old.has_lint }
         ensures number { self.new.number ≡ self.old.number }
-        ensures told { IsTalking self.old
+        ensures told { HasItsLint self.old
             → AddsReply (string_bytes text.old) (string_bytes text.new) result
             (RepliesTo (is_header line.now) self.old.has_lint self.old.session self.new.session
             self.new.number line.now) }
@@ -109,7 +109,7 @@ impl Talk {
 
     /// Begins anew, after a header.
     fn begin(&mut self, title: &[u8], text: &mut String) -> Result<(), Fault>
-        ensures talking { IsTalking self.new }
+        ensures beside { HasItsLint self.new }
         ensures lint { self.new.has_lint ≡ self.old.has_lint }
         ensures number { self.new.number ≡ self.old.number }
         ensures session { self.new.session ≡ None }
@@ -127,7 +127,7 @@ impl Talk {
     /// Takes a line before there is a session.
     #[tactic(auto, using(crate::proofs::Replied::replies))]
     fn open(&mut self, line: &[u8], text: &mut String) -> Result<(), Fault>
-        ensures talking { IsTalking self.old → is_memory result ≡ false → IsTalking self.new }
+        ensures beside { HasItsLint self.old → is_memory result ≡ false → HasItsLint self.new }
         ensures lint { self.new.has_lint ≡ self.old.has_lint }
         ensures number { self.new.number ≡ self.old.number }
         ensures told { self.old.session ≡ None

@@ -1,6 +1,6 @@
 use Rattle.std.proofs.Common.{rules, string_bytes}
 use Rattle.vast_talk.proofs.Replied.{answered}
-use Rattle.vast_talk.proofs.talk.push_end.Goals as goal
+use Rattle.vast_talk.proofs.repl.push_end.Goals as goal
 
 pub returns : goal.returns
 returns c =

@@ -1,7 +1,7 @@
 use Rattle.std.proofs.Common.{◌≡◌, codes, ap}
 use Rattle.vast_list.specs.Lines.{dialect_word, without_return}
 use Rattle.vast_talk.specs.Replies.{text_object}
-use Rattle.vast_talk.proofs.talk.Talk.open.Goals as goal
+use Rattle.vast_talk.proofs.repl.Repl.open.Goals as goal
 
 pub returns-clause-told : goal.returns-clause-told
 returns-clause-told c = λ none.

@@ -1,6 +1,6 @@
 use Rattle.std.proofs.Common.{rules, string_bytes}
 use Rattle.vast_talk.proofs.Replied.{told_linted}
-use Rattle.vast_talk.proofs.talk.push_linted.Goals as goal
+use Rattle.vast_talk.proofs.repl.push_linted.Goals as goal
 
 pub returns-in_err-given-clause-told : goal.returns-in_err-given-clause-told
 returns-in_err-given-clause-told c =
