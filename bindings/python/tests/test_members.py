@@ -177,6 +177,9 @@ class Members(FileTest):
         file.generate_add_always_comb(loop)
         file.generate_add_always_ff(loop, [x.pos_edge()])
         file.generate_add_always_at(loop, [x, x.neg_edge()])
+        file.generate_add_always_star(loop)
+        file.generate_add_always_latch(loop)
+        file.generate_add_initial(loop)
         self.assert_file(
             file,
             "module m;",
@@ -198,6 +201,9 @@ class Members(FileTest):
             "    always_comb begin end",
             "    always_ff @ (posedge x) begin end",
             "    always @ (x or negedge x) begin end",
+            "    always @* begin end",
+            "    always_latch begin end",
+            "    initial begin end",
             "  end",
             "endmodule",
         )

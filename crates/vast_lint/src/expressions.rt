@@ -250,6 +250,20 @@ fn are_left_sides(known: Known<'_>, parts: &[usize]) -> bool {
         .all(|part| known.form(*part).left_rule().is_none())
 }
 
+/// Whether the call, as a statement, is one that a tool which simulates nothing refuses to run.
+fn is_simulated(known: Known<'_>, name: &str, arguments: &[usize]) -> bool {
+    match name {
+        "$finish" | "$stop" => true,
+        "$display" | "$write" => {
+            arguments.is_empty()
+                || arguments
+                    .iter()
+                    .any(|part| !known.form(*part).is_constant())
+        }
+        _ => false,
+    }
+}
+
 /// What a name, a member, a call, a cast, an edge or a macro is.
 fn other(
     known: Known<'_>,
@@ -264,7 +278,8 @@ fn other(
         ExpressionStep::MakeFunctionCall(name, arguments) => {
             operands(known, arguments, told)?;
             told.show_if(is_keyword(known.dialect, name), Rule::Keyword)?;
-            Ok(Form::Call(name.starts_with('$') && arguments.is_empty()))
+            let is_bare = name.starts_with('$') && arguments.is_empty();
+            Ok(Form::Call(is_bare, is_simulated(known, name, arguments)))
         }
         ExpressionStep::MakeTernary(condition, consequent, alternate) => {
             operands(known, &[*condition, *consequent, *alternate], told)?;

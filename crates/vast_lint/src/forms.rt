@@ -26,8 +26,9 @@ pub(crate) enum Form {
     Text(bool),
     /// What an operator, a cast, a replication or a select of a computed value computes.
     Computed,
-    /// A call of a function or of a task, and whether it is a system call without arguments.
-    Call(bool),
+    /// A call of a function or of a task: whether it is a system call without arguments, and whether as a statement it is
+    /// one that only a simulation runs.
+    Call(bool, bool),
     /// A concatenation, and whether each of its parts can stand on the left of an assignment.
     Concat(bool),
     Pattern,
@@ -81,8 +82,25 @@ impl Form {
         ensures { is_none result ≡ is_task self }
     {
         match self {
-            Form::Call(_) | Form::Other => None,
+            Form::Call(_, _) | Form::Other => None,
             _ => Some(Rule::TaskOfValue),
+        }
+    }
+
+    /// Whether it is known without a simulation.
+    pub(crate) fn is_constant(self) -> bool {
+        match self {
+            Form::Constant | Form::Number(_) | Form::Unsized | Form::Literal | Form::Text(_) =>
+                true,
+            _ => false,
+        }
+    }
+
+    /// Whether such, as a statement, is a call that only a simulation runs.
+    pub(crate) fn is_simulated(self) -> bool {
+        match self {
+            Form::Call(_, is_simulated) => is_simulated,
+            _ => false,
         }
     }
 
@@ -90,7 +108,7 @@ impl Form {
     pub(crate) fn operand_rule(self) -> Option<Rule> {
         match self {
             Form::Edge => Some(Rule::EdgeInExpression),
-            Form::Call(true) => Some(Rule::SystemCallWithoutArguments),
+            Form::Call(true, _) => Some(Rule::SystemCallWithoutArguments),
             _ => None,
         }
     }

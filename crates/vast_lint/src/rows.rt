@@ -86,6 +86,7 @@ pub(crate) fn row_of(rule: Rule) -> Row {
             ("a procedure's assignment in a conditional of a module is no SystemVerilog", Tools::All)
         }
         Rule::TaskOfValue => ("a statement of what is no call is no SystemVerilog", Tools::All),
+        Rule::SimulatedTask => ("a system task that only a simulation runs", Tools::Yosys),
         Rule::TaskInGenerate => {
             ("a procedure's call in a conditional of a module is no SystemVerilog", Tools::All)
         }

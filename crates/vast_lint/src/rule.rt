@@ -66,6 +66,7 @@ pub enum Rule {
     AssignInProcedure,
     AssignmentInGenerate,
     TaskOfValue,
+    SimulatedTask,
     TaskInGenerate,
     CasezInGenerate,
     UniqueInGenerate,

@@ -116,6 +116,7 @@ fn in_block(
         }
         StatementStep::BlockAddTaskCall(owner, call) => {
             told.show_other(known.form(*call).task_rule(), *call)?;
+            told.tell_if(known.form(*call).is_simulated(), Rule::SimulatedTask)?;
             told.tell_if(known.is_generate(*owner), Rule::TaskInGenerate)?;
             Ok(Fact::Other)
         }

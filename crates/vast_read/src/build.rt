@@ -29,7 +29,8 @@ pub(crate) trait Build<'t> {
 
     /// Reads an expression, or what is assigned to.
     fn read(reader: &mut Reader<'t>, is_target: bool) -> Result<Option<Self::Expr>, AllocError>
-        ensures { IfOk result (λ o. ReadsTree denotes (level_of is_target) o reader.old reader.new) };
+        ensures { IfOk result (λ o. ReadsTree denotes (level_of is_target) o
+            reader.old reader.new) };
 
     /// Reads an expression that says of this name that it is less than another expression, of which
     /// alone something is made.

@@ -49,7 +49,8 @@ impl<'t> Reader<'t> {
         &mut self,
         is_target: bool,
     ) -> Result<Option<Made<'t, B::Expr>>, AllocError>
-        ensures { IfOk result (λ o. ReadsPhrase B.denotes (phrase_of is_target) o self.old self.new) }
+        ensures { IfOk result (λ o. ReadsPhrase B.denotes (phrase_of is_target) o
+            self.old self.new) }
     {
         match B::read(self, is_target)? {
             None => Ok(None),

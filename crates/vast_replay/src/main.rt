@@ -46,7 +46,7 @@ fn answer_words(rt: &HostRuntime, words: &[&str]) -> Result<Outcome, Failure> {
         Ok(Request::Version) => print(rt, VERSION),
         Ok(Request::Calls) => print(rt, &calls_text(alloc)?),
         Ok(Request::CallsJson) => print(rt, &calls_json(alloc)?),
-        Ok(Request::Session { lint }) => answer_lines(rt, lint),
+        Ok(Request::Session { lint }) => hold_session(rt, lint),
         Ok(Request::Lists { manner, files }) => Ok(answer_files(rt, manner, &files)),
         Err(WordFault::Memory) => Err(Failure::Memory),
         Err(fault) => {
@@ -61,7 +61,7 @@ fn print(rt: &HostRuntime, text: &str) -> Result<Outcome, Failure> {
     Ok(Outcome::Made)
 }
 
-fn answer_lines(rt: &HostRuntime, lint: bool) -> Result<Outcome, Failure> {
+fn hold_session(rt: &HostRuntime, lint: bool) -> Result<Outcome, Failure> {
     let mut input = BufReader::new(rt.alloc(), rt.stdin()).map_err(|_| Failure::Memory)?;
     Ok(answer_lines(
         rt.alloc(),

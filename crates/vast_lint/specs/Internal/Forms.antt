@@ -25,7 +25,7 @@ is_left_side _ = false
 
 -- What may stand as a statement by itself (IEEE 1800-2017, 13.3 and 13.4): a call, and whatever a macro stands for.
 abbrev pub is_task : Form → Bool
-is_task (Call bare) = true
+is_task (Call bare simulated) = true
 is_task Other = true
 is_task _ = false
 

@@ -29,7 +29,8 @@ fn put_tree(alloc: Global, tree: NormalExpr, values: &mut Values<'_>) -> Result<
 
 /// A sign before a tree.
 fn make_unary(alloc: Global, sign: Sign, values: &mut Values<'_>) -> Result<(), AllocError>
-    ensures { IfOk result (λ _. Grown (grown_one (Unary sign) (denoted values.old)) (denoted values.new)) }
+    ensures { IfOk result (λ _. Grown (grown_one (Unary sign) (denoted values.old))
+        (denoted values.new)) }
 {
     let operand = wanted!(pop_tree(values));
     let made = NormalExpr::Unary(sign_word(alloc, sign)?, operand);
@@ -38,7 +39,8 @@ fn make_unary(alloc: Global, sign: Sign, values: &mut Values<'_>) -> Result<(), 
 
 /// A cast by a keyword.
 fn make_word_cast(alloc: Global, key: Key, values: &mut Values<'_>) -> Result<(), AllocError>
-    ensures { IfOk result (λ _. Grown (grown_one (WordCast key) (denoted values.old)) (denoted values.new)) }
+    ensures { IfOk result (λ _. Grown (grown_one (WordCast key) (denoted values.old))
+        (denoted values.new)) }
 {
     let operand = wanted!(pop_tree(values));
     let made = NormalExpr::WordCast(key_word(alloc, key)?, operand);
@@ -47,7 +49,8 @@ fn make_word_cast(alloc: Global, key: Key, values: &mut Values<'_>) -> Result<()
 
 /// A sign between two trees.
 fn make_binary(alloc: Global, sign: Sign, values: &mut Values<'_>) -> Result<(), AllocError>
-    ensures { IfOk result (λ _. Grown (grown_two (Binary sign) (denoted values.old)) (denoted values.new)) }
+    ensures { IfOk result (λ _. Grown (grown_two (Binary sign) (denoted values.old))
+        (denoted values.new)) }
 {
     let right = wanted!(pop_tree(values));
     let left = wanted!(pop_tree(values));
@@ -75,7 +78,8 @@ fn make_cast(alloc: Global, values: &mut Values<'_>) -> Result<(), AllocError>
 
 /// A part select of this width.
 fn make_part_select(alloc: Global, width: &str, values: &mut Values<'_>) -> Result<(), AllocError>
-    ensures { IfOk result (λ _. Grown (grown_part width.now (denoted values.old)) (denoted values.new)) }
+    ensures { IfOk result (λ _. Grown (grown_part width.now (denoted values.old))
+        (denoted values.new)) }
 {
     let start = wanted!(pop_tree(values));
     let subject = wanted!(pop_tree(values));
@@ -95,7 +99,8 @@ fn make_member(alloc: Global, name: &str, values: &mut Values<'_>) -> Result<(),
 
 /// A choice.
 fn make_ternary(alloc: Global, values: &mut Values<'_>) -> Result<(), AllocError>
-    ensures { IfOk result (λ _. Grown (grown_three Ternary (denoted values.old)) (denoted values.new)) }
+    ensures { IfOk result (λ _. Grown (grown_three Ternary (denoted values.old))
+        (denoted values.new)) }
 {
     let second = wanted!(pop_tree(values));
     let first = wanted!(pop_tree(values));
@@ -105,7 +110,8 @@ fn make_ternary(alloc: Global, values: &mut Values<'_>) -> Result<(), AllocError
 
 /// A slice.
 fn make_slice(alloc: Global, values: &mut Values<'_>) -> Result<(), AllocError>
-    ensures { IfOk result (λ _. Grown (grown_three Slice (denoted values.old)) (denoted values.new)) }
+    ensures { IfOk result (λ _. Grown (grown_three Slice (denoted values.old))
+        (denoted values.new)) }
 {
     let low = wanted!(pop_tree(values));
     let high = wanted!(pop_tree(values));
@@ -115,7 +121,8 @@ fn make_slice(alloc: Global, values: &mut Values<'_>) -> Result<(), AllocError>
 
 /// A concatenation.
 fn make_concat(alloc: Global, values: &mut Values<'_>) -> Result<(), AllocError>
-    ensures { IfOk result (λ _. Grown (grown_list Concat (denoted values.old)) (denoted values.new)) }
+    ensures { IfOk result (λ _. Grown (grown_list Concat (denoted values.old))
+        (denoted values.new)) }
 {
     let xs = wanted!(pop_trees(values));
     put_tree(alloc, NormalExpr::Concat(xs), values)
@@ -123,7 +130,8 @@ fn make_concat(alloc: Global, values: &mut Values<'_>) -> Result<(), AllocError>
 
 /// An array pattern.
 fn make_pattern(alloc: Global, values: &mut Values<'_>) -> Result<(), AllocError>
-    ensures { IfOk result (λ _. Grown (grown_list Pattern (denoted values.old)) (denoted values.new)) }
+    ensures { IfOk result (λ _. Grown (grown_list Pattern (denoted values.old))
+        (denoted values.new)) }
 {
     let xs = wanted!(pop_trees(values));
     put_tree(alloc, NormalExpr::Pattern(xs), values)
@@ -131,7 +139,8 @@ fn make_pattern(alloc: Global, values: &mut Values<'_>) -> Result<(), AllocError
 
 /// A replication.
 fn make_replicated(alloc: Global, values: &mut Values<'_>) -> Result<(), AllocError>
-    ensures { IfOk result (λ _. Grown (grown_replicated (denoted values.old)) (denoted values.new)) }
+    ensures { IfOk result (λ _. Grown (grown_replicated (denoted values.old))
+        (denoted values.new)) }
 {
     let xs = wanted!(pop_trees(values));
     let count = wanted!(pop_tree(values));
@@ -140,7 +149,8 @@ fn make_replicated(alloc: Global, values: &mut Values<'_>) -> Result<(), AllocEr
 
 /// A call.
 fn make_call(alloc: Global, values: &mut Values<'_>) -> Result<(), AllocError>
-    ensures { IfOk result (λ _. Grown (grown_named Call (denoted values.old)) (denoted values.new)) }
+    ensures { IfOk result (λ _. Grown (grown_named Call (denoted values.old))
+        (denoted values.new)) }
 {
     let xs = wanted!(pop_trees(values));
     let name = wanted!(pop_bytes(values));
@@ -150,7 +160,8 @@ fn make_call(alloc: Global, values: &mut Values<'_>) -> Result<(), AllocError>
 
 /// The use of a macro with arguments.
 fn make_macro_call(alloc: Global, values: &mut Values<'_>) -> Result<(), AllocError>
-    ensures { IfOk result (λ _. Grown (grown_named MacroCall (denoted values.old)) (denoted values.new)) }
+    ensures { IfOk result (λ _. Grown (grown_named MacroCall (denoted values.old))
+        (denoted values.new)) }
 {
     let xs = wanted!(pop_trees(values));
     let name = wanted!(pop_bytes(values));

@@ -118,7 +118,8 @@ fn built<'t>(alloc: Global, events: Pile<Told<'t>>) -> Result<Values<'t>, AllocE
 
 /// Puts what the event makes in the place of what it makes it of.
 fn happens<'t>(alloc: Global, event: Told<'t>, values: &mut Values<'t>) -> Result<(), AllocError>
-    ensures { IfOk result (λ _. Grown (happens (told_event event.entry) (denoted values.old)) values.new) }
+    ensures { IfOk result (λ _. Grown (happens (told_event event.entry) (denoted values.old))
+        values.new) }
 {
     match event {
         Told::Makes(action) => make(alloc, action, values),

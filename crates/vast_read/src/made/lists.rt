@@ -71,7 +71,8 @@ fn one_more_item(values: &mut Values<'_>) -> Result<(), AllocError>
 }
 
 fn one_more_parameter(values: &mut Values<'_>) -> Result<(), AllocError>
-    ensures { IfOk result (λ _. Grown (make_more listed.Parameter (denoted values.old)) values.new) }
+    ensures { IfOk result (λ _. Grown (make_more listed.Parameter (denoted values.old))
+        values.new) }
 {
     one_more!(values, Parameter, Parameters)
 }
@@ -95,13 +96,15 @@ fn one_more_group(values: &mut Values<'_>) -> Result<(), AllocError>
 }
 
 fn one_more_declaration(values: &mut Values<'_>) -> Result<(), AllocError>
-    ensures { IfOk result (λ _. Grown (make_more listed.Declaration (denoted values.old)) values.new) }
+    ensures { IfOk result (λ _. Grown (make_more listed.Declaration (denoted values.old))
+        values.new) }
 {
     one_more!(values, NormalDeclaration, Declarations)
 }
 
 fn one_more_connection(values: &mut Values<'_>) -> Result<(), AllocError>
-    ensures { IfOk result (λ _. Grown (make_more listed.Connection (denoted values.old)) values.new) }
+    ensures { IfOk result (λ _. Grown (make_more listed.Connection (denoted values.old))
+        values.new) }
 {
     one_more!(values, Connection, Connections)
 }
@@ -113,13 +116,15 @@ fn one_more_event(values: &mut Values<'_>) -> Result<(), AllocError>
 }
 
 fn one_more_statement(values: &mut Values<'_>) -> Result<(), AllocError>
-    ensures { IfOk result (λ _. Grown (make_more listed.Statement (denoted values.old)) values.new) }
+    ensures { IfOk result (λ _. Grown (make_more listed.Statement (denoted values.old))
+        values.new) }
 {
     one_more!(values, NormalStatement, Statements)
 }
 
 fn one_more_expression(values: &mut Values<'_>) -> Result<(), AllocError>
-    ensures { IfOk result (λ _. Grown (make_more listed.Expression (denoted values.old)) values.new) }
+    ensures { IfOk result (λ _. Grown (make_more listed.Expression (denoted values.old))
+        values.new) }
 {
     let part = wanted!(first::<Box<NormalExpr>>(values));
     let mut list = wanted!(first::<Children<NormalExpr>>(values));

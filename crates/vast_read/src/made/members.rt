@@ -21,7 +21,8 @@ use vast_names::Word;
 
 /// A member of its declaration.
 pub(crate) fn declaration_member(alloc: Global, values: &mut Values<'_>) -> Result<(), AllocError>
-    ensures { IfOk result (λ _. Grown (make action.DeclarationMember (denoted values.old)) values.new) }
+    ensures { IfOk result (λ _. Grown (make action.DeclarationMember (denoted values.old))
+        values.new) }
 {
     let declared = wanted!(first::<NormalDeclaration>(values));
     let declared = Box::new(alloc, declared)?;
@@ -43,7 +44,8 @@ pub(crate) fn parameter_member(
     key: Key,
     values: &mut Values<'_>,
 ) -> Result<(), AllocError>
-    ensures { IfOk result (λ _. Grown (make (action.ParameterMember key) (denoted values.old)) values.new) }
+    ensures { IfOk result (λ _. Grown (make (action.ParameterMember key) (denoted values.old))
+        values.new) }
 {
     let declared = wanted!(first::<NormalDeclaration>(values));
     let value = wanted!(first::<Box<NormalExpr>>(values));
@@ -81,7 +83,8 @@ pub(crate) fn macro_member(alloc: Global, values: &mut Values<'_>) -> Result<(),
 
 /// An instance of its module's name, what is given to parameters, its name, and its ports.
 pub(crate) fn instance_member(alloc: Global, values: &mut Values<'_>) -> Result<(), AllocError>
-    ensures { IfOk result (λ _. Grown (make action.InstanceMember (denoted values.old)) values.new) }
+    ensures { IfOk result (λ _. Grown (make action.InstanceMember (denoted values.old))
+        values.new) }
 {
     let definition = wanted!(first::<&str>(values));
     let parameters = wanted!(first::<Children<Connection>>(values));
@@ -102,7 +105,8 @@ pub(crate) fn always_member(
     kind: AlwaysKind,
     values: &mut Values<'_>,
 ) -> Result<(), AllocError>
-    ensures { IfOk result (λ _. Grown (make (action.AlwaysMember kind) (denoted values.old)) values.new) }
+    ensures { IfOk result (λ _. Grown (make (action.AlwaysMember kind) (denoted values.old))
+        values.new) }
 {
     let events = wanted!(first::<Children<Event>>(values));
     let body = wanted!(first::<Children<NormalStatement>>(values));
@@ -116,7 +120,8 @@ pub(crate) fn always_member(
 
 /// A conditional of its arms.
 pub(crate) fn conditional_member(alloc: Global, values: &mut Values<'_>) -> Result<(), AllocError>
-    ensures { IfOk result (λ _. Grown (make action.ConditionalMember (denoted values.old)) values.new) }
+    ensures { IfOk result (λ _. Grown (make action.ConditionalMember (denoted values.old))
+        values.new) }
 {
     let alternatives = wanted!(first::<Alternatives>(values));
     let (arms, last) = alternatives.in_order()?;
@@ -126,7 +131,8 @@ pub(crate) fn conditional_member(alloc: Global, values: &mut Values<'_>) -> Resu
 
 /// A function of its declaration, inputs, locals and statements.
 pub(crate) fn function_member(alloc: Global, values: &mut Values<'_>) -> Result<(), AllocError>
-    ensures { IfOk result (λ _. Grown (make action.FunctionMember (denoted values.old)) values.new) }
+    ensures { IfOk result (λ _. Grown (make action.FunctionMember (denoted values.old))
+        values.new) }
 {
     let declared = wanted!(first::<NormalDeclaration>(values));
     let inputs = wanted!(first::<Children<NormalDeclaration>>(values));
@@ -192,7 +198,8 @@ pub(crate) fn change_of(alloc: Global, values: &mut Values<'_>) -> Result<(), Al
 
 /// A parameter of a header, of its declaration and value.
 pub(crate) fn header_parameter(alloc: Global, values: &mut Values<'_>) -> Result<(), AllocError>
-    ensures { IfOk result (λ _. Grown (make action.HeaderParameter (denoted values.old)) values.new) }
+    ensures { IfOk result (λ _. Grown (make action.HeaderParameter (denoted values.old))
+        values.new) }
 {
     let declared = wanted!(first::<NormalDeclaration>(values));
     let value = wanted!(first::<Box<NormalExpr>>(values));
