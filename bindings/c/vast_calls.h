@@ -672,6 +672,16 @@ static inline int32_t vast_make_macro_ref_with_args(vast_file *file, vast_string
     return vast_call_make(file, made == NULL ? NULL : &made->id);
 }
 
+/* The member `value.field` of a value of a named type, whose name prints as it is. */
+static inline int32_t vast_make_member(vast_file *file, vast_expression value, vast_string field,
+                                       vast_expression *made)
+{
+    vast_call_begin(file, "MakeMember", 417);
+    vast_call_handle(file, value.id);
+    vast_call_text(file, field);
+    return vast_call_make(file, made == NULL ? NULL : &made->id);
+}
+
 /* Types */
 
 /* The type of one bit. */
@@ -1012,6 +1022,23 @@ static inline int32_t vast_hoist_module_declarations(vast_file *file, vast_modul
     vast_call_begin(file, "HoistModuleDeclarations", 307);
     vast_call_handle(file, owner.id);
     vast_call_natural(file, start);
+    return vast_call_make(file, NULL);
+}
+
+/* `import PACKAGE::*;`, as the module's last member. */
+static inline int32_t vast_add_import(vast_file *file, vast_module owner, vast_string package)
+{
+    vast_call_begin(file, "AddImport", 323);
+    vast_call_handle(file, owner.id);
+    vast_call_text(file, package);
+    return vast_call_make(file, NULL);
+}
+
+/* `import PACKAGE::*;`, as the last item of the file. */
+static inline int32_t vast_add_file_import(vast_file *file, vast_string package)
+{
+    vast_call_begin(file, "AddFileImport", 339);
+    vast_call_text(file, package);
     return vast_call_make(file, NULL);
 }
 

@@ -657,6 +657,19 @@ static inline vast_macro v_make_macro_ref_with_args(vast_file *file, const char 
     return answer;
 }
 
+/* `vast_make_member`: the member `value.field` of a value of a named type, whose name prints as
+ * it is. */
+static inline vast_expression v_make_member(vast_file *file, vast_expression value,
+                                            const char *field)
+{
+    vast_expression answer = {{0, 0}};
+    if (file->fault == VAST_OK)
+        file->fault = vast_make_member(file, value, vast_str(field), &answer);
+    return answer;
+}
+#define v_make_member(file, value, field) \
+    v_make_member(file, vast_expression_of(value), field)
+
 /* `vast_make_scalar_type`: the type of one bit. */
 static inline vast_type v_make_scalar_type(vast_file *file)
 {
@@ -988,6 +1001,20 @@ static inline void v_hoist_module_declarations(vast_file *file, vast_module owne
 {
     if (file->fault == VAST_OK)
         file->fault = vast_hoist_module_declarations(file, owner, start);
+}
+
+/* `vast_add_import`: `import PACKAGE::*;`, as the module's last member. */
+static inline void v_add_import(vast_file *file, vast_module owner, const char *package)
+{
+    if (file->fault == VAST_OK)
+        file->fault = vast_add_import(file, owner, vast_str(package));
+}
+
+/* `vast_add_file_import`: `import PACKAGE::*;`, as the last item of the file. */
+static inline void v_add_file_import(vast_file *file, const char *package)
+{
+    if (file->fault == VAST_OK)
+        file->fault = vast_add_file_import(file, vast_str(package));
 }
 
 /* `vast_add_generate_loop`: a generate loop without members, as the module's last member. */

@@ -122,7 +122,11 @@ class Reader:
 
     def postfix(self):
         self.primary()
-        while self.take("["):
+        while self.sees("[", "."):
+            if self.take("."):
+                self.need_kind("name")
+                continue
+            self.need("[")
             self.expression()
             if self.take("+:"):
                 self.need_kind("number")
@@ -184,8 +188,14 @@ class Reader:
         while not self.sees_kind("end"):
             if self.take("`include"):
                 self.need_kind("string")
+            elif self.take("import"):
+                self.imported()
             else:
                 self.module()
+
+    def imported(self):
+        self.need_kind("name")
+        self.need("::", "*", ";")
 
     def module(self):
         self.need("module")
@@ -260,6 +270,8 @@ class Reader:
             self.block()
         elif self.take("function"):
             self.function()
+        elif self.take("import"):
+            self.imported()
         elif self.sees("assign", "if"):
             self.statement()
         elif self.take("for"):

@@ -28,7 +28,7 @@ r = AddReg m "r" byte
 BEHIND = {"e": ("y", "e"), "l": ("l", "a")}
 # What a form names and a list doesn't declare stands before its text.
 DECLARED = {
-    r"p::U": "package p; typedef logic [7:0] U; endpackage\n",
+    r"p::(U|\*)": "package p; typedef logic [7:0] U; endpackage\n",
     r"\bT\b": "typedef logic [7:0] T;\n",
     r"`M1": "`define M1(x) x\n",
 }

@@ -120,6 +120,8 @@ class Others(FileTest):
         self.assert_expression(file.make_index_expr(a, b), "a[b]")
         self.assert_expression(file.make_indexed_part_select(a, b, 4), "a[b +: 4]")
         self.assert_expression(file.make_index(file.make_indexable_expression(a + b), 0), "(a + b)[0]")
+        self.assert_expression(file.make_member(a + b, "f"), "(a + b).f")
+        self.assert_expression(a.member("f").member("g")[3], "a.f.g[3]")
 
     @over_each()
     def test_lists(self, file):

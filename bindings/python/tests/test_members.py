@@ -15,6 +15,12 @@ class Items(FileTest):
         self.assert_file(file, '`include "a.vh"', "// first", "", "module m;", "", "endmodule")
 
     @over_each()
+    def test_imports(self, file):
+        file.add_file_import("p")
+        file.add_import(file.add_module("m"), "q")
+        self.assert_file(file, "import p::*;", "module m;", "  import q::*;", "endmodule")
+
+    @over_each()
     def test_ports(self, file):
         module = file.add_module("m")
         byte = file.make_bit_vector_type(8)

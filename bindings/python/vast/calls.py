@@ -499,6 +499,12 @@ class Calls(Core):
             MacroRef,
         )
 
+    def make_member(self, value: Operand, field: str) -> Expr:
+        """The member `value.field` of a value of a named type, whose name prints as it is."""
+        if not (isinstance(value, Expression) and value.file is self):
+            value = self._value(value)
+        return self._later(f"MakeMember {value.step} {quoted(field)}", Expr)
+
     def make_scalar_type(self) -> DataType:
         """The type of one bit."""
         return self._later("MakeScalarType", DataType)
@@ -805,6 +811,16 @@ class Calls(Core):
         if not (isinstance(owner, Module) and owner.file is self):
             owner = self._own(owner, Module)
         self._now(f"HoistModuleDeclarations {owner.step} {size(start)}")
+
+    def add_import(self, owner: Module, package: str) -> None:
+        """`import PACKAGE::*;`, as the module's last member."""
+        if not (isinstance(owner, Module) and owner.file is self):
+            owner = self._own(owner, Module)
+        self._later(f"AddImport {owner.step} {quoted(package)}")
+
+    def add_file_import(self, package: str) -> None:
+        """`import PACKAGE::*;`, as the last item of the file."""
+        self._later(f"AddFileImport {quoted(package)}")
 
     def add_generate_loop(
         self,

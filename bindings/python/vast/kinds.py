@@ -211,6 +211,12 @@ class Expression(Operators):
         """`File.make_neg_edge`: the event of a falling edge, `negedge a`."""
         return self.file.make_neg_edge(self)
 
+    def member(self, field: str) -> Expr:
+        """`File.make_member`: the member `value.field` of a value of a named type, whose name
+        prints as it is.
+        """
+        return self.file.make_member(self, field)
+
     def bit_vector_type_expr(self, signed: bool = False) -> DataType:
         """`File.make_bit_vector_type_expr`: the vector whose width is the expression;
         `width_is_usable` is the test.
@@ -365,6 +371,10 @@ class Module(ModuleWords):
         member `start` on before the other members from there on.
         """
         return self.file.hoist_module_declarations(self, start)
+
+    def add_import(self, package: str) -> None:
+        """`File.add_import`: `import PACKAGE::*;`, as the module's last member."""
+        return self.file.add_import(self, package)
 
     def add_generate_loop(
         self,

@@ -12,6 +12,10 @@ use crate::known::Width;
 
 /// Calls that the original has none of, as methods of a [`VastFile`] where this trait is in scope.
 pub trait VastFileExtension {
+    /// The member `value.field` of a value of a named type, whose name prints as it is. The original crate
+    /// lacks it.
+    fn make_member(&mut self, value: &Expr, field: &str) -> Expr;
+
     /// The packed array of elements of a type, each dimension as many as an expression says;
     /// [`VastFile::dimensions_are_usable`] is the test of these.
     ///
@@ -34,6 +38,12 @@ pub trait VastFileExtension {
         element: VastDataType,
         dimensions: &[&Expr],
     ) -> VastDataType;
+
+    /// `import PACKAGE::*;`, as the module's last member.
+    fn add_import(&mut self, owner: VastModule, package: &str);
+
+    /// `import PACKAGE::*;`, as the last item of the file.
+    fn add_file_import(&mut self, package: &str);
 
     /// An `always @*` with an empty block, as the loop's last member.
     ///
@@ -84,6 +94,11 @@ pub trait VastFileExtension {
 }
 
 impl VastFileExtension for VastFile {
+    fn make_member(&mut self, value: &Expr, field: &str) -> Expr {
+        let value_step = self.own(value.0);
+        Expr(self.later(Call::MakeMember, |calls| calls.step(value_step).text(field)))
+    }
+
     fn make_packed_array_type_expr(
         &mut self,
         element: VastDataType,
@@ -111,6 +126,17 @@ impl VastFileExtension for VastFile {
         );
         self.keep_width(made, Width::Element(element_step));
         VastDataType(made)
+    }
+
+    fn add_import(&mut self, owner: VastModule, package: &str) {
+        let owner_step = self.own(owner.0);
+        self.later(Call::AddImport, |calls| {
+            calls.step(owner_step).text(package)
+        });
+    }
+
+    fn add_file_import(&mut self, package: &str) {
+        self.later(Call::AddFileImport, |calls| calls.text(package));
     }
 
     fn generate_add_always_star(

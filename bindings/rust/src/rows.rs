@@ -11,7 +11,7 @@ pub(crate) struct Row(
     pub(crate) &'static [Form],
 );
 
-pub(crate) static ROWS: [Row; 177] = [
+pub(crate) static ROWS: [Row; 180] = [
     Row(0, "MakeNot", &[Step]),
     Row(16, "MakeBitwiseNot", &[Step]),
     Row(32, "MakeNegate", &[Step]),
@@ -84,6 +84,7 @@ pub(crate) static ROWS: [Row; 177] = [
     Row(369, "MakeNegEdge", &[Step]),
     Row(385, "MakeMacroRef", &[Text]),
     Row(401, "MakeMacroRefWithArgs", &[Text, List(&Step)]),
+    Row(417, "MakeMember", &[Step, Text]),
     Row(2, "MakeScalarType", &[]),
     Row(18, "MakeIntegerType", &[Word(&["false", "true"])]),
     Row(34, "MakeIntType", &[Word(&["false", "true"])]),
@@ -119,6 +120,8 @@ pub(crate) static ROWS: [Row; 177] = [
     Row(275, "AddIntLocalparam", &[Step, Text, Step]),
     Row(291, "AddTypedLocalparam", &[Step, Step, Step]),
     Row(307, "HoistModuleDeclarations", &[Step, Count]),
+    Row(323, "AddImport", &[Step, Text]),
+    Row(339, "AddFileImport", &[Text]),
     Row(
         4,
         "AddGenerateLoop",

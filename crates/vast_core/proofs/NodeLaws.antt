@@ -5,7 +5,7 @@ use Rattle.std.specs.Prelude.{IfSome}
 use Rattle.vast_literal.specs.Tree.{ExprTree, TypeTree, Typed, SomeExpr}
 use Rattle.vast_literal.proofs.NumberLaws.{signed_text}
 use Rattle.vast_core.specs.Handles.{Expr, VastDataType, rank, type_rank}
-use Rattle.vast_core.specs.declared.node.ExprNode.TheVariants.{Name, Literal, StringText, Unary, Binary, Ternary, Index, Slice, PartSelect, Concat, Pattern, WidthCast, TypeCast, PosEdge, NegEdge, Macro, MacroCall, Call, DataType}
+use Rattle.vast_core.specs.declared.node.ExprNode.TheVariants.{Name, Literal, StringText, Unary, Binary, Ternary, Index, Slice, PartSelect, MemberOf, Concat, Pattern, WidthCast, TypeCast, PosEdge, NegEdge, Macro, MacroCall, Call, DataType}
 use Rattle.vast_core.specs.declared.node.TypeNode.{TypeNode}
 use Rattle.vast_core.specs.declared.node.TypeNode.TheVariants.{Vector, Packed, Unpacked}
 use Rattle.vast_core.specs.declared.node.Dimension.TheVariants.{Count, Size}
@@ -137,6 +137,7 @@ expr_children-map f g (Ternary condition consequent alternate) h = (f condition 
 expr_children-map f g (Index subject index) h = (f subject h.0, f index h.1)
 expr_children-map f g (Slice subject high low) h = (f subject h.0, f high h.1, f low h.2)
 expr_children-map f g (PartSelect subject start width) h = (f subject h.0, f start h.1)
+expr_children-map f g (MemberOf subject name) h = f subject h
 expr_children-map f g (Concat count parts) h = (IfSome_then count h.0 f, All-implies f parts.items h.1)
 expr_children-map f g (Pattern parts) h = All-implies f parts.items h
 expr_children-map f g (WidthCast width operand) h = (f width h.0, f operand h.1)
@@ -202,6 +203,7 @@ expr_tree-kept b c x (Ternary condition consequent alternate) h = cc (expr_in-ke
 expr_tree-kept b c x (Index subject index) h = cc (expr_in-kept b c x subject h.0, expr_in-kept b c x index h.1)
 expr_tree-kept b c x (Slice subject high low) h = cc (expr_in-kept b c x subject h.0, expr_in-kept b c x high h.1, expr_in-kept b c x low h.2)
 expr_tree-kept b c x (PartSelect subject start width) h = cc (expr_in-kept b c x subject h.0, expr_in-kept b c x start h.1)
+expr_tree-kept b c x (MemberOf subject name) h = cc (expr_in-kept b c x subject h)
 expr_tree-kept b c x (Concat count parts) h = cc (maybe_expr-kept b c x count h.0, exprs-kept b c x parts.items h.1)
 expr_tree-kept b c x (Pattern parts) h = cc (exprs-kept b c x parts.items h)
 expr_tree-kept b c x (WidthCast width operand) h = cc (expr_in-kept b c x width h.0, expr_in-kept b c x operand h.1)

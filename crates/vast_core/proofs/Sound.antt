@@ -3,7 +3,7 @@ use Rattle.std.proofs.Common.{◌≡◌, ℕ, suc, ◌<◌, ◌≤◌, Bool, fal
 use Rattle.std.specs.Prelude.{IfSome}
 use Rattle.vast_core.specs.Handles.{Id, Expr, VastDataType, ModulePort, ContinuousAssignment, VastStatementBlock}
 use Rattle.vast_core.specs.Nodes.{IsOwned, is_name, is_macro}
-use Rattle.vast_core.specs.Records.{Assignment, Port, ParameterPort, ModuleRecord, ParameterForm, DefinedForm, Member, DeclarationEntry, AssignmentEntry, ParameterEntry, BlankEntry, CommentEntry, InlineEntry, MacroEntry, InstanceEntry, FunctionEntry, AlwaysEntry, ConditionalEntry, LoopEntry, FileItem, ModuleEntry, Definition, Artifact, MacroArtifact, Connection, InstanceRecord}
+use Rattle.vast_core.specs.Records.{Assignment, Port, ParameterPort, ModuleRecord, ParameterForm, DefinedForm, Member, DeclarationEntry, AssignmentEntry, ParameterEntry, BlankEntry, CommentEntry, ImportEntry, InlineEntry, MacroEntry, InstanceEntry, FunctionEntry, AlwaysEntry, ConditionalEntry, LoopEntry, FileItem, ModuleEntry, Definition, Artifact, MacroArtifact, Connection, InstanceRecord}
 use Rattle.vast_core.specs.Nests.{CaseArm, ElseIf, Statement, AssignStatement, ContinuousStatement, TaskStatement, ConditionalStatement, CasesStatement, NestRecord, BlockRecord, ConditionalNestRecord, CaseNestRecord, LoopNestRecord, FunctionVariable, FunctionRecord, AlwaysRecord, NestKind, NoKind, nest_kind, is_kind, BlockKind, ConditionalKind, CaseStatementKind, LoopKind}
 use Rattle.vast_literal.specs.Tree.{ExprTree}
 use Rattle.vast_core.specs.Bench.{Bench, has_root, OwnsExpr, OwnsType, OwnsPort, OwnsContinuous, is_continuous, is_comment, is_inline, is_macro_statement}
@@ -123,6 +123,7 @@ MemberSound-kept b c g (AssignmentEntry a) h = continuous_stays b c g a h
 MemberSound-kept b c g (ParameterEntry local form value) h = (FormSound-kept b c g form h.0, HasExpr-kept b.nodes c.nodes g.nodes value h.1)
 MemberSound-kept b c g BlankEntry h = tt
 MemberSound-kept b c g (CommentEntry a) h = artifact-kept is_comment b c a.id g never h
+MemberSound-kept b c g (ImportEntry package_name) h = tt
 MemberSound-kept b c g (InlineEntry a) h = artifact-kept is_inline b c a.id g never h
 MemberSound-kept b c g (MacroEntry a) h = artifact-kept is_macro_statement b c a.id g never h
 MemberSound-kept b c g (InstanceEntry i) h = index-kept b c i.id (length b.instances) (length c.instances) g g.instances h

@@ -2,7 +2,7 @@
 use Rattle.std.proofs.Common.{◌≡◌, zero, suc, ℤ, pos, negsuc, true, IsTrue, refl}
 use Rattle.std.specs.Prelude.{◌≤ℤ◌}
 use Rattle.std.specs.Cmp.Derive.{both_true}
-use Rattle.vast_literal.specs.Tree.{ExprTree, NameTree, LiteralTree, StringTree, UnaryTree, BinaryTree, TernaryTree, IndexTree, SliceTree, PartSelectTree, ConcatTree, PatternTree, WidthCastTree, TypeCastTree, PosEdgeTree, NegEdgeTree, MacroTree, CallTree, MissingExpr, TypeTree, VectorTree, PackedTree, UnpackedTree, MissingType, NoExpr, SomeExpr, Exprs, NoExprs, MoreExprs, NoArguments, SomeArguments}
+use Rattle.vast_literal.specs.Tree.{ExprTree, NameTree, LiteralTree, StringTree, UnaryTree, BinaryTree, TernaryTree, IndexTree, SliceTree, PartSelectTree, MemberOfTree, ConcatTree, PatternTree, WidthCastTree, TypeCastTree, PosEdgeTree, NegEdgeTree, MacroTree, CallTree, MissingExpr, TypeTree, VectorTree, PackedTree, UnpackedTree, MissingType, NoExpr, SomeExpr, Exprs, NoExprs, MoreExprs, NoArguments, SomeArguments}
 use Rattle.vast_literal.specs.WellFormed.{is_positive, is_cast_type, is_well_formed, is_well_formed_type, are_well_formed}
 use Rattle.vast_core.specs.Types.{is_castable, ExprWellFormed, TypeWellFormed, ExprsWellFormed}
 
@@ -28,6 +28,7 @@ mutual
   well_formed (IndexTree subject index) h = both_true (well_formed subject h.0) (well_formed index h.1)
   well_formed (SliceTree subject high low) h = both_true (well_formed subject h.0) (both_true (well_formed high h.1) (well_formed low h.2))
   well_formed (PartSelectTree subject start width) h = both_true (well_formed subject h.1) (both_true (well_formed start h.2) (positive width h.0))
+  well_formed (MemberOfTree subject name) h = well_formed subject h
   well_formed (ConcatTree NoExpr parts) h = each_well_formed parts h.1
   well_formed (ConcatTree (SomeExpr count) parts) h = both_true (well_formed count h.0) (each_well_formed parts h.1)
   well_formed (PatternTree parts) h = each_well_formed parts h

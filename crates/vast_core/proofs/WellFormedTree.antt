@@ -7,7 +7,7 @@ use Rattle.vast_literal.specs.WellFormed.{is_well_formed_type}
 use Rattle.vast_literal.specs.WellFormedFile.{is_well_formed_parameter_name, are_well_formed_connections, is_given, are_given, are_well_formed_inputs, are_well_formed_locals, is_well_formed_member, are_well_formed_members, are_well_formed_ports, is_well_formed_typed, are_well_formed_parameters, are_well_formed_items, is_well_formed_file}
 use Rattle.vast_core.specs.Handles.{Expr, ModulePort, VastDataType}
 use Rattle.vast_core.specs.Nodes.{maybe_type_in}
-use Rattle.vast_core.specs.Records.{Assignment, ParameterPort, ModuleRecord, Member, DeclarationEntry, AssignmentEntry, ParameterEntry, BlankEntry, CommentEntry, InlineEntry, MacroEntry, InstanceEntry, FunctionEntry, AlwaysEntry, ConditionalEntry, LoopEntry, ParameterForm, DefinedForm, FileItem, ModuleEntry, Artifact, MacroArtifact, Connection, InstanceRecord}
+use Rattle.vast_core.specs.Records.{Assignment, ParameterPort, ModuleRecord, Member, DeclarationEntry, AssignmentEntry, ParameterEntry, BlankEntry, CommentEntry, ImportEntry, InlineEntry, MacroEntry, InstanceEntry, FunctionEntry, AlwaysEntry, ConditionalEntry, LoopEntry, ParameterForm, DefinedForm, FileItem, ModuleEntry, Artifact, MacroArtifact, Connection, InstanceRecord}
 use Rattle.vast_core.specs.Nests.{NestRecord, BlockRecord, ConditionalNestRecord, CaseNestRecord, LoopNestRecord, FunctionVariable, FunctionRecord, AlwaysRecord}
 use Rattle.vast_core.specs.Bench.{Bench, OwnsExpr, OwnsType, OwnsPort, AreWellFormed, maybe_tree_of}
 use Rattle.vast_core.specs.WrittenKinds.{IsGiven, HasOwnKind, HasLocalKind, HasValue}
@@ -85,6 +85,7 @@ member-good b w s f g (AssignmentEntry a) h k = assignment-good b w (slice_get b
 member-good b w s f g (ParameterEntry local form value) h k = both_true (form-good b w s.records form h.0) (expr-good b w value h.1)
 member-good b w s f g BlankEntry h k = refl
 member-good b w s f g (CommentEntry a) h k = artifact-good b w (slice_get b.artifacts a.id.index) (Each-read (ArtifactSound b) b.artifacts a.id.index s.records.artifacts)
+member-good b w s f g (ImportEntry package_name) h k = refl
 member-good b w s f g (InlineEntry a) h k = artifact-good b w (slice_get b.artifacts a.id.index) (Each-read (ArtifactSound b) b.artifacts a.id.index s.records.artifacts)
 member-good b w s f g (MacroEntry a) h k = artifact-good b w (slice_get b.artifacts a.id.index) (Each-read (ArtifactSound b) b.artifacts a.id.index s.records.artifacts)
 member-good b w s f g (InstanceEntry i) h k =

@@ -2,10 +2,10 @@
 use Rattle.std.specs.Prelude.{◌≡◌, ℕ, Bool, true, false, IsTrue, List, [], ◌∷◌, ◌++◌, Option, Some, None, slice_get, string_bytes, All, Vec, IfSome}
 use Rattle.std.specs.Fmt.{signed_decimal}
 use Rattle.std.specs.declared.alloc.Global.{Global}
-use Rattle.vast_literal.specs.Tree.{ExprTree, NameTree, LiteralTree, StringTree, UnaryTree, BinaryTree, TernaryTree, IndexTree, SliceTree, PartSelectTree, ConcatTree, PatternTree, WidthCastTree, TypeCastTree, PosEdgeTree, NegEdgeTree, MacroTree, CallTree, MissingExpr, TypeTree, ScalarTree, VectorTree, IntegerTree, IntTree, ExternalTree, PackageTree, PackedTree, UnpackedTree, MissingType, MaybeType, Untyped, Typed, MaybeExpr, NoExpr, SomeExpr, Exprs, NoExprs, MoreExprs, MaybeExprs, NoArguments, SomeArguments}
+use Rattle.vast_literal.specs.Tree.{ExprTree, NameTree, LiteralTree, StringTree, UnaryTree, BinaryTree, TernaryTree, IndexTree, SliceTree, PartSelectTree, MemberOfTree, ConcatTree, PatternTree, WidthCastTree, TypeCastTree, PosEdgeTree, NegEdgeTree, MacroTree, CallTree, MissingExpr, TypeTree, ScalarTree, VectorTree, IntegerTree, IntTree, ExternalTree, PackageTree, PackedTree, UnpackedTree, MissingType, MaybeType, Untyped, Typed, MaybeExpr, NoExpr, SomeExpr, Exprs, NoExprs, MoreExprs, MaybeExprs, NoArguments, SomeArguments}
 use Rattle.vast_core.specs.Handles.{Id, Expr, VastDataType}
 pub use Rattle.vast_core.specs.declared.node.ExprNode.{ExprNode}
-use Rattle.vast_core.specs.declared.node.ExprNode.TheVariants.{Name, Literal, StringText, Unary, Binary, Ternary, Index, Slice, PartSelect, Concat, Pattern, WidthCast, TypeCast, PosEdge, NegEdge, Macro, MacroCall, Call, DataType}
+use Rattle.vast_core.specs.declared.node.ExprNode.TheVariants.{Name, Literal, StringText, Unary, Binary, Ternary, Index, Slice, PartSelect, MemberOf, Concat, Pattern, WidthCast, TypeCast, PosEdge, NegEdge, Macro, MacroCall, Call, DataType}
 use Rattle.vast_core.specs.declared.node.TypeNode.{TypeNode}
 use Rattle.vast_core.specs.declared.node.TypeNode.TheVariants.{Scalar, Vector, Integer, Int, External, Package, Packed, Unpacked}
 pub use Rattle.vast_core.specs.declared.node.Dimension.{Dimension}
@@ -105,6 +105,7 @@ expr_tree b (Ternary condition consequent alternate) = TernaryTree (expr_in b co
 expr_tree b (Index subject index) = IndexTree (expr_in b subject) (expr_in b index)
 expr_tree b (Slice subject high low) = SliceTree (expr_in b subject) (expr_in b high) (expr_in b low)
 expr_tree b (PartSelect subject start width) = PartSelectTree (expr_in b subject) (expr_in b start) width
+expr_tree b (MemberOf subject name) = MemberOfTree (expr_in b subject) name
 expr_tree b (Concat count parts) = ConcatTree (maybe_expr_in b count) (exprs_in b parts.items)
 expr_tree b (Pattern parts) = PatternTree (exprs_in b parts.items)
 expr_tree b (WidthCast width operand) = WidthCastTree (expr_in b width) (expr_in b operand)
@@ -151,6 +152,7 @@ ExprChildrenHold P Q (Ternary condition consequent alternate) = P condition × P
 ExprChildrenHold P Q (Index subject index) = P subject × P index
 ExprChildrenHold P Q (Slice subject high low) = P subject × P high × P low
 ExprChildrenHold P Q (PartSelect subject start width) = P subject × P start
+ExprChildrenHold P Q (MemberOf subject name) = P subject
 ExprChildrenHold P Q (Concat count parts) = IfSome count P × All P parts.items
 ExprChildrenHold P Q (Pattern parts) = All P parts.items
 ExprChildrenHold P Q (WidthCast width operand) = P width × P operand

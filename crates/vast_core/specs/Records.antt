@@ -10,10 +10,10 @@ pub use Rattle.vast_core.specs.declared.node.Assignment.{Assignment}
 pub use Rattle.vast_core.specs.declared.node.ParameterForm.{ParameterForm}
 pub use Rattle.vast_core.specs.declared.node.ParameterForm.TheVariants.{Plain as PlainForm, Int as IntForm, Defined as DefinedForm}
 pub use Rattle.vast_core.specs.declared.node.Member.{Member}
-pub use Rattle.vast_core.specs.declared.node.Member.TheVariants.{Declaration as DeclarationEntry, ContinuousAssignment as AssignmentEntry, Parameter as ParameterEntry, BlankLine as BlankEntry, Comment as CommentEntry, Inline as InlineEntry, Macro as MacroEntry, Instantiation as InstanceEntry, Function as FunctionEntry, Always as AlwaysEntry, Conditional as ConditionalEntry, Loop as LoopEntry}
+pub use Rattle.vast_core.specs.declared.node.Member.TheVariants.{Declaration as DeclarationEntry, ContinuousAssignment as AssignmentEntry, Parameter as ParameterEntry, BlankLine as BlankEntry, Comment as CommentEntry, Import as ImportEntry, Inline as InlineEntry, Macro as MacroEntry, Instantiation as InstanceEntry, Function as FunctionEntry, Always as AlwaysEntry, Conditional as ConditionalEntry, Loop as LoopEntry}
 pub use Rattle.vast_core.specs.declared.node.ParameterPort.{ParameterPort}
 pub use Rattle.vast_core.specs.declared.node.FileItem.{FileItem}
-pub use Rattle.vast_core.specs.declared.node.FileItem.TheVariants.{Module as ModuleEntry, Include as IncludeEntry, Comment as FileCommentEntry, BlankLine as FileBlankEntry}
+pub use Rattle.vast_core.specs.declared.node.FileItem.TheVariants.{Module as ModuleEntry, Include as IncludeEntry, Import as FileImportEntry, Comment as FileCommentEntry, BlankLine as FileBlankEntry}
 pub use Rattle.vast_core.specs.declared.node.Definition.{Definition}
 pub use Rattle.vast_core.specs.declared.node.Artifact.{Artifact}
 pub use Rattle.vast_core.specs.declared.node.Artifact.TheVariants.{BlankLine as BlankArtifact, Comment as CommentArtifact, Inline as InlineArtifact, MacroStatement as MacroArtifact}

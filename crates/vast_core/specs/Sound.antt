@@ -4,7 +4,7 @@ use Rattle.std.specs.Prelude.{◌↔◌, ℕ, suc, ◌<◌, Bool, true, false, I
 use Rattle.vast_literal.specs.Tree.{ExprTree, NameTree, PosEdgeTree, NegEdgeTree}
 use Rattle.vast_core.specs.Handles.{Expr, VastStatementBlock}
 use Rattle.vast_core.specs.Nests.{CaseArm, ElseIf, Statement, AssignStatement, ContinuousStatement, TaskStatement, ConditionalStatement, CasesStatement, ConditionalRecord, CaseRecord, LoopRecord, NestRecord, BlockRecord, ConditionalNestRecord, CaseNestRecord, LoopNestRecord, FunctionVariable, FunctionRecord, AlwaysRecord, declared_names}
-use Rattle.vast_core.specs.Records.{Assignment, Port, ParameterPort, ModuleRecord, ParameterForm, PlainForm, IntForm, DefinedForm, Member, DeclarationEntry, AssignmentEntry, ParameterEntry, BlankEntry, CommentEntry, InlineEntry, MacroEntry, InstanceEntry, FunctionEntry, AlwaysEntry, ConditionalEntry, LoopEntry, FileItem, ModuleEntry, Definition, Artifact, MacroArtifact, Connection, InstanceRecord, IsFree}
+use Rattle.vast_core.specs.Records.{Assignment, Port, ParameterPort, ModuleRecord, ParameterForm, PlainForm, IntForm, DefinedForm, Member, DeclarationEntry, AssignmentEntry, ParameterEntry, BlankEntry, CommentEntry, ImportEntry, InlineEntry, MacroEntry, InstanceEntry, FunctionEntry, AlwaysEntry, ConditionalEntry, LoopEntry, FileItem, ModuleEntry, Definition, Artifact, MacroArtifact, Connection, InstanceRecord, IsFree}
 use Rattle.vast_core.specs.Bench.{Bench, OwnsExpr, OwnsType, OwnsLogicRef, OwnsPort, OwnsContinuous, OwnsModule, OwnsDef, OwnsMacroRef, OwnsComment, OwnsInline, OwnsMacroStatement, OwnsInstantiation, OwnsFunction, OwnsAlways, OwnsStatement, OwnsBlock, OwnsConditional, OwnsCase, OwnsLoop, tree_of}
 use Rattle.vast_core.specs.DeclaredNames.{NamesSound}
 use Rattle.vast_core.specs.Parents.{HasOneParent}
@@ -45,6 +45,7 @@ MemberSound b (AssignmentEntry a) = OwnsContinuous b a
 MemberSound b (ParameterEntry local form value) = FormSound b form × OwnsExpr b value
 MemberSound b BlankEntry = Unit {0}
 MemberSound b (CommentEntry a) = OwnsComment b a
+MemberSound b (ImportEntry package_name) = Unit {0}
 MemberSound b (InlineEntry a) = OwnsInline b a
 MemberSound b (MacroEntry a) = OwnsMacroStatement b a
 MemberSound b (InstanceEntry i) = OwnsInstantiation b i

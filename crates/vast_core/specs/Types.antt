@@ -2,7 +2,7 @@
 use Rattle.std.specs.Prelude.{◌≡◌, ℤ, ◌<◌, ◌≤ℤ◌, pos, Bool, true, false, IsTrue, List, length, IfSome, All}
 use Rattle.vast_literal.specs.LiteralToken.{is_literal_text, is_string_text}
 use Rattle.vast_literal.specs.Shape.{literal_value, base_of}
-use Rattle.vast_literal.specs.Tree.{ExprTree, NameTree, LiteralTree, StringTree, UnaryTree, BinaryTree, TernaryTree, IndexTree, SliceTree, PartSelectTree, ConcatTree, PatternTree, WidthCastTree, TypeCastTree, PosEdgeTree, NegEdgeTree, MacroTree, CallTree, MissingExpr, TypeTree, ScalarTree, VectorTree, IntegerTree, IntTree, PackedTree, UnpackedTree, MissingType, MaybeType, Untyped, Typed, MaybeExpr, NoExpr, SomeExpr, Exprs, NoExprs, MoreExprs, MaybeExprs, NoArguments, SomeArguments}
+use Rattle.vast_literal.specs.Tree.{ExprTree, NameTree, LiteralTree, StringTree, UnaryTree, BinaryTree, TernaryTree, IndexTree, SliceTree, PartSelectTree, MemberOfTree, ConcatTree, PatternTree, WidthCastTree, TypeCastTree, PosEdgeTree, NegEdgeTree, MacroTree, CallTree, MissingExpr, TypeTree, ScalarTree, VectorTree, IntegerTree, IntTree, PackedTree, UnpackedTree, MissingType, MaybeType, Untyped, Typed, MaybeExpr, NoExpr, SomeExpr, Exprs, NoExprs, MoreExprs, MaybeExprs, NoArguments, SomeArguments}
 
 -- Not a literal with a value below 1.
 abbrev pub IsUsableWidth : ExprTree → Type 0
@@ -85,6 +85,7 @@ abbrev mutual
   ExprWellFormed (IndexTree subject index) = ExprWellFormed subject × ExprWellFormed index
   ExprWellFormed (SliceTree subject high low) = ExprWellFormed subject × ExprWellFormed high × ExprWellFormed low
   ExprWellFormed (PartSelectTree subject start width) = (pos 1 ≤ℤ width) × ExprWellFormed subject × ExprWellFormed start
+  ExprWellFormed (MemberOfTree subject name) = ExprWellFormed subject
   ExprWellFormed (ConcatTree count parts) = MaybeExprWellFormed count × ExprsWellFormed parts
   ExprWellFormed (PatternTree parts) = ExprsWellFormed parts
   ExprWellFormed (WidthCastTree width operand) = ExprWellFormed width × ExprWellFormed operand

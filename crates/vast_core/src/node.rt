@@ -32,6 +32,8 @@ pub enum ExprNode {
     Slice(Expr, Expr, Expr),
     /// The subject, the start and the width in bits of `s[start +: width]`.
     PartSelect(Expr, Expr, i64),
+    /// The subject and the name of `s.m`, a member of a value of a named type.
+    MemberOf(Expr, Word),
     /// A concatenation `{a, b}`, or with a count its replication `{n{a, b}}`.
     Concat(Option<Expr>, Vec<Expr>),
     /// An array pattern `'{a, b}`.
@@ -129,6 +131,8 @@ pub enum Member {
     Parameter(bool, ParameterForm, Expr),
     BlankLine,
     Comment(Comment),
+    /// The package whose declarations are imported.
+    Import(Text),
     Inline(InlineVerilogStatement),
     Macro(MacroStatement),
     Instantiation(Instantiation),
@@ -162,6 +166,8 @@ pub enum FileItem {
     Module(VastModule),
     /// The path of an included file.
     Include(Text),
+    /// The package whose declarations are imported.
+    Import(Text),
     Comment(Text),
     BlankLine,
 }

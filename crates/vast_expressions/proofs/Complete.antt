@@ -2,12 +2,12 @@
 use Rattle.std.proofs.Common.{◌≡◌, ℕ, suc, ◌≤◌, ◌<◌, List, [], ◌∷◌, ◌++◌, refl, arith, append_assoc, IsTrue}
 use Rattle.vast_literal.specs.Tokens.{level, is_unary, Token, Reserved, Word, SystemWord, MacroWord, Number, Based, Quoted, Operator, Mark}
 use Rattle.vast_literal.proofs.Levels.{level_small}
-use Rattle.vast_expressions.specs.Signs.{Op, Punct, OpenParen, CloseParen, OpenBracket, CloseBracket, OpenBrace, CloseBrace, Comma, Colon, Question, DoubleColon, PlusColon, Apostrophe, Key}
-use Rattle.vast_literal.specs.NormalExpr.{NormalExpr, Name, Literal, Text, MacroAlone, Unary, Binary, Ternary, Index, Slice, PartSelect, Concat, Pattern, Replicated, Call, MacroCall, Cast, PackageCast, WordCast, NormalExprs, NoNormals, MoreNormals}
-use Rattle.vast_literal.specs.Grammar.{is_cast_word, Spells, up, ternary, binary, unary, index, slice, part_select, name, number, based, quoted, paren, call, system_alone, system_call, concat, replicated, array_pattern, macro_alone, macro_call, number_cast, name_cast, package_cast, paren_cast, word_cast, SpellsList, none, some, SpellsJoined, last, next}
-use Rattle.vast_expressions.specs.Events.{UnaryT, BinaryT, TernaryT, IndexT, SliceT, OneT, PushT, ConcatT, PatternT, ReplicatedT, CallT, MacroCallT, CastT, PackageCastT, WordCastT, Event, PartSelectE, Made, trace, traces, mores}
+use Rattle.vast_expressions.specs.Signs.{Op, Punct, OpenParen, CloseParen, OpenBracket, CloseBracket, OpenBrace, CloseBrace, Comma, Colon, Dot, Question, DoubleColon, PlusColon, Apostrophe, Key}
+use Rattle.vast_literal.specs.NormalExpr.{NormalExpr, Name, Literal, Text, MacroAlone, Unary, Binary, Ternary, Index, Slice, PartSelect, MemberOf, Concat, Pattern, Replicated, Call, MacroCall, Cast, PackageCast, WordCast, NormalExprs, NoNormals, MoreNormals}
+use Rattle.vast_literal.specs.Grammar.{is_cast_word, Spells, up, ternary, binary, unary, index, slice, part_select, member_of, name, number, based, quoted, paren, call, system_alone, system_call, concat, replicated, array_pattern, macro_alone, macro_call, number_cast, name_cast, package_cast, paren_cast, word_cast, SpellsList, none, some, SpellsJoined, last, next}
+use Rattle.vast_expressions.specs.Events.{UnaryT, BinaryT, TernaryT, IndexT, SliceT, OneT, PushT, ConcatT, PatternT, ReplicatedT, CallT, MacroCallT, CastT, PackageCastT, WordCastT, Event, PartSelectE, MemberOfE, Made, trace, traces, mores}
 use Rattle.vast_expressions.specs.Phrases.{Quiet}
-use Rattle.vast_expressions.specs.Rows.{Item, Emit, Expression, Operand, Rest, Right, Selects, Primary, MaybeCast, Arguments, More, Braces, BraceNext, Goes, code, operand_row, rest_row, selects_row, select_end_row, primary_row, word_row, system_row, macro_row, maybe_cast_row, type_name_row, arguments_row, more_row, braces_row, brace_next_row, Runs, done, goes, tells}
+use Rattle.vast_expressions.specs.Rows.{Item, Emit, Expression, Operand, Rest, Right, Selects, Primary, MaybeCast, Arguments, More, Braces, BraceNext, Goes, code, operand_row, rest_row, selects_row, select_end_row, member_name_row, primary_row, word_row, system_row, macro_row, maybe_cast_row, type_name_row, arguments_row, more_row, braces_row, brace_next_row, Runs, done, goes, tells}
 use Rattle.vast_expressions.proofs.Determined.{then}
 use Rattle.vast_expressions.proofs.Moves.{quieter, Binds, at_rest, at_right, binds_more, stop_rest, stop_right, unary_more, stop_selects, taken, emitted, stop_cast, word_runs, system_runs, macro_runs, word_cast_row}
 
@@ -156,6 +156,12 @@ part_runs ss is s i n hs hi = of_selects 13 _ _ (omega arith) (starts_front ss _
     (hs.selects (omega arith) (Mark OpenBracket ∷ (is ++ (Mark PlusColon ∷ (Number n ∷ (Mark CloseBracket ∷ rest))))) us (trace i (PartSelectE n ∷ es)) fs (omega arith)
     (goes refl (then (hi.expression (Mark PlusColon ∷ (Number n ∷ (Mark CloseBracket ∷ rest))) (PartSelectE n ∷ es) tt) (tells refl (taken CloseBracket r) done)) done)))
 
+member_runs : (ss : List Token) (s : NormalExpr) (m : List ℕ) → IsRun 13 ss s → IsRun 13 (ss ++ (Mark Dot ∷ (Word m ∷ []))) (MemberOf s m)
+unfolding trace selects_row member_name_row
+member_runs ss s m hs = of_selects 13 _ _ (omega arith) (starts_front ss _ hs.starts) (plain_front ss _ (hs.plain (omega arith))) (λ rest us es fs q r. simp append_assoc
+    (hs.selects (omega arith) (Mark Dot ∷ (Word m ∷ rest)) us (MemberOfE m ∷ es) fs (omega arith)
+    (goes refl (tells refl r done) done)))
+
 name_runs : (w : List ℕ) → IsRun 14 (Word w ∷ []) (Name w)
 unfolding trace operand_row arguments_row braces_row code primary_row
 name_runs w = of_primary _ _ (record { paren = λ rest. refl; brace = λ rest. refl; braces = λ rest. refl }) (λ rest. refl) (λ rest es q. word_runs w rest es q)
@@ -299,6 +305,7 @@ mutual
   runs k ts t (index s i) = index_runs _ _ _ _ (runs _ _ _ s) (runs _ _ _ i)
   runs k ts t (slice s h l) = slice_runs _ _ _ _ _ _ (runs _ _ _ s) (runs _ _ _ h) (runs _ _ _ l)
   runs k ts t (part_select n s i) = part_runs _ _ _ _ n (runs _ _ _ s) (runs _ _ _ i)
+  runs k ts t (member_of m s) = member_runs _ _ m (runs _ _ _ s)
   runs k ts t (name w) = name_runs w
   runs k ts t (number w) = number_runs w
   runs k ts t (based w) = based_runs w

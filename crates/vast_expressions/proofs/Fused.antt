@@ -1,11 +1,11 @@
 -- Rows in one lead where the rows lead.
 use Rattle.std.proofs.Common.{◌≡◌, ◌∙◌, ℕ, suc, ◌+◌, ◌≤◌, List, [], ◌∷◌, ◌++◌, Bool, true, false, nat_eq, nat_lt, refl, sym, subst, arith}
 use Rattle.vast_literal.specs.Tokens.{level, Token, Word, MacroWord, Number, Based, Quoted, Operator, Mark}
-use Rattle.vast_expressions.specs.Signs.{Op, Punct, OpenParen, OpenBracket, CloseBracket, OpenBrace, CloseBrace, Comma, Colon, Question, DoubleColon, Apostrophe}
-use Rattle.vast_expressions.specs.Events.{BinaryT, TernaryT, IndexT, SliceT, NoneT, OneT, PushT, Event, NameE, LiteralE, TextE, MacroE, Made}
-use Rattle.vast_expressions.specs.Rows.{Item, Take, Emit, Expression, Target, Rest, Right, Operand, Selects, SelectEnd, Primary, MaybeCast, Arguments, More, Braces, BraceNext, Row, Stuck, Goes, Tells, row, code, only_if, or_else, operand_row, rest_row, right_row, selects_row, select_end_row, primary_row, word_row, macro_row, maybe_cast_row, arguments_row, more_row, braces_row, brace_next_row, Runs, goes, tells}
+use Rattle.vast_expressions.specs.Signs.{Op, Punct, OpenParen, OpenBracket, CloseBracket, OpenBrace, CloseBrace, Comma, Colon, Dot, Question, DoubleColon, Apostrophe}
+use Rattle.vast_expressions.specs.Events.{BinaryT, TernaryT, IndexT, SliceT, NoneT, OneT, PushT, Event, NameE, LiteralE, TextE, MacroE, MemberOfE, Made}
+use Rattle.vast_expressions.specs.Rows.{Item, Take, Emit, Expression, Target, Rest, Right, Operand, Selects, SelectEnd, MemberName, Primary, MaybeCast, Arguments, More, Braces, BraceNext, Row, Stuck, Goes, Tells, row, code, only_if, or_else, operand_row, rest_row, right_row, selects_row, select_end_row, member_name_row, primary_row, word_row, macro_row, maybe_cast_row, arguments_row, more_row, braces_row, brace_next_row, Runs, goes, tells}
 use Rattle.vast_expressions.specs.Internal.Steps.{onto}
-use Rattle.vast_expressions.specs.Internal.Fused.{ends, selects_front, cast_front, name_front, macro_front, target_front, operand_front, expression_front, rest_front, right_front, select_end_front, arguments_front, more_front, braces_front, brace_next_front, front}
+use Rattle.vast_expressions.specs.Internal.Fused.{ends, selects_front, cast_front, name_front, macro_front, target_front, operand_front, expression_front, rest_front, right_front, select_end_front, member_name_front, arguments_front, more_front, braces_front, brace_next_front, front}
 use Rattle.vast_expressions.proofs.Midway.{load, work}
 use Rattle.vast_expressions.specs.Phrases.{Quiet}
 use Rattle.vast_expressions.proofs.Determined.{then, parted, moved}
@@ -92,17 +92,20 @@ only false i ts k rs e = by_row i ts k Stuck e
 selects_told : (e : Event) (is : List Item) (ts us : List Token) (k : List Item) (n : ℕ) → Leads n is ts (e ∷ []) (Selects ∷ k) us → Fuses is ts (selects_front (Tells e) us k)
 unfolding selects_front selects_row
 selects_told e is ts (Mark OpenBracket ∷ us) k n l = (n, one_more l refl)
+selects_told e is ts (Mark Dot ∷ us) k n l = (n, one_more l refl)
 selects_told e is ts us k n l = (n, one_more l refl)
 
 cast_told : (e : Event) (is : List Item) (ts us : List Token) (k : List Item) (n : ℕ) → Leads n is ts (e ∷ []) (MaybeCast ∷ (Selects ∷ k)) us → Fuses is ts (cast_front (Tells e) us k)
 unfolding cast_front maybe_cast_row selects_row
 cast_told e is ts (Mark Apostrophe ∷ us) k n l = (n, one_more l refl)
 cast_told e is ts (Mark OpenBracket ∷ us) k n l = (suc n, one_more (one_more l refl) refl)
+cast_told e is ts (Mark Dot ∷ us) k n l = (suc n, one_more (one_more l refl) refl)
 cast_told e is ts us k n l = (suc n, one_more (one_more l refl) refl)
 
 selects_fuse : (ts : List Token) (k : List Item) → Fuses (Selects ∷ k) ts (selects_front Goes ts k)
 unfolding selects_front selects_row
 selects_fuse (Mark OpenBracket ∷ ts) k = (0, by refl still)
+selects_fuse (Mark Dot ∷ ts) k = (0, by refl still)
 selects_fuse ts k = (0, by refl still)
 
 name_fuses : (w : List ℕ) (ts : List Token) (k : List Item) → Fuses (Primary ∷ (Selects ∷ k)) (Word w ∷ ts) (name_front w ts k)
@@ -136,6 +139,7 @@ unfolding ends
 ends_quiet (Operator o ∷ ts) h = absurd (cc h)
 ends_quiet (Mark OpenParen ∷ ts) h = absurd (cc h)
 ends_quiet (Mark OpenBracket ∷ ts) h = absurd (cc h)
+ends_quiet (Mark Dot ∷ ts) h = absurd (cc h)
 ends_quiet (Mark Question ∷ ts) h = absurd (cc h)
 ends_quiet (Mark DoubleColon ∷ ts) h = absurd (cc h)
 ends_quiet (Mark Apostrophe ∷ ts) h = absurd (cc h)
@@ -193,6 +197,11 @@ select_end_fuses (Mark CloseBracket ∷ ts) k = selects_told (Made IndexT) (Sele
 select_end_fuses (Mark Colon ∷ ts) k = on SelectEnd (Mark Colon ∷ ts) k (Expression ∷ (Take CloseBracket ∷ (Emit SliceT ∷ (Selects ∷ [])))) ts (expression_front ts (Take CloseBracket ∷ (Emit SliceT ∷ (Selects ∷ k)))) refl (expression_fuses ts (Take CloseBracket ∷ (Emit SliceT ∷ (Selects ∷ k))))
 select_end_fuses ts k = by_row SelectEnd ts k (select_end_row ts) refl
 
+member_name_fuses : (ts : List Token) (k : List Item) → Fuses (MemberName ∷ k) ts (member_name_front ts k)
+unfolding member_name_front member_name_row
+member_name_fuses (Word m ∷ ts) k = selects_told (MemberOfE m) (MemberName ∷ k) (Word m ∷ ts) ts k 1 (telling refl still)
+member_name_fuses ts k = by_row MemberName ts k Stuck refl
+
 arguments_fuse : (q : Punct) (ts : List Token) (k : List Item) → Fuses (Arguments q ∷ k) ts (arguments_front q ts k)
 unfolding arguments_front arguments_row
 arguments_fuse q (Mark p ∷ ts) k = else_on (nat_eq (code p) (code q)) (Arguments q) (Mark p ∷ ts) k (Expression ∷ (Emit OneT ∷ (More q ∷ []))) (Mark p ∷ ts) (Tells (Made NoneT) [] ts) (expression_front (Mark p ∷ ts) (Emit OneT ∷ (More q ∷ k))) refl (expression_fuses (Mark p ∷ ts) (Emit OneT ∷ (More q ∷ k)))
@@ -220,6 +229,7 @@ fuses Target ts k = on Target ts k (Primary ∷ (Selects ∷ [])) ts (target_fro
 fuses Operand ts k = operand_fuses ts k
 fuses Selects ts k = selects_fuse ts k
 fuses SelectEnd ts k = select_end_fuses ts k
+fuses MemberName ts k = member_name_fuses ts k
 fuses Rest ts k = rest_fuses ts k
 fuses (Right p) ts k = right_fuses p ts k
 fuses (Arguments q) ts k = arguments_fuse q ts k

@@ -1,7 +1,7 @@
 -- Who hears a tree's events, and makes of each what is to be made, ends with the tree on top.
 use Rattle.std.proofs.Common.{◌≡◌, ◌∙◌, List, [], ◌∷◌, Option, Some, None, refl, sym, subst, ap}
-use Rattle.vast_literal.specs.NormalExpr.{NormalExpr, Name, Literal, Text, MacroAlone, Unary, Binary, Ternary, Index, Slice, PartSelect, Concat, Pattern, Replicated, Call, MacroCall, Cast, PackageCast, WordCast, NormalExprs, NoNormals, MoreNormals}
-use Rattle.vast_expressions.specs.Events.{UnaryT, BinaryT, TernaryT, IndexT, SliceT, NoneT, OneT, PushT, ConcatT, PatternT, ReplicatedT, CallT, MacroCallT, CastT, PackageCastT, WordCastT, Event, NameE, LiteralE, TextE, MacroE, WordE, PartSelectE, Made, trace, traces, mores}
+use Rattle.vast_literal.specs.NormalExpr.{NormalExpr, Name, Literal, Text, MacroAlone, Unary, Binary, Ternary, Index, Slice, PartSelect, MemberOf, Concat, Pattern, Replicated, Call, MacroCall, Cast, PackageCast, WordCast, NormalExprs, NoNormals, MoreNormals}
+use Rattle.vast_expressions.specs.Events.{UnaryT, BinaryT, TernaryT, IndexT, SliceT, NoneT, OneT, PushT, ConcatT, PatternT, ReplicatedT, CallT, MacroCallT, CastT, PackageCastT, WordCastT, Event, NameE, LiteralE, TextE, MacroE, WordE, PartSelectE, MemberOfE, Made, trace, traces, mores}
 use Rattle.vast_expressions.specs.Internal.Values.{Value, Tree, Trees, Bytes, joined, Grown, grown, grown_one, grown_two, grown_three, grown_part, grown_list, grown_named, grown_replicated, grown_package, grown_first, grown_push}
 use Rattle.vast_expressions.specs.Hearing.{HearsAll}
 
@@ -35,6 +35,7 @@ module _ {A : Type 0} (seen : A → List Value) where
     heard_tree (Text w) vs es c r = next (TextE w) vs (Tree (Text w) ∷ vs) es c refl r
     heard_tree (MacroAlone w) vs es c r = next (MacroE w) vs (Tree (MacroAlone w) ∷ vs) es c refl r
     heard_tree (PartSelect x y n) vs es c r = next (PartSelectE n) (Tree y ∷ (Tree x ∷ vs)) _ es c refl (heard_tree y _ _ c (heard_tree x _ _ c r))
+    heard_tree (MemberOf x n) vs es c r = next (MemberOfE n) (Tree x ∷ vs) _ es c refl (heard_tree x _ _ c r)
     heard_tree (Concat xs) vs es c r = next (Made ConcatT) (Trees xs ∷ vs) _ es c refl (heard_trees xs _ _ c r)
     heard_tree (Pattern xs) vs es c r = next (Made PatternT) (Trees xs ∷ vs) _ es c refl (heard_trees xs _ _ c r)
     heard_tree (Replicated n xs) vs es c r = next (Made ReplicatedT) (Trees xs ∷ (Tree n ∷ vs)) _ es c refl (heard_trees xs _ _ c (heard_tree n _ _ c r))

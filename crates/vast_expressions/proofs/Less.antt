@@ -1,10 +1,10 @@
 -- The work grows less with each row.
 use Rattle.std.proofs.Common.{◌≡◌, ℕ, ◌+◌, ◌*◌, ◌<◌, length, List, [], ◌∷◌, ◌++◌, Bool, true, false, nat_eq, nat_lt, subst, arith}
 use Rattle.vast_literal.specs.Tokens.{level, is_unary, Token, Reserved, Word, SystemWord, MacroWord, Number, Based, Quoted, Operator, Mark}
-use Rattle.vast_expressions.specs.Signs.{Op, Punct, OpenParen, CloseParen, OpenBracket, CloseBracket, OpenBrace, CloseBrace, Comma, Colon, Question, DoubleColon, PlusColon, Apostrophe}
+use Rattle.vast_expressions.specs.Signs.{Op, Punct, OpenParen, CloseParen, OpenBracket, CloseBracket, OpenBrace, CloseBrace, Comma, Colon, Dot, Question, DoubleColon, PlusColon, Apostrophe}
 use Rattle.vast_expressions.specs.Events.{UnaryT, BinaryT, NoneT, OneT, WordCastT, Made}
 use Rattle.vast_literal.specs.Grammar.{is_cast_word}
-use Rattle.vast_expressions.specs.Rows.{Item, Take, Emit, Expression, Target, Rest, Right, Operand, Selects, SelectEnd, Primary, MaybeCast, TypeName, Arguments, More, Braces, BraceNext, Row, Stuck, Goes, Tells, row, code, only_if, or_else, take_row, operand_row, rest_row, right_row, selects_row, select_end_row, primary_row, word_row, system_row, macro_row, maybe_cast_row, type_name_row, arguments_row, more_row, braces_row, brace_next_row}
+use Rattle.vast_expressions.specs.Rows.{Item, Take, Emit, Expression, Target, Rest, Right, Operand, Selects, SelectEnd, MemberName, Primary, MaybeCast, TypeName, Arguments, More, Braces, BraceNext, Row, Stuck, Goes, Tells, row, code, only_if, or_else, take_row, operand_row, rest_row, right_row, selects_row, select_end_row, member_name_row, primary_row, word_row, system_row, macro_row, maybe_cast_row, type_name_row, arguments_row, more_row, braces_row, brace_next_row}
 use Rattle.vast_expressions.proofs.Midway.{load, work}
 
 abbrev pub IsLess : Row → ℕ → Type 0
@@ -45,6 +45,7 @@ right_less p _ = omega arith
 selects_less : (ts : List Token) → IsLess (selects_row ts) (work (Selects ∷ []) ts)
 unfolding selects_row work load
 selects_less (Mark OpenBracket ∷ ts) = omega arith
+selects_less (Mark Dot ∷ ts) = omega arith
 selects_less _ = omega arith
 
 select_end_less : (ts : List Token) → IsLess (select_end_row ts) (work (SelectEnd ∷ []) ts)
@@ -56,6 +57,12 @@ select_end_less [] = tt
 select_end_less (Mark PlusColon ∷ []) = tt
 select_end_less (Mark PlusColon ∷ (t ∷ ts)) = tt
 select_end_less _ = tt
+
+member_name_less : (ts : List Token) → IsLess (member_name_row ts) (work (MemberName ∷ []) ts)
+unfolding member_name_row work load
+member_name_less (Word m ∷ ts) = omega arith
+member_name_less [] = tt
+member_name_less _ = tt
 
 word_less : (w : List ℕ) (ts : List Token) → IsLess (word_row w ts) (17 + 16 * length ts)
 unfolding word_row work load
@@ -135,6 +142,7 @@ less (Right p) ts = right_less p ts
 less Operand ts = operand_less ts
 less Selects ts = selects_less ts
 less SelectEnd ts = select_end_less ts
+less MemberName ts = member_name_less ts
 less Primary ts = primary_less ts
 less MaybeCast ts = maybe_cast_less ts
 less TypeName ts = type_name_less ts

@@ -2,11 +2,11 @@
 use Rattle.std.proofs.Common.{◌≡◌, ℕ, suc, ◌≤◌, ◌<◌, ◌⊎◌, inl, inr, Bool, true, false, List, [], ◌∷◌, ◌++◌, refl, ap, arith, append-nil, IsTrue}
 use Rattle.vast_literal.specs.Tokens.{level, Token, Word, Operator, Mark}
 use Rattle.vast_literal.proofs.Levels.{level_small}
-use Rattle.vast_expressions.specs.Signs.{Punct, OpenParen, CloseParen, OpenBracket, OpenBrace, Apostrophe}
+use Rattle.vast_expressions.specs.Signs.{Punct, OpenParen, CloseParen, OpenBracket, OpenBrace, Dot, Apostrophe}
 use Rattle.vast_literal.specs.NormalExpr.{NormalExpr, Cast, NormalExprs, MoreNormals}
 use Rattle.vast_literal.specs.Grammar.{Spells, SpellsList, SpellsJoined}
 use Rattle.vast_expressions.specs.Events.{BinaryT, Event, WordE, Made, trace, traces, mores}
-use Rattle.vast_expressions.specs.Rows.{Item, Take, Emit, Expression, Target, Rest, Right, Operand, Selects, SelectEnd, Primary, MaybeCast, TypeName, Arguments, More, Braces, BraceNext, Row, Stuck, Goes, Tells, only_if, or_else}
+use Rattle.vast_expressions.specs.Rows.{Item, Take, Emit, Expression, Target, Rest, Right, Operand, Selects, SelectEnd, MemberName, Primary, MaybeCast, TypeName, Arguments, More, Braces, BraceNext, Row, Stuck, Goes, Tells, only_if, or_else}
 
 -- After `head`, the tokens' front goes on to a tree of the level, which the events tell.
 pub record Extends (k : ℕ) (head ts : List Token) (es : List Event) (us : List Token) (fs : List Event) : Type 0 where
@@ -58,6 +58,7 @@ Means Rest ts es us fs = (m : ℕ) (head : List Token) (l : NormalExpr) → 0 < 
 Means (Right p) ts es us fs = (m : ℕ) (head : List Token) (r : NormalExpr) → level p < m → m ≤ 12 → Spells m head r → Below m ts → Climbs (level p) head ts (trace r es) us (Made (BinaryT p) ∷ fs)
 Means Selects ts es us fs = (head : List Token) (s : NormalExpr) → Spells 13 head s → Extends 13 head ts (trace s es) us fs
 Means SelectEnd ts es us fs = (head is : List Token) (s i : NormalExpr) → Spells 13 head s → Spells 0 is i → Extends 13 (head ++ (Mark OpenBracket ∷ is)) ts (trace s (trace i es)) us fs
+Means MemberName ts es us fs = (head : List Token) (s : NormalExpr) → Spells 13 head s → Extends 13 (head ++ (Mark Dot ∷ [])) ts (trace s es) us fs
 Means MaybeCast ts es us fs = (head : List Token) (h : NormalExpr) → IsHead head h → Extends 14 head ts (trace h es) us fs
 Means TypeName ts es us fs = (w : List ℕ) × (ts ≡ (Word w ∷ us)) × (es ≡ (WordE w ∷ fs))
 Means (Arguments q) ts es us fs = Lists q ts es us fs

@@ -3,7 +3,7 @@ use Rattle.std.specs.Prelude.{◌≡◌, ℕ, ◌+◌, ◌*◌, length, List, []
 use Rattle.vast_literal.specs.Tokens.{Token}
 use Rattle.vast_expressions.specs.Events.{Event}
 use Rattle.vast_expressions.specs.Hearing.{HearsAll}
-use Rattle.vast_expressions.specs.Rows.{Item, Take, Emit, Expression, Target, Rest, Right, Operand, Selects, SelectEnd, Primary, MaybeCast, TypeName, Arguments, More, Braces, BraceNext, Runs}
+use Rattle.vast_expressions.specs.Rows.{Item, Take, Emit, Expression, Target, Rest, Right, Operand, Selects, SelectEnd, MemberName, Primary, MaybeCast, TypeName, Arguments, More, Braces, BraceNext, Runs}
 
 -- From `ts`, where `a` hears what is told, the items have come to this stack, with these tokens left and that heard. What
 -- the stack runs completes a run of the items, and each of their runs comes by here.
@@ -24,6 +24,7 @@ weight (Right p) = 1
 weight Operand = 3
 weight Selects = 1
 weight SelectEnd = 1
+weight MemberName = 1
 weight Primary = 1
 weight MaybeCast = 1
 weight TypeName = 1

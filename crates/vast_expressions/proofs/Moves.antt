@@ -2,7 +2,7 @@
 use Rattle.std.proofs.Common.{◌≡◌, ℕ, suc, ◌≤◌, ◌<◌, true, false, nat_lt, List, [], ◌∷◌, refl, sym, subst, arith, IsTrue, eq-eqb}
 use Rattle.std.proofs.lemmas.Bool.Decides.{nat_tests}
 use Rattle.vast_literal.specs.Tokens.{level, is_unary, Token, Reserved, Word, SystemWord, MacroWord, Operator, Mark}
-use Rattle.vast_expressions.specs.Signs.{Op, Punct, OpenParen, CloseParen, OpenBracket, Question, DoubleColon, Apostrophe, Key}
+use Rattle.vast_expressions.specs.Signs.{Op, Punct, OpenParen, CloseParen, OpenBracket, Dot, Question, DoubleColon, Apostrophe, Key}
 use Rattle.vast_expressions.specs.Events.{Told, UnaryT, BinaryT, WordCastT, NoneT, CallT, Event, NameE, MacroE, WordE, Made}
 use Rattle.vast_literal.specs.Grammar.{is_cast_word}
 use Rattle.vast_expressions.specs.Phrases.{Quiet}
@@ -12,6 +12,7 @@ pub quieter : (a b : ℕ) (ts : List Token) → a ≤ b → Quiet a ts → Quiet
 quieter a b (Operator op ∷ us) h q = omega arith
 quieter a b (Mark Question ∷ us) h q = omega arith
 quieter a b (Mark OpenBracket ∷ us) h q = omega arith
+quieter a b (Mark Dot ∷ us) h q = omega arith
 quieter a b (Mark OpenParen ∷ us) h q = q
 quieter a b (Mark Apostrophe ∷ us) h q = q
 quieter a b (Mark DoubleColon ∷ us) h q = q
@@ -61,6 +62,7 @@ unary_more o ts h = subst (λ b. only_if b (Goes (Operand ∷ Emit (UnaryT o) �
 pub no_selects : (ts : List Token) → Quiet 13 ts → selects_row ts ≡ Goes [] ts
 unfolding selects_row
 no_selects (Mark OpenBracket ∷ ts) q = absurd (omega arith)
+no_selects (Mark Dot ∷ ts) q = absurd (omega arith)
 no_selects _ q = refl
 
 pub stop_selects : (ts : List Token) (es : List Event) → Quiet 13 ts → Runs (Selects ∷ []) ts es ts es

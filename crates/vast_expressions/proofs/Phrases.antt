@@ -2,7 +2,7 @@
 use Rattle.std.proofs.Common.{◌≡◌, ℕ, Result, Ok, Err, IfOk, Bool, true, false, ◌<◌, List, [], ◌∷◌, ◌++◌, length, refl, sym, subst, arith, length-append}
 use Rattle.vast_literal.specs.Tokens.{Token}
 use Rattle.vast_literal.specs.NormalExpr.{NormalExpr}
-use Rattle.vast_literal.specs.Grammar.{Spells, up, ternary, binary, index, slice, part_select}
+use Rattle.vast_literal.specs.Grammar.{Spells, up, ternary, binary, index, slice, part_select, member_of}
 use Rattle.vast_expressions.specs.Events.{Event, trace}
 use Rattle.vast_expressions.specs.Rows.{Item, Runs, goes, done}
 use Rattle.vast_expressions.specs.Hearing.{HearsAll}
@@ -27,6 +27,7 @@ some_tokens k ts t (binary op pos l r) = some_front _ _ (some_tokens _ _ _ l)
 some_tokens k ts t (index s i) = some_front _ _ (some_tokens _ _ _ s)
 some_tokens k ts t (slice s h l) = some_front _ _ (some_tokens _ _ _ s)
 some_tokens k ts t (part_select n s i) = some_front _ _ (some_tokens _ _ _ s)
+some_tokens k ts t (member_of m s) = some_front _ _ (some_tokens _ _ _ s)
 some_tokens k ts t _ = omega arith
 
 fewer : (front us : List Token) → 0 < length front → length us < length (front ++ us)

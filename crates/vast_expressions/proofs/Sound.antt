@@ -3,10 +3,10 @@ use Rattle.std.proofs.Common.{◌≡◌, ℕ, zero, suc, ◌≤◌, ◌<◌, ◌
 use Rattle.vast_literal.specs.Tokens.{level, is_unary, Token, Reserved, Word, SystemWord, MacroWord, Number, Based, Quoted, Operator, Mark}
 use Rattle.vast_literal.proofs.Levels.{level_small, lower}
 use Rattle.vast_expressions.specs.Signs.{Op, Punct, OpenParen, CloseParen, OpenBracket, CloseBracket, OpenBrace, CloseBrace, Comma, Colon, Semicolon, Dot, Hash, At, Question, DoubleColon, PlusColon, Assign, Apostrophe}
-use Rattle.vast_literal.specs.NormalExpr.{NormalExpr, Name, Literal, Text, MacroAlone, Unary, Binary, Ternary, Index, Slice, PartSelect, Concat, Pattern, Replicated, Call, MacroCall, Cast, PackageCast, WordCast, NoNormals, MoreNormals}
-use Rattle.vast_literal.specs.Grammar.{is_cast_word, Spells, up, ternary, binary, unary, index, slice, part_select, name, number, based, quoted, paren, call, system_alone, system_call, concat, replicated, array_pattern, macro_alone, macro_call, number_cast, name_cast, package_cast, paren_cast, word_cast, none, some, last, next}
+use Rattle.vast_literal.specs.NormalExpr.{NormalExpr, Name, Literal, Text, MacroAlone, Unary, Binary, Ternary, Index, Slice, PartSelect, MemberOf, Concat, Pattern, Replicated, Call, MacroCall, Cast, PackageCast, WordCast, NoNormals, MoreNormals}
+use Rattle.vast_literal.specs.Grammar.{is_cast_word, Spells, up, ternary, binary, unary, index, slice, part_select, member_of, name, number, based, quoted, paren, call, system_alone, system_call, concat, replicated, array_pattern, macro_alone, macro_call, number_cast, name_cast, package_cast, paren_cast, word_cast, none, some, last, next}
 use Rattle.vast_expressions.specs.Events.{UnaryT, BinaryT, TernaryT, NoneT, OneT, ConcatT, CallT, MacroCallT, PackageCastT, WordCastT, Event, WordE, Made, trace}
-use Rattle.vast_expressions.specs.Rows.{Item, Take, Emit, Expression, Target, Rest, Right, Operand, Selects, SelectEnd, Primary, MaybeCast, TypeName, Arguments, More, Braces, BraceNext, Goes, Tells, only_if, code, take_row, operand_row, rest_row, right_row, selects_row, select_end_row, word_row, system_row, macro_row, primary_row, maybe_cast_row, type_name_row, arguments_row, more_row, braces_row, brace_next_row, row, Runs, done, goes, tells}
+use Rattle.vast_expressions.specs.Rows.{Item, Take, Emit, Expression, Target, Rest, Right, Operand, Selects, SelectEnd, MemberName, Primary, MaybeCast, TypeName, Arguments, More, Braces, BraceNext, Goes, Tells, only_if, code, take_row, operand_row, rest_row, right_row, selects_row, select_end_row, member_name_row, word_row, system_row, macro_row, primary_row, maybe_cast_row, type_name_row, arguments_row, more_row, braces_row, brace_next_row, row, Runs, done, goes, tells}
 use Rattle.vast_expressions.proofs.Meaning.{Extends, IsHead, Lists, Joins, Below, Climbs, Means, MeansAll, RowMeans, only_if_means, or_else_means, below_all, stays}
 
 -- a mark back from its number
@@ -155,6 +155,10 @@ selects_sound (Mark OpenBracket ∷ ts) us es fs (vs, ds, x, (ws, gs, f, (p, q))
     let y = f head x.front s x.tree h x.spelled in
     let a = x.whole in let b = y.whole in let c = x.told in let d = y.told in
     record { front = Mark OpenBracket ∷ (x.front ++ y.front); tree = y.tree; whole = simp append_assoc (cc (a, b, p)); told = cc (c, d, q); spelled = simp append_assoc at y.spelled }
+selects_sound (Mark Dot ∷ ts) us es fs (vs, ds, f, (p, q)) head s h =
+    let y = f head s h in
+    let b = y.whole in let d = y.told in
+    record { front = Mark Dot ∷ y.front; tree = y.tree; whole = cc (b, p); told = cc (d, q); spelled = simp append_assoc at y.spelled }
 selects_sound ts us es fs m head s h = stays 13 head ts us es fs s m.0 m.1 h
 
 select_end_sound : (ts us : List Token) (es fs : List Event) → RowMeans (select_end_row ts) es us fs → Means SelectEnd ts es us fs
@@ -187,6 +191,15 @@ select_end_sound [] us es fs m head is s i hs hi = absurd m
 select_end_sound (Mark PlusColon ∷ []) us es fs m head is s i hs hi = absurd m
 select_end_sound (Mark PlusColon ∷ (t ∷ ts)) us es fs m head is s i hs hi = absurd m
 select_end_sound _ us es fs m head is s i hs hi = absurd m
+
+member_name_sound : (ts us : List Token) (es fs : List Event) → RowMeans (member_name_row ts) es us fs → Means MemberName ts es us fs
+unfolding member_name_row trace
+member_name_sound (Word w ∷ ts) us es fs (cs, o, (vs, ds, f, (p, q))) head s h =
+    let y = f (head ++ (Mark Dot ∷ (Word w ∷ []))) (MemberOf s w) (member_of w h) in
+    let b = y.whole in let d = y.told in
+    record { front = Word w ∷ y.front; tree = y.tree; whole = cc (b, p); told = cc (d, o, q); spelled = simp append_assoc (simp append_assoc at y.spelled) }
+member_name_sound [] us es fs m head s h = absurd m
+member_name_sound _ us es fs m head s h = absurd m
 
 -- one token is a primary expression
 token_sound : (t : Token) (x : NormalExpr) (ts us : List Token) (es ds fs : List Event) → Spells 14 (t ∷ []) x → es ≡ trace x ds → MeansAll [] ts ds us fs → Extends 14 [] (t ∷ ts) es us fs
@@ -380,6 +393,7 @@ row_sound (Right p) ts us es fs m = right_sound p ts us es fs m
 row_sound Operand ts us es fs m = operand_sound ts us es fs m
 row_sound Selects ts us es fs m = selects_sound ts us es fs m
 row_sound SelectEnd ts us es fs m = select_end_sound ts us es fs m
+row_sound MemberName ts us es fs m = member_name_sound ts us es fs m
 row_sound Primary ts us es fs m = primary_sound ts us es fs m
 row_sound MaybeCast ts us es fs m = maybe_cast_sound ts us es fs m
 row_sound TypeName ts us es fs m = type_name_sound ts us es fs m

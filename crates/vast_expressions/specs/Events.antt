@@ -1,12 +1,12 @@
 -- A normal expression told from the left: its events in postorder, and the tree back from its events.
 use Rattle.std.specs.Prelude.{ℕ, List, ◌∷◌}
-use Rattle.vast_literal.specs.NormalExpr.{NormalExpr, Name, Literal, Text, MacroAlone, Unary, Binary, Ternary, Index, Slice, PartSelect, Concat, Pattern, Replicated, Call, MacroCall, Cast, PackageCast, WordCast, NormalExprs, NoNormals, MoreNormals}
+use Rattle.vast_literal.specs.NormalExpr.{NormalExpr, Name, Literal, Text, MacroAlone, Unary, Binary, Ternary, Index, Slice, PartSelect, MemberOf, Concat, Pattern, Replicated, Call, MacroCall, Cast, PackageCast, WordCast, NormalExprs, NoNormals, MoreNormals}
 pub use Rattle.vast_expressions.specs.declared.event.Told.{Told}
 pub use Rattle.vast_expressions.specs.declared.event.Told.TheVariants.{Unary as UnaryT, Binary as BinaryT, Ternary as TernaryT, Index as IndexT, Slice as SliceT, NoneYet as NoneT, One as OneT, Push as PushT, Concat as ConcatT, Pattern as PatternT, Replicated as ReplicatedT, Call as CallT, MacroCall as MacroCallT, Cast as CastT, PackageCast as PackageCastT, WordCast as WordCastT}
 
 -- What is told: bytes of a token, or what is made of what was told before.
 pub data Event : Type 0 where
-  NameE LiteralE TextE MacroE WordE PartSelectE : (bytes : List ℕ) → Event
+  NameE LiteralE TextE MacroE WordE PartSelectE MemberOfE : (bytes : List ℕ) → Event
   Made : Told → Event
 
 unfoldable mutual
@@ -22,6 +22,7 @@ unfoldable mutual
   trace (Index s i) es = trace s (trace i (Made IndexT ∷ es))
   trace (Slice s h l) es = trace s (trace h (trace l (Made SliceT ∷ es)))
   trace (PartSelect s i n) es = trace s (trace i (PartSelectE n ∷ es))
+  trace (MemberOf s m) es = trace s (MemberOfE m ∷ es)
   trace (Concat xs) es = traces xs (Made ConcatT ∷ es)
   trace (Pattern xs) es = traces xs (Made PatternT ∷ es)
   trace (Replicated n xs) es = trace n (traces xs (Made ReplicatedT ∷ es))

@@ -3,7 +3,7 @@ use Rattle.std.specs.Prelude.{◌≡◌, ℕ, ◌<◌, List, [], ◌∷◌, ◌+
 use Rattle.vast_literal.specs.Tokens.{level, Token, Operator, Mark}
 use Rattle.vast_literal.specs.NormalExpr.{NormalExpr}
 use Rattle.vast_literal.specs.Grammar.{Spells}
-use Rattle.vast_expressions.specs.Signs.{OpenParen, OpenBracket, Question, DoubleColon, Apostrophe}
+use Rattle.vast_expressions.specs.Signs.{OpenParen, OpenBracket, Dot, Question, DoubleColon, Apostrophe}
 use Rattle.vast_expressions.specs.Events.{Event, trace}
 use Rattle.vast_expressions.specs.Rows.{Item, Expression, Target, Runs}
 
@@ -12,6 +12,7 @@ abbrev pub Quiet : ℕ → List Token → Type 0
 Quiet k (Operator op ∷ us) = level op < k
 Quiet k (Mark Question ∷ us) = 0 < k
 Quiet k (Mark OpenBracket ∷ us) = 13 < k
+Quiet k (Mark Dot ∷ us) = 13 < k
 Quiet k (Mark OpenParen ∷ us) = ⊥
 Quiet k (Mark Apostrophe ∷ us) = ⊥
 Quiet k (Mark DoubleColon ∷ us) = ⊥

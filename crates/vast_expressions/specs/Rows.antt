@@ -3,7 +3,7 @@ use Rattle.std.specs.Prelude.{◌≡◌, ℕ, List, [], ◌∷◌, Bool, true, f
 use Rattle.vast_literal.specs.Tokens.{level, is_unary}
 use Rattle.vast_expressions.specs.Signs.{Op, Key, Punct, OpenParen, CloseParen, OpenBracket, CloseBracket, OpenBrace, CloseBrace, Comma, Colon, Semicolon, Dot, Hash, At, Question, DoubleColon, PlusColon, Assign, Apostrophe}
 use Rattle.vast_literal.specs.Tokens.{Token, Reserved, Word, SystemWord, MacroWord, Number, Based, Quoted, Operator, Mark}
-use Rattle.vast_expressions.specs.Events.{Told, UnaryT, BinaryT, TernaryT, IndexT, SliceT, NoneT, OneT, PushT, ConcatT, PatternT, ReplicatedT, CallT, MacroCallT, CastT, PackageCastT, WordCastT, Event, NameE, LiteralE, TextE, MacroE, WordE, PartSelectE, Made}
+use Rattle.vast_expressions.specs.Events.{Told, UnaryT, BinaryT, TernaryT, IndexT, SliceT, NoneT, OneT, PushT, ConcatT, PatternT, ReplicatedT, CallT, MacroCallT, CastT, PackageCastT, WordCastT, Event, NameE, LiteralE, TextE, MacroE, WordE, PartSelectE, MemberOfE, Made}
 use Rattle.vast_literal.specs.Grammar.{is_cast_word}
 
 -- What is still to be read: a mark; what is told; expressions, what is assigned to, and their parts; the rest of an expression,
@@ -12,7 +12,7 @@ use Rattle.vast_literal.specs.Grammar.{is_cast_word}
 pub data Item : Type 0 where
   Take : Punct → Item
   Emit : Told → Item
-  Expression Target Operand Rest Selects SelectEnd Primary MaybeCast TypeName Braces BraceNext : Item
+  Expression Target Operand Rest Selects SelectEnd MemberName Primary MaybeCast TypeName Braces BraceNext : Item
   Right : Op → Item
   Arguments More : (close : Punct) → Item
 
@@ -70,6 +70,7 @@ right_row p ts = Tells (Made (BinaryT p)) [] ts
 
 unfoldable pub selects_row : List Token → Row
 selects_row (Mark OpenBracket ∷ ts) = Goes (Expression ∷ SelectEnd ∷ []) ts
+selects_row (Mark Dot ∷ ts) = Goes (MemberName ∷ []) ts
 selects_row ts = Goes [] ts
 
 unfoldable pub select_end_row : List Token → Row
@@ -77,6 +78,10 @@ select_end_row (Mark CloseBracket ∷ ts) = Goes (Emit IndexT ∷ Selects ∷ []
 select_end_row (Mark Colon ∷ ts) = Goes (Expression ∷ Take CloseBracket ∷ Emit SliceT ∷ Selects ∷ []) ts
 select_end_row (Mark PlusColon ∷ (Number n ∷ ts)) = Tells (PartSelectE n) (Take CloseBracket ∷ Selects ∷ []) ts
 select_end_row _ = Stuck
+
+unfoldable pub member_name_row : List Token → Row
+member_name_row (Word m ∷ ts) = Tells (MemberOfE m) (Selects ∷ []) ts
+member_name_row _ = Stuck
 
 unfoldable pub word_row : List ℕ → List Token → Row
 word_row w (Mark OpenParen ∷ ts) = Tells (WordE w) (Arguments CloseParen ∷ Emit CallT ∷ []) ts
@@ -142,6 +147,7 @@ row (Right p) ts = right_row p ts
 row Operand ts = operand_row ts
 row Selects ts = selects_row ts
 row SelectEnd ts = select_end_row ts
+row MemberName ts = member_name_row ts
 row Primary ts = primary_row ts
 row MaybeCast ts = maybe_cast_row ts
 row TypeName ts = type_name_row ts

@@ -54,6 +54,8 @@ pub enum Event<'t> {
     Word(&'t str),
     /// A part select of this width.
     PartSelect(&'t str),
+    /// The member of this name.
+    MemberOf(&'t str),
     /// What is made of what was told before.
     Made(Told),
 }

@@ -29,6 +29,8 @@ pub(crate) enum Item {
     Selects,
     /// What follows the first bound of a select.
     SelectEnd,
+    /// The name of a member, and the selects after it.
+    MemberName,
     /// Perhaps what makes a cast of what stands before.
     MaybeCast,
     /// The name of a package's type.

@@ -22,7 +22,7 @@ use list::{arguments, brace_next, braces, more};
 use mark::take;
 use operator::{expression, operand, rest, right};
 use primary::{maybe_cast, target, type_name};
-use select::{select_end, selects};
+use select::{member_name, select_end, selects};
 use std::alloc::AllocError;
 use vast_literal::{Key, Mark, Sign};
 
@@ -128,6 +128,7 @@ pub(crate) fn row<'t, R: Source<'t>, S: Sink<'t>>(
         Item::Operand => operand(source, stack, sink),
         Item::Selects => selects(source, stack, sink),
         Item::SelectEnd => select_end(source, stack, sink),
+        Item::MemberName => member_name(source, stack, sink),
         Item::MaybeCast => maybe_cast(source, stack, sink),
         Item::TypeName => type_name(source, stack, sink),
         Item::Braces => braces(source, stack, sink),

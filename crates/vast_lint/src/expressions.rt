@@ -264,14 +264,14 @@ fn is_simulated(known: Known<'_>, name: &str, arguments: &[usize]) -> bool {
     }
 }
 
-/// What a name, a call, a cast, an edge or a macro is.
+/// What a name, a member, a call, a cast, an edge or a macro is.
 fn other(
     known: Known<'_>,
     step: &ExpressionStep,
     told: &mut StepFindings,
 ) -> Result<Form, AllocError> {
     match step {
-        ExpressionStep::MakeName(name) => {
+        ExpressionStep::MakeName(name) | ExpressionStep::MakeMember(_, name) => {
             told.show_if(is_keyword(known.dialect, name), Rule::Keyword)?;
             Ok(Form::Signal(None))
         }

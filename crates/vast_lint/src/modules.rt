@@ -7,7 +7,7 @@ use crate::forms::TypeForm;
 use crate::parameters::{defined_parameter, parameter, typed_rule};
 use crate::rule::Rule;
 use crate::warning::StepFindings;
-use crate::words::comment_rule;
+use crate::words::{comment_rule, name_rule};
 use std::alloc::AllocError;
 use vast_script::ModuleStep;
 
@@ -30,6 +30,9 @@ pub(crate) fn module(
         ModuleStep::AddCommentText(text) => {
             told.tell_any(comment_rule(text))?;
             Ok(Fact::Other)
+        }
+        ModuleStep::AddImport(_, package) | ModuleStep::AddFileImport(package) => {
+            imported(known, package, told)
         }
         ModuleStep::AddModule(name) => {
             declare_module(known, declared, name, told)?;
@@ -60,6 +63,17 @@ pub(crate) fn module(
         }
         _ => parameters(known, declared, step, told),
     }
+}
+
+/// The import of the package.
+fn imported(known: Known<'_>, package: &str, told: &mut StepFindings) -> Result<Fact, AllocError> {
+    told.tell_any(name_rule(known.dialect, package))?;
+    told.tell_any(Some(if known.is_verilog() {
+        Rule::VerilogImport
+    } else {
+        Rule::PackageImport
+    }))?;
+    Ok(Fact::Other)
 }
 
 /// What the call makes, if it is of a parameter.

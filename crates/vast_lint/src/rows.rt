@@ -115,6 +115,7 @@ pub(crate) fn row_of(rule: Rule) -> Row {
         Rule::SynthesisComment => {
             ("a comment that begins with `synopsys` or `synthesis` may be an order to a tool", Tools::Yosys)
         }
+        Rule::PackageImport => ("an import of a package", Tools::Yosys),
         Rule::VerilogGenvar => ("a `genvar` in a `for` is no Verilog", Tools::Yosys),
         Rule::VerilogNoInputs => ("a function without inputs is no Verilog", Tools::Icarus),
         Rule::VerilogUnsigned => ("`unsigned` in a declaration is no Verilog", Tools::Yosys),
@@ -128,6 +129,7 @@ pub(crate) fn row_of(rule: Rule) -> Row {
         Rule::VerilogLogic => ("`logic` is no Verilog", Tools::VerilatorAndYosys),
         Rule::VerilogPattern => ("an assignment pattern is no Verilog", Tools::All),
         Rule::VerilogType => ("a type's name in a declaration is no Verilog", Tools::All),
+        Rule::VerilogImport => ("an import of a package is no Verilog", Tools::All),
     };
     Row { why, tools }
 }

@@ -84,6 +84,7 @@ pub enum Rule {
     QuoteInMacro,
     VerilatorComment,
     SynthesisComment,
+    PackageImport,
     // The dialect Verilog
     VerilogGenvar,
     VerilogNoInputs,
@@ -96,6 +97,7 @@ pub enum Rule {
     VerilogLogic,
     VerilogPattern,
     VerilogType,
+    VerilogImport,
 }
 
 impl Rule {

@@ -11,11 +11,11 @@ use Rattle.vast_script.specs.declared.step.Step.TheVariants.{Operators, Expressi
 use Rattle.vast_script.specs.declared.step.OperatorStep.{OperatorStep}
 use Rattle.vast_script.specs.Operators.{Operation, Before, Between, operation}
 use Rattle.vast_script.specs.declared.step.ExpressionStep.{ExpressionStep}
-use Rattle.vast_script.specs.declared.step.ExpressionStep.TheVariants.{MakeLiteral, MakeBinaryPattern, MakeUnsizedDecimalLiteral, MakeStringLiteral, MakeUnsizedOneLiteral, MakeUnsizedZeroLiteral, MakeUnsizedXLiteral, MakeName, MakeIndexableExpression, MakeSlice, MakeIndex, MakeSliceExpr, MakeIndexExpr, MakeIndexedPartSelect, MakeFunctionCall, MakeConcat, MakeReplicatedConcat, MakeReplicatedConcatI64, MakeArrayAssignmentPattern, MakeTernary, MakeWidthCast, MakeTypeCast, MakePosEdge, MakeNegEdge, MakeMacroRef, MakeMacroRefWithArgs}
+use Rattle.vast_script.specs.declared.step.ExpressionStep.TheVariants.{MakeLiteral, MakeBinaryPattern, MakeUnsizedDecimalLiteral, MakeStringLiteral, MakeUnsizedOneLiteral, MakeUnsizedZeroLiteral, MakeUnsizedXLiteral, MakeName, MakeIndexableExpression, MakeSlice, MakeIndex, MakeSliceExpr, MakeIndexExpr, MakeIndexedPartSelect, MakeFunctionCall, MakeConcat, MakeReplicatedConcat, MakeReplicatedConcatI64, MakeArrayAssignmentPattern, MakeTernary, MakeWidthCast, MakeTypeCast, MakePosEdge, MakeNegEdge, MakeMacroRef, MakeMacroRefWithArgs, MakeMember}
 use Rattle.vast_script.specs.declared.step.TypeStep.{TypeStep}
 use Rattle.vast_script.specs.declared.step.TypeStep.TheVariants.{MakeScalarType, MakeIntegerType, MakeIntType, MakeExternType, MakeExternPackageType, MakeBitVectorType, MakeBitVectorTypeExpr, MakePackedArrayType, MakeUnpackedArrayType, MakePackedArrayTypeExpr, MakeUnpackedArrayTypeExpr}
 use Rattle.vast_script.specs.declared.step.ModuleStep.{ModuleStep}
-use Rattle.vast_script.specs.declared.step.ModuleStep.TheVariants.{AddInclude, AddBlankLine, AddCommentText, AddModule, AddInput, AddOutput, AddInout, AddLogicInput, AddLogicOutput, AddWire, AddReg, AddLogic, AddParameterPort, AddTypedParameterPort, AddParameter, AddParameterWithDef, AddLocalparam, AddIntLocalparam, AddTypedLocalparam, HoistModuleDeclarations}
+use Rattle.vast_script.specs.declared.step.ModuleStep.TheVariants.{AddInclude, AddBlankLine, AddCommentText, AddModule, AddInput, AddOutput, AddInout, AddLogicInput, AddLogicOutput, AddWire, AddReg, AddLogic, AddParameterPort, AddTypedParameterPort, AddParameter, AddParameterWithDef, AddLocalparam, AddIntLocalparam, AddTypedLocalparam, HoistModuleDeclarations, AddImport, AddFileImport}
 use Rattle.vast_script.specs.declared.step.LoopStep.{LoopStep}
 use Rattle.vast_script.specs.declared.step.LoopStep.TheVariants.{AddGenerateLoop, GenerateAddGenerateLoop, GenerateGenvar, GenerateAddAlwaysComb, GenerateAddAlwaysStar, GenerateAddAlwaysLatch, GenerateAddInitial, GenerateAddAlwaysFf, GenerateAddAlwaysAt, GenerateAddLocalparam, GenerateAddTypedLocalparam, GenerateAddContinuousAssignment, GenerateAddConditional, GenerateAddBlankLine, GenerateAddComment, GenerateAddInstantiation, GenerateAddInlineStatement, GenerateAddMacroStatement}
 use Rattle.vast_script.specs.declared.step.StatementStep.{StatementStep}
@@ -129,6 +129,7 @@ expression_pieces (MakePosEdge a) = place a
 expression_pieces (MakeNegEdge a) = place a
 expression_pieces (MakeMacroRef a) = text a
 expression_pieces (MakeMacroRefWithArgs a b) = text a ++ listed place b.items
+expression_pieces (MakeMember a b) = place a ++ text b
 
 abbrev pub type_pieces : TypeStep → List Piece
 type_pieces MakeScalarType = []
@@ -164,6 +165,8 @@ module_pieces (AddLocalparam a b c) = place a ++ (text b ++ place c)
 module_pieces (AddIntLocalparam a b c) = place a ++ (text b ++ place c)
 module_pieces (AddTypedLocalparam a b c) = place a ++ (place b ++ place c)
 module_pieces (HoistModuleDeclarations a b) = place a ++ count b
+module_pieces (AddImport a b) = place a ++ text b
+module_pieces (AddFileImport a) = text a
 
 abbrev pub loop_pieces : LoopStep → List Piece
 loop_pieces (AddGenerateLoop a b c d e) = place a ++ (text b ++ (place c ++ (place d ++ optional text e)))

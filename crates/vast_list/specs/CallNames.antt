@@ -5,11 +5,11 @@ use Rattle.vast_script.specs.declared.step.Step.TheVariants.{Operators, Expressi
 use Rattle.vast_script.specs.declared.step.OperatorStep.{OperatorStep}
 use Rattle.vast_script.specs.declared.step.OperatorStep.TheVariants.{MakeNot, MakeBitwiseNot, MakeNegate, MakeLogicalNot, MakeAndReduce, MakeOrReduce, MakeXorReduce, MakeAdd, MakeSub, MakeMul, MakeDiv, MakeMod, MakePower, MakeBitwiseAnd, MakeBitwiseOr, MakeBitwiseXor, MakeShll, MakeShra, MakeShrl, MakeNe, MakeCaseNe, MakeEq, MakeCaseEq, MakeGe, MakeGt, MakeLe, MakeLt, MakeLogicalAnd, MakeLogicalOr, MakeNeX, MakeEqX}
 use Rattle.vast_script.specs.declared.step.ExpressionStep.{ExpressionStep}
-use Rattle.vast_script.specs.declared.step.ExpressionStep.TheVariants.{MakeLiteral, MakeBinaryPattern, MakeUnsizedDecimalLiteral, MakeStringLiteral, MakeUnsizedOneLiteral, MakeUnsizedZeroLiteral, MakeUnsizedXLiteral, MakeName, MakeIndexableExpression, MakeSlice, MakeIndex, MakeSliceExpr, MakeIndexExpr, MakeIndexedPartSelect, MakeFunctionCall, MakeConcat, MakeReplicatedConcat, MakeReplicatedConcatI64, MakeArrayAssignmentPattern, MakeTernary, MakeWidthCast, MakeTypeCast, MakePosEdge, MakeNegEdge, MakeMacroRef, MakeMacroRefWithArgs}
+use Rattle.vast_script.specs.declared.step.ExpressionStep.TheVariants.{MakeLiteral, MakeBinaryPattern, MakeUnsizedDecimalLiteral, MakeStringLiteral, MakeUnsizedOneLiteral, MakeUnsizedZeroLiteral, MakeUnsizedXLiteral, MakeName, MakeIndexableExpression, MakeSlice, MakeIndex, MakeSliceExpr, MakeIndexExpr, MakeIndexedPartSelect, MakeFunctionCall, MakeConcat, MakeReplicatedConcat, MakeReplicatedConcatI64, MakeArrayAssignmentPattern, MakeTernary, MakeWidthCast, MakeTypeCast, MakePosEdge, MakeNegEdge, MakeMacroRef, MakeMacroRefWithArgs, MakeMember}
 use Rattle.vast_script.specs.declared.step.TypeStep.{TypeStep}
 use Rattle.vast_script.specs.declared.step.TypeStep.TheVariants.{MakeScalarType, MakeIntegerType, MakeIntType, MakeExternType, MakeExternPackageType, MakeBitVectorType, MakeBitVectorTypeExpr, MakePackedArrayType, MakeUnpackedArrayType, MakePackedArrayTypeExpr, MakeUnpackedArrayTypeExpr}
 use Rattle.vast_script.specs.declared.step.ModuleStep.{ModuleStep}
-use Rattle.vast_script.specs.declared.step.ModuleStep.TheVariants.{AddInclude, AddBlankLine, AddCommentText, AddModule, AddInput, AddOutput, AddInout, AddLogicInput, AddLogicOutput, AddWire, AddReg, AddLogic, AddParameterPort, AddTypedParameterPort, AddParameter, AddParameterWithDef, AddLocalparam, AddIntLocalparam, AddTypedLocalparam, HoistModuleDeclarations}
+use Rattle.vast_script.specs.declared.step.ModuleStep.TheVariants.{AddInclude, AddBlankLine, AddCommentText, AddModule, AddInput, AddOutput, AddInout, AddLogicInput, AddLogicOutput, AddWire, AddReg, AddLogic, AddParameterPort, AddTypedParameterPort, AddParameter, AddParameterWithDef, AddLocalparam, AddIntLocalparam, AddTypedLocalparam, HoistModuleDeclarations, AddImport, AddFileImport}
 use Rattle.vast_script.specs.declared.step.LoopStep.{LoopStep}
 use Rattle.vast_script.specs.declared.step.LoopStep.TheVariants.{AddGenerateLoop, GenerateAddGenerateLoop, GenerateGenvar, GenerateAddAlwaysComb, GenerateAddAlwaysStar, GenerateAddAlwaysLatch, GenerateAddInitial, GenerateAddAlwaysFf, GenerateAddAlwaysAt, GenerateAddLocalparam, GenerateAddTypedLocalparam, GenerateAddContinuousAssignment, GenerateAddConditional, GenerateAddBlankLine, GenerateAddComment, GenerateAddInstantiation, GenerateAddInlineStatement, GenerateAddMacroStatement}
 use Rattle.vast_script.specs.declared.step.StatementStep.{StatementStep}
@@ -81,6 +81,7 @@ expression_name (MakePosEdge a) = codes "MakePosEdge"
 expression_name (MakeNegEdge a) = codes "MakeNegEdge"
 expression_name (MakeMacroRef a) = codes "MakeMacroRef"
 expression_name (MakeMacroRefWithArgs a b) = codes "MakeMacroRefWithArgs"
+expression_name (MakeMember a b) = codes "MakeMember"
 
 abbrev pub type_name : TypeStep → List ℕ
 type_name MakeScalarType = codes "MakeScalarType"
@@ -116,6 +117,8 @@ module_name (AddLocalparam a b c) = codes "AddLocalparam"
 module_name (AddIntLocalparam a b c) = codes "AddIntLocalparam"
 module_name (AddTypedLocalparam a b c) = codes "AddTypedLocalparam"
 module_name (HoistModuleDeclarations a b) = codes "HoistModuleDeclarations"
+module_name (AddImport a b) = codes "AddImport"
+module_name (AddFileImport a) = codes "AddFileImport"
 
 abbrev pub loop_name : LoopStep → List ℕ
 loop_name (AddGenerateLoop a b c d e) = codes "AddGenerateLoop"

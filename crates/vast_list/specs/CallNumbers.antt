@@ -16,7 +16,7 @@ expression_names =
     codes "MakeIndex" ∷ codes "MakeSliceExpr" ∷ codes "MakeIndexExpr" ∷ codes "MakeIndexedPartSelect" ∷ codes "MakeFunctionCall" ∷
     codes "MakeConcat" ∷ codes "MakeReplicatedConcat" ∷ codes "MakeReplicatedConcatI64" ∷ codes "MakeArrayAssignmentPattern" ∷ codes "MakeTernary" ∷
     codes "MakeWidthCast" ∷ codes "MakeTypeCast" ∷ codes "MakePosEdge" ∷ codes "MakeNegEdge" ∷ codes "MakeMacroRef" ∷ codes "MakeMacroRefWithArgs" ∷
-    []
+    codes "MakeMember" ∷ []
 
 abbrev pub type_names : List (List ℕ)
 type_names =
@@ -29,7 +29,7 @@ module_names =
     codes "AddInclude" ∷ codes "AddBlankLine" ∷ codes "AddCommentText" ∷ codes "AddModule" ∷ codes "AddInput" ∷ codes "AddOutput" ∷ codes "AddInout" ∷
     codes "AddLogicInput" ∷ codes "AddLogicOutput" ∷ codes "AddWire" ∷ codes "AddReg" ∷ codes "AddLogic" ∷ codes "AddParameterPort" ∷
     codes "AddTypedParameterPort" ∷ codes "AddParameter" ∷ codes "AddParameterWithDef" ∷ codes "AddLocalparam" ∷ codes "AddIntLocalparam" ∷
-    codes "AddTypedLocalparam" ∷ codes "HoistModuleDeclarations" ∷ []
+    codes "AddTypedLocalparam" ∷ codes "HoistModuleDeclarations" ∷ codes "AddImport" ∷ codes "AddFileImport" ∷ []
 
 abbrev pub loop_names : List (List ℕ)
 loop_names =

@@ -3,7 +3,7 @@ use Rattle.std.proofs.Common.{◌≡◌, ℕ, ℤ, pos, ◌-ℤ◌, List, [], �
 use Rattle.std.proofs.lemmas.Bool.{and_from}
 use Rattle.std.specs.Fmt.{signed_decimal}
 use Rattle.vast_literal.specs.Tokens.{Minus, level, WireKey, RegKey, LogicKey, IntegerKey, IntKey, GenvarKey, SignedKey, UnsignedKey, Token}
-use Rattle.vast_literal.specs.Tree.{Dialect, VerilogDialect, SystemVerilogDialect, ExprTree, Exprs, NoExprs, MoreExprs, NameTree, IndexTree, SliceTree, PartSelectTree, ConcatTree, MacroTree, CallTree, TypeTree, ScalarTree, VectorTree, IntegerTree, IntTree, ExternalTree, PackageTree, PackedTree, UnpackedTree, Kind, RegKind, WireKind, LogicKind, IntegerKind, IntKind, UserKind, UntypedEnumKind, GenvarKind, Declaration}
+use Rattle.vast_literal.specs.Tree.{Dialect, VerilogDialect, SystemVerilogDialect, ExprTree, Exprs, NoExprs, MoreExprs, NameTree, IndexTree, SliceTree, PartSelectTree, MemberOfTree, ConcatTree, MacroTree, CallTree, TypeTree, ScalarTree, VectorTree, IntegerTree, IntTree, ExternalTree, PackageTree, PackedTree, UnpackedTree, Kind, RegKind, WireKind, LogicKind, IntegerKind, IntKind, UserKind, UntypedEnumKind, GenvarKind, Declaration}
 use Rattle.vast_literal.specs.NormalExpr.{scalar_sign, integer_sign, normal}
 use Rattle.vast_literal.specs.Grammar.{Spells, binary, number, name as a_name, system_alone}
 use Rattle.vast_literal.specs.FileGrammar.{IsMany, no_items, more_items, is_kind, is_sign, IsGroup, one, range, IsMaybe, absent, present, IsTypeName, no_type, own_type, packaged, IsDeclaration, declares}
@@ -36,6 +36,7 @@ left_level (NameTree n type) h s = s
 left_level (IndexTree s i) h e = e
 left_level (SliceTree s a b) h e = e
 left_level (PartSelectTree s i n) h e = e
+left_level (MemberOfTree s n) h e = e
 left_level (ConcatTree count parts) h e = e
 left_level _ h s = absurd (cc h)
 

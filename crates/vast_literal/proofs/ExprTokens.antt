@@ -1,8 +1,8 @@
 -- The tokens that the printed text of an expression has: bracketed as the text is.
 use Rattle.std.specs.Prelude.{ℕ, List, [], ◌∷◌, ◌++◌, Bool, true, false, cond, not, ◌&&◌, ◌||◌, eqb, Option, Some, None}
 use Rattle.std.specs.Fmt.{signed_decimal}
-use Rattle.vast_literal.specs.Tokens.{Key, LogicKey, IntegerKey, IntKey, PosedgeKey, NegedgeKey, OpenParen, CloseParen, OpenBracket, CloseBracket, OpenBrace, CloseBrace, Comma, Colon, Question, DoubleColon, PlusColon, Apostrophe, Token, Reserved, Word, SystemWord, MacroWord, Number, Quoted, Operator, Mark}
-use Rattle.vast_literal.specs.Tree.{ExprTree, NameTree, LiteralTree, StringTree, UnaryTree, BinaryTree, TernaryTree, IndexTree, SliceTree, PartSelectTree, ConcatTree, PatternTree, WidthCastTree, TypeCastTree, PosEdgeTree, NegEdgeTree, MacroTree, CallTree, MissingExpr}
+use Rattle.vast_literal.specs.Tokens.{Key, LogicKey, IntegerKey, IntKey, PosedgeKey, NegedgeKey, OpenParen, CloseParen, OpenBracket, CloseBracket, OpenBrace, CloseBrace, Comma, Colon, Dot, Question, DoubleColon, PlusColon, Apostrophe, Token, Reserved, Word, SystemWord, MacroWord, Number, Quoted, Operator, Mark}
+use Rattle.vast_literal.specs.Tree.{ExprTree, NameTree, LiteralTree, StringTree, UnaryTree, BinaryTree, TernaryTree, IndexTree, SliceTree, PartSelectTree, MemberOfTree, ConcatTree, PatternTree, WidthCastTree, TypeCastTree, PosEdgeTree, NegEdgeTree, MacroTree, CallTree, MissingExpr}
 use Rattle.vast_literal.specs.Tree.{TypeTree, ScalarTree, VectorTree, IntegerTree, IntTree, ExternalTree, PackageTree}
 use Rattle.vast_literal.specs.Tree.{NoExpr, SomeExpr, Exprs, NoExprs, MoreExprs, NoArguments, SomeArguments}
 use Rattle.vast_literal.specs.NormalExpr.{unary_operator_token, binary_operator_token, signing_key, scalar_sign, integer_sign}
@@ -69,6 +69,7 @@ unfoldable mutual
       (wrapped_tokens (select_wraps subject) (expr_tokens subject) ++ (Mark OpenBracket ∷ (expr_tokens high ++ (Mark Colon ∷ (expr_tokens low ++ (Mark CloseBracket ∷ []))))))
   expr_tokens (PartSelectTree subject start width) =
       wrapped_tokens (select_wraps subject) (expr_tokens subject) ++ (Mark OpenBracket ∷ (expr_tokens start ++ (Mark PlusColon ∷ (Number (signed_decimal width) ∷ (Mark CloseBracket ∷ [])))))
+  expr_tokens (MemberOfTree subject name) = wrapped_tokens (select_wraps subject) (expr_tokens subject) ++ (Mark Dot ∷ (Word name ∷ []))
   expr_tokens (ConcatTree NoExpr parts) = Mark OpenBrace ∷ (comma_tokens (each_tokens parts) ++ (Mark CloseBrace ∷ []))
   expr_tokens (ConcatTree (SomeExpr count) parts) =
       Mark OpenBrace ∷ (expr_tokens count ++ (Mark OpenBrace ∷ (comma_tokens (each_tokens parts) ++ (Mark CloseBrace ∷ (Mark CloseBrace ∷ [])))))

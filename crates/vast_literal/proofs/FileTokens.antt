@@ -7,10 +7,10 @@ use Rattle.vast_literal.specs.Tree.{Dialect, VerilogDialect, SystemVerilogDialec
 use Rattle.vast_literal.specs.Tree.{LtOp, TypeTree, VectorTree, ExternalTree, PackageTree, Kind, Declaration}
 use Rattle.vast_literal.specs.Tree.{AssignForm, Blocking, Nonblocking, Continuous, CaseWord, StatementTree, AssignTree, TaskTree, CommentTree, BlankTree, InlineTree, ConditionalTree, CaseTree, Statements, NoStatements, MoreStatements, Alternates, NoElse, ElseIf, Else, CaseArms, NoCaseArms, CaseArm}
 use Rattle.vast_literal.specs.Tree.{AlwaysWord, ParameterName, PlainParameter, IntParameter, DefinedParameter, Connection, InstanceTree, FunctionTree}
-use Rattle.vast_literal.specs.Tree.{MemberTree, DeclarationMember, AssignMember, ParameterMember, CommentMember, BlankMember, InlineMember, MacroMember, InstanceMember, AlwaysMember, ConditionalMember, FunctionMember, LoopMember, Members, NoMembers, MoreMembers}
-use Rattle.vast_literal.specs.Tree.{PortTree, ParameterPortTree, ModuleTree, FileItemTree, ModuleItem, IncludeItem, CommentItem, BlankItem, FileTree}
+use Rattle.vast_literal.specs.Tree.{MemberTree, DeclarationMember, AssignMember, ParameterMember, CommentMember, BlankMember, InlineMember, ImportMember, MacroMember, InstanceMember, AlwaysMember, ConditionalMember, FunctionMember, LoopMember, Members, NoMembers, MoreMembers}
+use Rattle.vast_literal.specs.Tree.{PortTree, ParameterPortTree, ModuleTree, FileItemTree, ModuleItem, IncludeItem, ImportItem, CommentItem, BlankItem, FileTree}
 use Rattle.vast_literal.proofs.LiteralToken.{literal_tokens}
-use Rattle.vast_literal.specs.Shape.{right_child_wraps, highest_index_wraps, literal_value, base_of, packed_dimensions, unpacked_dimensions, port_kind, base_kind, result_kind, is_bare_arm, name_alone, is_one_casez, always_words, has_events}
+use Rattle.vast_literal.specs.Shape.{right_child_wraps, highest_index_wraps, literal_value, base_of, packed_dimensions, unpacked_dimensions, port_kind, base_kind, result_kind, is_bare_arm, name_alone, is_one_casez, always_words, has_events, import_words}
 use Rattle.vast_literal.proofs.ExprTokens.{called_token, wrapped_tokens, expr_tokens}
 use Rattle.vast_literal.specs.NormalTree.{kind_key, sign_of, case_key, parameter_key, direction_key}
 
@@ -203,6 +203,7 @@ unfoldable mutual
   member_tokens dialect (CommentMember text) = []
   member_tokens dialect BlankMember = []
   member_tokens dialect (InlineMember text) = []
+  member_tokens dialect (ImportMember package_name) = import_words package_name
   member_tokens dialect (MacroMember call semicolon) = expr_tokens call ++ semicolon_tokens semicolon
   member_tokens dialect (InstanceMember i) = instance_tokens i
   member_tokens dialect (AlwaysMember word events body) = always_tokens word events (block_tokens (statements_tokens body))
@@ -248,6 +249,7 @@ module_tokens dialect m =
 unfoldable pub item_tokens : Dialect → FileItemTree → List Token
 item_tokens dialect (ModuleItem m) = module_tokens dialect m
 item_tokens dialect (IncludeItem path) = MacroWord (codes "include") ∷ (Quoted (34 ∷ (path ++ (34 ∷ []))) ∷ [])
+item_tokens dialect (ImportItem package_name) = import_words package_name
 item_tokens dialect (CommentItem text) = []
 item_tokens dialect BlankItem = []
 

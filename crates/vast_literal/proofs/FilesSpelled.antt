@@ -1,9 +1,9 @@
 -- The tokens of a file's page spell its normal form.
 use Rattle.std.proofs.Common.{◌≡◌, ℕ, List, [], ◌∷◌, ◌++◌, map, true, ◌&&◌, IsTrue, refl}
 use Rattle.vast_literal.specs.Tokens.{Assign, EndModuleKey, ParameterKey, Reserved, Mark}
-use Rattle.vast_literal.specs.Tree.{Dialect, MaybeType, Untyped, Typed, PortDirection, InputDirection, PortTree, ParameterPortTree, ModuleTree, FileItemTree, ModuleItem, IncludeItem, CommentItem, BlankItem, FileTree}
+use Rattle.vast_literal.specs.Tree.{Dialect, MaybeType, Untyped, Typed, PortDirection, InputDirection, PortTree, ParameterPortTree, ModuleTree, FileItemTree, ModuleItem, IncludeItem, ImportItem, CommentItem, BlankItem, FileTree}
 use Rattle.vast_literal.specs.NormalFile.{ModulePart}
-use Rattle.vast_literal.specs.FileGrammar.{IsMany, no_items, more_items, absent, no_type, IsDeclaration, declares, is_direction, IsParameter, header_parameter, IsPort, port, IsParameters, no_header_parameters, header_parameters, IsPorts, no_ports, ports, IsItem, module_item, include_item, IsFile, file}
+use Rattle.vast_literal.specs.FileGrammar.{IsMany, no_items, more_items, absent, no_type, IsDeclaration, declares, is_direction, IsParameter, header_parameter, IsPort, port, IsParameters, no_header_parameters, header_parameters, IsPorts, no_ports, ports, IsItem, module_item, include_item, import_item, IsFile, file}
 use Rattle.vast_literal.specs.Plain.{is_plain_name, is_plain}
 use Rattle.vast_literal.proofs.ExprTokens.{expr_tokens}
 use Rattle.vast_literal.specs.WellFormed.{is_well_formed, is_well_formed_type}
@@ -75,6 +75,7 @@ unfolding items_tokens item_tokens normal_items normal_item_before
 items_spelled dialect [] h w = no_items
 items_spelled dialect (ModuleItem m ∷ is) h w = more_items (module_spelled dialect m (and_left _ _ h) (and_left _ _ w)) (items_spelled dialect is (and_right (is_plain_module m) (are_plain_items is) h) (and_right (is_well_formed_module m) (are_well_formed_items is) w))
 items_spelled dialect (IncludeItem path ∷ is) h w = more_items (include_item path) (items_spelled dialect is (and_right (every is_path_byte path) (are_plain_items is) h) w)
+items_spelled dialect (ImportItem package_name ∷ is) h w = more_items (import_item package_name) (items_spelled dialect is (and_right (is_plain_name package_name) (are_plain_items is) h) w)
 items_spelled dialect (CommentItem text ∷ is) h w = items_spelled dialect is h w
 items_spelled dialect (BlankItem ∷ is) h w = items_spelled dialect is h w
 

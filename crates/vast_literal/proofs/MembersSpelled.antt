@@ -1,11 +1,11 @@
 -- The tokens of a member's page spell its normal form.
 use Rattle.std.proofs.Common.{◌≡◌, ℕ, List, [], ◌∷◌, ◌++◌, map, Bool, true, false, ◌&&◌, Option, Some, None, IsTrue, refl, append_assoc, append-nil, arith}
 use Rattle.vast_literal.specs.Tokens.{Less, level, OpenParen, CloseParen, Comma, Semicolon, Dot, Key, BeginKey, EndKey, WireKey, RegKey, LogicKey, IntKey, PosedgeKey, NegedgeKey, OrKey, Token, Reserved, Word, Operator, Mark}
-use Rattle.vast_literal.specs.Tree.{Dialect, LtOp, ExprTree, NameTree, PosEdgeTree, NegEdgeTree, MacroTree, MaybeExpr, NoExpr, SomeExpr, Exprs, NoExprs, MoreExprs, NoArguments, SomeArguments, Kind, RegKind, WireKind, LogicKind, Declaration, Continuous, AlwaysWord, AlwaysFFWord, AlwaysAtWord, AlwaysCombWord, AlwaysStarWord, AlwaysLatchWord, InitialWord, ParameterName, PlainParameter, IntParameter, DefinedParameter, Connection, InstanceTree, FunctionTree, MemberTree, DeclarationMember, AssignMember, ParameterMember, CommentMember, BlankMember, InlineMember, MacroMember, InstanceMember, AlwaysMember, ConditionalMember, FunctionMember, LoopMember, Members, NoMembers, MoreMembers}
+use Rattle.vast_literal.specs.Tree.{Dialect, LtOp, ExprTree, NameTree, PosEdgeTree, NegEdgeTree, MacroTree, MaybeExpr, NoExpr, SomeExpr, Exprs, NoExprs, MoreExprs, NoArguments, SomeArguments, Kind, RegKind, WireKind, LogicKind, Declaration, Continuous, AlwaysWord, AlwaysFFWord, AlwaysAtWord, AlwaysCombWord, AlwaysStarWord, AlwaysLatchWord, InitialWord, ParameterName, PlainParameter, IntParameter, DefinedParameter, Connection, InstanceTree, FunctionTree, MemberTree, DeclarationMember, AssignMember, ParameterMember, CommentMember, BlankMember, InlineMember, ImportMember, MacroMember, InstanceMember, AlwaysMember, ConditionalMember, FunctionMember, LoopMember, Members, NoMembers, MoreMembers}
 use Rattle.vast_literal.specs.NormalExpr.{NormalExpr, Name, Binary, binary_operator_token, normal}
 use Rattle.vast_literal.specs.NormalFile.{NormalStatements, Event, AssignPart, InstancePart, NormalMembers}
 use Rattle.vast_literal.specs.Grammar.{Spells, binary, name}
-use Rattle.vast_literal.specs.FileGrammar.{IsMany, no_items, more_items, IsJoined, last_item, next_item, IsList, empty, full, IsStatements, is_kind, absent, present, no_type, IsDeclaration, declares, is_member_kind, is_local_kind, is_parameter_word, is_edge, IsEvent, edge, plain, IsInput, input, IsDeclared, declared, IsGiven, given, IsConnection, connected, unconnected, IsGivenList, no_parameters, with_parameters, IsSemicolon, with_one, without, IsLabel, no_label, labelled, IsMember, declaration, continuous, parameter, macro, macro_with, instance, unclocked, clocked, conditional, function, loop, IsMembers, closed, and_member}
+use Rattle.vast_literal.specs.FileGrammar.{IsMany, no_items, more_items, IsJoined, last_item, next_item, IsList, empty, full, IsStatements, is_kind, absent, present, no_type, IsDeclaration, declares, is_member_kind, is_local_kind, is_parameter_word, is_edge, IsEvent, edge, plain, IsInput, input, IsDeclared, declared, IsGiven, given, IsConnection, connected, unconnected, IsGivenList, no_parameters, with_parameters, IsSemicolon, with_one, without, IsLabel, no_label, labelled, IsMember, declaration, continuous, parameter, macro, macro_with, import_member, instance, unclocked, clocked, conditional, function, loop, IsMembers, closed, and_member}
 use Rattle.vast_literal.specs.Plain.{is_plain_name, is_plain, are_plain}
 use Rattle.vast_literal.specs.Shape.{right_child_wraps, result_kind}
 use Rattle.vast_literal.proofs.ExprTokens.{wrapped_tokens, expr_tokens}
@@ -215,6 +215,7 @@ mutual
   before_spelled dialect (CommentMember text) p w rest = rest
   before_spelled dialect BlankMember p w rest = rest
   before_spelled dialect (InlineMember text) p w rest = rest
+  before_spelled dialect (ImportMember package_name) p w rest = and_member (import_member package_name) rest
   before_spelled dialect (MacroMember e s) p w rest = and_member (macro_spelled e s p w) rest
   before_spelled dialect (InstanceMember i) p w rest = and_member (instance_spelled i p w) rest
   before_spelled dialect (AlwaysMember word es b) p w rest =

@@ -1,6 +1,6 @@
 -- Pieces of text one after the other.
 use Rattle.std.proofs.Common.{◌≡◌, ℕ, List, [], ◌∷◌, ◌++◌, Bool, true, false, not, ◌||◌, Some, refl, sym, ◌∙◌, ap, append_assoc}
-use Rattle.vast_literal.specs.Tokens.{Op, BitOr, BitXor, BitAnd, Minus, BitNot, LogicNot, OpenParen, CloseParen, OpenBracket, CloseBracket, OpenBrace, CloseBrace, Comma, Colon, Question, Apostrophe, Token, Number, Operator, Mark, word_token}
+use Rattle.vast_literal.specs.Tokens.{Op, BitOr, BitXor, BitAnd, Minus, BitNot, LogicNot, OpenParen, CloseParen, OpenBracket, CloseBracket, OpenBrace, CloseBrace, Comma, Colon, Dot, Question, Apostrophe, Token, Number, Operator, Mark, word_token}
 use Rattle.vast_literal.specs.Tree.{UnaryOp, NegateOp, BitwiseNotOp, LogicalNotOp, AndReduceOp, OrReduceOp, XorReduceOp}
 use Rattle.vast_literal.specs.Scan.{Gap, cons_token, add_tokens, scan}
 use Rattle.vast_literal.specs.NormalExpr.{unary_operator_token}
@@ -80,6 +80,10 @@ close_brace = record { free = record { at = λ rest. refl }; stop = λ rest. ref
 pub comma : Divides (44 ∷ 32 ∷ []) (Mark Comma ∷ [])
 unfolding scan
 comma = record { free = record { at = λ rest. refl }; stop = λ rest. refl }
+
+pub dot : Divides (46 ∷ []) (Mark Dot ∷ [])
+unfolding scan
+dot = record { free = record { at = λ rest. refl }; stop = λ rest. refl }
 
 pub question : Divides (32 ∷ 63 ∷ 32 ∷ []) (Mark Question ∷ [])
 unfolding scan

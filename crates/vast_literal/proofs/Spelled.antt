@@ -2,10 +2,10 @@
 use Rattle.std.proofs.Common.{◌≡◌, ℕ, suc, ◌≤◌, List, [], ◌∷◌, ◌++◌, Bool, true, false, cond, not, ◌&&◌, eqb, IsTrue, refl, append_assoc, append-nil, arith}
 use Rattle.std.specs.Fmt.{signed_decimal}
 use Rattle.vast_literal.specs.Tokens.{Minus, level, is_unary, OpenParen, CloseParen, Key, LogicKey, SignedKey, UnsignedKey, IntegerKey, IntKey, Token, Word, Number, Mark}
-use Rattle.vast_literal.specs.Tree.{UnaryOp, NegateOp, ExprTree, NameTree, LiteralTree, StringTree, UnaryTree, BinaryTree, TernaryTree, IndexTree, SliceTree, PartSelectTree, ConcatTree, PatternTree, WidthCastTree, TypeCastTree, PosEdgeTree, NegEdgeTree, MacroTree, CallTree, MissingExpr, TypeTree, ScalarTree, VectorTree, IntegerTree, IntTree, ExternalTree, PackageTree, NoExpr, SomeExpr, Exprs, NoExprs, MoreExprs, NoArguments, SomeArguments}
+use Rattle.vast_literal.specs.Tree.{UnaryOp, NegateOp, ExprTree, NameTree, LiteralTree, StringTree, UnaryTree, BinaryTree, TernaryTree, IndexTree, SliceTree, PartSelectTree, MemberOfTree, ConcatTree, PatternTree, WidthCastTree, TypeCastTree, PosEdgeTree, NegEdgeTree, MacroTree, CallTree, MissingExpr, TypeTree, ScalarTree, VectorTree, IntegerTree, IntTree, ExternalTree, PackageTree, NoExpr, SomeExpr, Exprs, NoExprs, MoreExprs, NoArguments, SomeArguments}
 use Rattle.vast_literal.specs.Shape.{is_scalar_name, is_zero, is_elided_index, is_elided_slice, unary_wraps, left_child_wraps, right_child_wraps, ternary_wraps, select_wraps}
 use Rattle.vast_literal.specs.NormalExpr.{NormalExpr, Name, Literal, Call, Cast, NormalExprs, NoNormals, MoreNormals, unary_operator_token, binary_operator_token, normal_literal, signing_key, normal_word_cast, scalar_sign, integer_sign, normal, normal_cast, normals}
-use Rattle.vast_literal.specs.Grammar.{is_cast_word, Spells, ternary, binary, unary, index, slice, part_select, name, number, based, quoted, paren, call, system_call, concat, replicated, array_pattern, macro_alone, macro_call, number_cast, name_cast, package_cast, paren_cast, word_cast, SpellsList, none, some, SpellsJoined, last, next}
+use Rattle.vast_literal.specs.Grammar.{is_cast_word, Spells, ternary, binary, unary, index, slice, part_select, member_of, name, number, based, quoted, paren, call, system_call, concat, replicated, array_pattern, macro_alone, macro_call, number_cast, name_cast, package_cast, paren_cast, word_cast, SpellsList, none, some, SpellsJoined, last, next}
 use Rattle.vast_literal.specs.LiteralToken.{is_number}
 use Rattle.vast_literal.proofs.LiteralToken.{bare_token, literal_tokens}
 use Rattle.vast_literal.specs.Plain.{is_plain, is_plain_type, are_plain, is_plain_name, is_called_name}
@@ -163,6 +163,7 @@ mutual
   spelled (PartSelectTree s i n) l w =
       let w1 = and_right (is_well_formed s) (is_well_formed i && is_positive n) w in
       part_select (signed_decimal n) (subject_spells s (spelled s (and_left _ _ l) (and_left _ _ w))) (low i (spelled i (and_right (is_plain s) (is_plain i) l) (and_left _ _ w1)))
+  spelled (MemberOfTree s n) l w = member_of n (subject_spells s (spelled s (and_right (is_plain_name n) (is_plain s) l) w))
   spelled (ConcatTree NoExpr es) l w = below (concat (list_spells (each_spelled es l w)))
   spelled (ConcatTree (SomeExpr n) es) l w =
       below (replicated (low n (spelled n (and_left _ _ l) (and_left _ _ w))) (list_spells (each_spelled es (and_right (is_plain n) (are_plain es) l) (and_right (is_well_formed n) (are_well_formed es) w))))

@@ -3,10 +3,10 @@ use Rattle.std.specs.Prelude.{◌≡◌, ℕ, List, [], ◌∷◌, ◌++◌, Boo
 use Rattle.vast_literal.specs.Tokens.{Less, LessEqual, Plus, Key, IfKey, ElseKey, CaseKey, CasezKey, CasexKey, EndCaseKey, DefaultKey, UniqueKey, BeginKey, EndKey, AssignKey, WireKey, RegKey, LogicKey, IntegerKey, IntKey, GenvarKey, SignedKey, UnsignedKey, ModuleKey, EndModuleKey, ParameterKey, LocalparamKey, PosedgeKey, NegedgeKey, OrKey, FunctionKey, AutomaticKey, EndFunctionKey, InputKey, OutputKey, InOutKey, ForKey}
 use Rattle.vast_literal.specs.Tokens.{OpenParen, CloseParen, OpenBracket, CloseBracket, Comma, Colon, Semicolon, Dot, Hash, DoubleColon, Assign, Token, Reserved, Word, MacroWord, Number, Quoted, Operator, Mark}
 use Rattle.vast_literal.specs.Tree.{AlwaysWord}
-use Rattle.vast_literal.specs.Shape.{always_words, has_events}
+use Rattle.vast_literal.specs.Shape.{always_words, has_events, import_words}
 use Rattle.vast_literal.specs.Lexemes.{Lexes}
 use Rattle.vast_literal.specs.NormalExpr.{NormalExpr, Name, Binary, NormalExprs}
-use Rattle.vast_literal.specs.NormalFile.{NormalStatement, BlockingStatement, NonblockingStatement, AssignStatement, TaskStatement, ChoiceStatement, CaseStatement, NormalStatements, Done, Then, Arms, Only, Otherwise, Or, Labels, NoLabels, Label, Group, One, Range, NormalDeclaration, Event, EdgeEvent, NameEvent, NormalConnection, NormalMember, DeclarationPart, AssignPart, ParameterPart, MacroPart, InstancePart, AlwaysPart, ConditionalPart, FunctionPart, LoopPart, NormalMembers, NoParts, MoreParts, NormalParameter, NormalPort, NormalItem, ModulePart, IncludePart, NormalFile}
+use Rattle.vast_literal.specs.NormalFile.{NormalStatement, BlockingStatement, NonblockingStatement, AssignStatement, TaskStatement, ChoiceStatement, CaseStatement, NormalStatements, Done, Then, Arms, Only, Otherwise, Or, Labels, NoLabels, Label, Group, One, Range, NormalDeclaration, Event, EdgeEvent, NameEvent, NormalConnection, NormalMember, DeclarationPart, AssignPart, ParameterPart, MacroPart, ImportPart, InstancePart, AlwaysPart, ConditionalPart, FunctionPart, LoopPart, NormalMembers, NoParts, MoreParts, NormalParameter, NormalPort, NormalItem, ModulePart, IncludePart, FileImportPart, NormalFile}
 use Rattle.vast_literal.specs.Grammar.{Spells, SpellsList}
 
 -- Lists.
@@ -198,6 +198,8 @@ mutual
     macro : {ss : List Token} {s : Bool} (m : List ℕ) → IsSemicolon ss s → IsMember (MacroWord m ∷ ss) (MacroPart m None s)
     macro_with : {ts ss : List Token} {xs : NormalExprs} {s : Bool} (m : List ℕ) → SpellsList ts xs → IsSemicolon ss s →
         IsMember (MacroWord m ∷ (Mark OpenParen ∷ (ts ++ (Mark CloseParen ∷ ss)))) (MacroPart m (Some xs) s)
+    -- import P :: * ;
+    import_member : (p : List ℕ) → IsMember (import_words p) (ImportPart p)
     -- M # ( .. ) I ( .. ) ;
     instance : {ps cs : List Token} {p c : List NormalConnection} (m i : List ℕ) → IsGivenList ps p → IsList IsConnection (Mark Comma) cs c →
         IsMember (Word m ∷ (ps ++ (Word i ∷ (Mark OpenParen ∷ (cs ++ (Mark CloseParen ∷ (Mark Semicolon ∷ []))))))) (InstancePart m p i c)
@@ -248,6 +250,8 @@ pub data IsItem : List Token → NormalItem → Type 0 where
       IsItem (Reserved ModuleKey ∷ (Word n ∷ (ps ++ (qs ++ (Mark Semicolon ∷ ms))))) (ModulePart (record { name = n; parameters = p; ports = q; members = m }))
   -- ` include "path"
   include_item : (path : List ℕ) → IsItem (MacroWord (codes "include") ∷ (Quoted (34 ∷ (path ++ (34 ∷ []))) ∷ [])) (IncludePart path)
+  -- import P :: * ;
+  import_item : (p : List ℕ) → IsItem (import_words p) (FileImportPart p)
 
 -- The tokens spell the file.
 pub data IsFile : List Token → NormalFile → Type 0 where

@@ -1,10 +1,10 @@
 -- The grammar of expressions: which token lists spell which normal expression, at which level.
 use Rattle.std.specs.Prelude.{◌≡◌, ℕ, suc, ◌<◌, List, [], ◌∷◌, ◌++◌, Bool, true, false, IsTrue}
 use Rattle.vast_literal.specs.Tokens.{Op, level, is_unary, Key, LogicKey, SignedKey, UnsignedKey, IntegerKey, IntKey}
-use Rattle.vast_literal.specs.Tokens.{OpenParen, CloseParen, OpenBracket, CloseBracket, OpenBrace, CloseBrace, Comma, Colon, Question, DoubleColon, PlusColon, Apostrophe}
+use Rattle.vast_literal.specs.Tokens.{OpenParen, CloseParen, OpenBracket, CloseBracket, OpenBrace, CloseBrace, Comma, Colon, Dot, Question, DoubleColon, PlusColon, Apostrophe}
 use Rattle.vast_literal.specs.Tokens.{Token, Reserved, Word, SystemWord, MacroWord, Number, Based, Quoted, Operator, Mark}
 use Rattle.vast_literal.specs.Lexemes.{Lexes}
-use Rattle.vast_literal.specs.NormalExpr.{NormalExpr, Name, Literal, Text, MacroAlone, Unary, Binary, Ternary, Index, Slice, PartSelect, Concat, Pattern, Replicated, Call, MacroCall, Cast, PackageCast, WordCast, NormalExprs, NoNormals, MoreNormals}
+use Rattle.vast_literal.specs.NormalExpr.{NormalExpr, Name, Literal, Text, MacroAlone, Unary, Binary, Ternary, Index, Slice, PartSelect, MemberOf, Concat, Pattern, Replicated, Call, MacroCall, Cast, PackageCast, WordCast, NormalExprs, NoNormals, MoreNormals}
 
 -- The keywords that head a cast.
 unfoldable pub is_cast_word : Key → Bool
@@ -32,6 +32,8 @@ mutual
     -- s [ i +: n ]
     part_select : {ss is : List Token} {s i : NormalExpr} (n : List ℕ) → Spells 13 ss s → Spells 0 is i →
         Spells 13 (ss ++ (Mark OpenBracket ∷ (is ++ (Mark PlusColon ∷ (Number n ∷ (Mark CloseBracket ∷ [])))))) (PartSelect s i n)
+    -- s . m
+    member_of : {ss : List Token} {s : NormalExpr} (m : List ℕ) → Spells 13 ss s → Spells 13 (ss ++ (Mark Dot ∷ (Word m ∷ []))) (MemberOf s m)
     name : (w : List ℕ) → Spells 14 (Word w ∷ []) (Name w)
     number : (w : List ℕ) → Spells 14 (Number w ∷ []) (Literal w)
     based : (w : List ℕ) → Spells 14 (Based w ∷ []) (Literal w)

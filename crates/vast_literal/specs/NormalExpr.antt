@@ -5,7 +5,7 @@ use Rattle.vast_literal.specs.Tokens.{Op, BitOr, BitXor, BitAnd, Minus, BitNot, 
 use Rattle.vast_literal.specs.Tokens.{Key, LogicKey, IntegerKey, IntKey, SignedKey, UnsignedKey}
 use Rattle.vast_literal.specs.Tree.{UnaryOp, NegateOp, BitwiseNotOp, LogicalNotOp, AndReduceOp, OrReduceOp, XorReduceOp}
 use Rattle.vast_literal.specs.Tree.{BinaryOp}
-use Rattle.vast_literal.specs.Tree.{ExprTree, NameTree, LiteralTree, StringTree, UnaryTree, BinaryTree, TernaryTree, IndexTree, SliceTree, PartSelectTree, ConcatTree, PatternTree, WidthCastTree, TypeCastTree, PosEdgeTree, NegEdgeTree, MacroTree, CallTree, MissingExpr}
+use Rattle.vast_literal.specs.Tree.{ExprTree, NameTree, LiteralTree, StringTree, UnaryTree, BinaryTree, TernaryTree, IndexTree, SliceTree, PartSelectTree, MemberOfTree, ConcatTree, PatternTree, WidthCastTree, TypeCastTree, PosEdgeTree, NegEdgeTree, MacroTree, CallTree, MissingExpr}
 use Rattle.vast_literal.specs.Tree.{TypeTree, ScalarTree, VectorTree, IntegerTree, IntTree, ExternalTree, PackageTree}
 use Rattle.vast_literal.specs.Tree.{NoExpr, SomeExpr, Exprs, NoExprs, MoreExprs, NoArguments, SomeArguments}
 use Rattle.vast_literal.specs.Shape.{binary_row, is_elided_index, is_elided_slice}
@@ -20,6 +20,7 @@ mutual
     Index : (subject index : NormalExpr) → NormalExpr
     Slice : (subject high low : NormalExpr) → NormalExpr
     PartSelect : (subject start : NormalExpr) (width : List ℕ) → NormalExpr
+    MemberOf : (subject : NormalExpr) (name : List ℕ) → NormalExpr
     Concat Pattern : (parts : NormalExprs) → NormalExpr
     Replicated : (count : NormalExpr) (parts : NormalExprs) → NormalExpr
     Call MacroCall : (name : List ℕ) (arguments : NormalExprs) → NormalExpr
@@ -79,6 +80,7 @@ unfoldable mutual
   normal (IndexTree subject index) = cond (is_elided_index subject index) (normal subject) (Index (normal subject) (normal index))
   normal (SliceTree subject high low) = cond (is_elided_slice subject high low) (normal subject) (Slice (normal subject) (normal high) (normal low))
   normal (PartSelectTree subject start width) = PartSelect (normal subject) (normal start) (signed_decimal width)
+  normal (MemberOfTree subject name) = MemberOf (normal subject) name
   normal (ConcatTree NoExpr parts) = Concat (normals parts)
   normal (ConcatTree (SomeExpr count) parts) = Replicated (normal count) (normals parts)
   normal (PatternTree parts) = Pattern (normals parts)

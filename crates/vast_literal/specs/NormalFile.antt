@@ -59,6 +59,7 @@ mutual
     AssignPart : (left right : NormalExpr) → NormalMember
     ParameterPart : (word : Key) → NormalDeclaration → (value : NormalExpr) → NormalMember
     MacroPart : (name : List ℕ) (arguments : Option NormalExprs) (semicolon : Bool) → NormalMember
+    ImportPart : (package_name : List ℕ) → NormalMember
     InstancePart : (module_name : List ℕ) (parameters : List NormalConnection) (instance_name : List ℕ) (connections : List NormalConnection) → NormalMember
     AlwaysPart : AlwaysWord → List Event → (body : NormalStatements) → NormalMember
     ConditionalPart : Arms → NormalMember
@@ -88,6 +89,7 @@ pub record NormalModule : Type 0 where
 pub data NormalItem : Type 0 where
   ModulePart : NormalModule → NormalItem
   IncludePart : (path : List ℕ) → NormalItem
+  FileImportPart : (package_name : List ℕ) → NormalItem
 
 -- A file's items, in their order.
 pub record NormalFile : Type 0 where

@@ -8,11 +8,11 @@ use Rattle.vast_literal.specs.Tree.{TypeTree, ScalarTree, VectorTree, IntegerTre
 use Rattle.vast_literal.specs.Tree.{Kind, RegKind, WireKind, LogicKind, IntegerKind, IntKind, GenvarKind, Declaration}
 use Rattle.vast_literal.specs.Tree.{AssignForm, Blocking, Nonblocking, Continuous, CaseWord, CaseExact, CaseZ, CaseX, StatementTree, AssignTree, TaskTree, ConditionalTree, CaseTree, Statements, NoStatements, MoreStatements, Alternates, NoElse, ElseIf, Else, CaseArms, NoCaseArms, CaseArm}
 use Rattle.vast_literal.specs.Tree.{AlwaysWord, ParameterName, PlainParameter, IntParameter, DefinedParameter, Connection, FunctionTree}
-use Rattle.vast_literal.specs.Tree.{MemberTree, DeclarationMember, AssignMember, ParameterMember, MacroMember, InstanceMember, AlwaysMember, ConditionalMember, FunctionMember, LoopMember, Members, NoMembers, MoreMembers}
-use Rattle.vast_literal.specs.Tree.{PortDirection, InputDirection, OutputDirection, InOutDirection, PortTree, ParameterPortTree, ModuleTree, FileItemTree, ModuleItem, IncludeItem, FileTree}
+use Rattle.vast_literal.specs.Tree.{MemberTree, DeclarationMember, AssignMember, ParameterMember, ImportMember, MacroMember, InstanceMember, AlwaysMember, ConditionalMember, FunctionMember, LoopMember, Members, NoMembers, MoreMembers}
+use Rattle.vast_literal.specs.Tree.{PortDirection, InputDirection, OutputDirection, InOutDirection, PortTree, ParameterPortTree, ModuleTree, FileItemTree, ModuleItem, IncludeItem, ImportItem, FileTree}
 use Rattle.vast_literal.specs.Shape.{literal_value, base_of, packed_dimensions, unpacked_dimensions, port_kind, base_kind, result_kind, name_alone, has_events}
 use Rattle.vast_literal.specs.NormalExpr.{NormalExpr, Name, Literal, Binary, NormalExprs, normal_literal, scalar_sign, integer_sign, normal, normals}
-use Rattle.vast_literal.specs.NormalFile.{NormalStatement, BlockingStatement, NonblockingStatement, AssignStatement, TaskStatement, ChoiceStatement, CaseStatement, NormalStatements, Done, Then, Arms, Only, Otherwise, Or, Labels, NoLabels, Label, Group, One, Range, NormalDeclaration, Event, EdgeEvent, NameEvent, NormalConnection, NormalMember, DeclarationPart, AssignPart, ParameterPart, MacroPart, InstancePart, AlwaysPart, ConditionalPart, FunctionPart, LoopPart, NormalMembers, NoParts, MoreParts, NormalParameter, NormalPort, NormalModule, NormalItem, ModulePart, IncludePart, NormalFile}
+use Rattle.vast_literal.specs.NormalFile.{NormalStatement, BlockingStatement, NonblockingStatement, AssignStatement, TaskStatement, ChoiceStatement, CaseStatement, NormalStatements, Done, Then, Arms, Only, Otherwise, Or, Labels, NoLabels, Label, Group, One, Range, NormalDeclaration, Event, EdgeEvent, NameEvent, NormalConnection, NormalMember, DeclarationPart, AssignPart, ParameterPart, MacroPart, ImportPart, InstancePart, AlwaysPart, ConditionalPart, FunctionPart, LoopPart, NormalMembers, NoParts, MoreParts, NormalParameter, NormalPort, NormalModule, NormalItem, ModulePart, IncludePart, FileImportPart, NormalFile}
 
 -- Declarations.
 
@@ -185,6 +185,7 @@ unfoldable mutual
   normal_member_before dialect (DeclarationMember d) rest = MoreParts (DeclarationPart (normal_declared dialect d)) rest
   normal_member_before dialect (AssignMember left right) rest = MoreParts (AssignPart (normal left) (normal right)) rest
   normal_member_before dialect (ParameterMember local parameter value) rest = MoreParts (ParameterPart (parameter_key local) (normal_parameter_name dialect parameter) (normal value)) rest
+  normal_member_before dialect (ImportMember package_name) rest = MoreParts (ImportPart package_name) rest
   normal_member_before dialect (MacroMember call semicolon) rest = MoreParts (normal_macro call semicolon) rest
   normal_member_before dialect (InstanceMember i) rest = MoreParts (InstancePart i.module_name (map normal_connection i.parameters) i.instance_name (map normal_connection i.connections)) rest
   normal_member_before dialect (AlwaysMember word events body) rest = MoreParts (normal_always word events (normal_statements body)) rest
@@ -222,6 +223,7 @@ normal_module dialect m = record { name = m.name; parameters = map (normal_param
 unfoldable pub normal_item_before : Dialect → FileItemTree → List NormalItem → List NormalItem
 normal_item_before dialect (ModuleItem m) rest = ModulePart (normal_module dialect m) ∷ rest
 normal_item_before dialect (IncludeItem path) rest = IncludePart path ∷ rest
+normal_item_before dialect (ImportItem package_name) rest = FileImportPart package_name ∷ rest
 normal_item_before dialect _ rest = rest
 
 unfoldable pub normal_items : Dialect → List FileItemTree → List NormalItem

@@ -3,7 +3,7 @@ use Rattle.std.specs.Prelude.{ℕ, List, [], ◌∷◌, Bool, true, false, cond,
 use Rattle.vast_literal.specs.Keyword.{is_keyword}
 use Rattle.vast_literal.specs.Scan.{is_letter, is_word_byte}
 use Rattle.vast_literal.specs.LiteralToken.{every}
-use Rattle.vast_literal.specs.Tree.{ExprTree, NameTree, UnaryTree, BinaryTree, TernaryTree, IndexTree, SliceTree, PartSelectTree, ConcatTree, PatternTree, WidthCastTree, TypeCastTree, PosEdgeTree, NegEdgeTree, MacroTree, CallTree, MissingExpr}
+use Rattle.vast_literal.specs.Tree.{ExprTree, NameTree, UnaryTree, BinaryTree, TernaryTree, IndexTree, SliceTree, PartSelectTree, MemberOfTree, ConcatTree, PatternTree, WidthCastTree, TypeCastTree, PosEdgeTree, NegEdgeTree, MacroTree, CallTree, MissingExpr}
 use Rattle.vast_literal.specs.Tree.{TypeTree, VectorTree, ExternalTree, PackageTree, PackedTree, UnpackedTree, MissingType}
 use Rattle.vast_literal.specs.Tree.{NoExpr, SomeExpr, Exprs, NoExprs, MoreExprs, NoArguments, SomeArguments}
 
@@ -31,6 +31,7 @@ abbrev mutual
   is_plain (IndexTree subject index) = is_plain subject && is_plain index
   is_plain (SliceTree subject high low) = is_plain subject && (is_plain high && is_plain low)
   is_plain (PartSelectTree subject start width) = is_plain subject && is_plain start
+  is_plain (MemberOfTree subject name) = is_plain_name name && is_plain subject
   is_plain (ConcatTree NoExpr parts) = are_plain parts
   is_plain (ConcatTree (SomeExpr count) parts) = is_plain count && are_plain parts
   is_plain (PatternTree parts) = are_plain parts

@@ -1,11 +1,11 @@
 -- Plain files: all names that are printed are identifiers and no keywords, and nothing stands where it has no meaning.
 use Rattle.std.specs.Prelude.{ℕ, List, [], ◌∷◌, Bool, true, false, not, ◌&&◌, ◌||◌, eqb, Option, Some, None, if◌then◌else◌}
-use Rattle.vast_literal.specs.Tree.{ExprTree, NameTree, IndexTree, SliceTree, PartSelectTree, ConcatTree, PosEdgeTree, NegEdgeTree, MacroTree, CallTree, TypeTree}
+use Rattle.vast_literal.specs.Tree.{ExprTree, NameTree, IndexTree, SliceTree, PartSelectTree, MemberOfTree, ConcatTree, PosEdgeTree, NegEdgeTree, MacroTree, CallTree, TypeTree}
 use Rattle.vast_literal.specs.Tree.{MaybeExpr, NoExpr, SomeExpr, Exprs, NoExprs, MoreExprs, MaybeType, Untyped, Typed, Declaration}
 use Rattle.vast_literal.specs.Tree.{StatementTree, AssignTree, TaskTree, InlineTree, ConditionalTree, CaseTree, Statements, NoStatements, MoreStatements, Alternates, NoElse, ElseIf, Else, CaseArms, NoCaseArms, CaseArm}
 use Rattle.vast_literal.specs.Tree.{AlwaysWord, ParameterName, PlainParameter, IntParameter, DefinedParameter, Connection, InstanceTree, FunctionTree}
-use Rattle.vast_literal.specs.Tree.{MemberTree, DeclarationMember, AssignMember, ParameterMember, InlineMember, MacroMember, InstanceMember, AlwaysMember, ConditionalMember, FunctionMember, LoopMember, Members, NoMembers, MoreMembers}
-use Rattle.vast_literal.specs.Tree.{PortTree, ParameterPortTree, ModuleTree, FileItemTree, ModuleItem, IncludeItem, FileTree}
+use Rattle.vast_literal.specs.Tree.{MemberTree, DeclarationMember, AssignMember, ParameterMember, InlineMember, ImportMember, MacroMember, InstanceMember, AlwaysMember, ConditionalMember, FunctionMember, LoopMember, Members, NoMembers, MoreMembers}
+use Rattle.vast_literal.specs.Tree.{PortTree, ParameterPortTree, ModuleTree, FileItemTree, ModuleItem, IncludeItem, ImportItem, FileTree}
 use Rattle.vast_literal.specs.LiteralToken.{every}
 use Rattle.vast_literal.specs.Shape.{has_events}
 use Rattle.vast_literal.specs.Plain.{is_plain_name, is_plain, is_plain_type}
@@ -14,9 +14,9 @@ abbrev pub is_plain_maybe : MaybeExpr → Bool
 is_plain_maybe NoExpr = true
 is_plain_maybe (SomeExpr value) = is_plain value
 
--- A name, a select or a concatenation.
+-- A name, a select, a member or a concatenation.
 abbrev pub is_left_side : ExprTree → Bool
-is_left_side e = elim e [ NameTree name type ↦ true | IndexTree subject index ↦ true | SliceTree subject high low ↦ true | PartSelectTree subject start width ↦ true | ConcatTree count parts ↦ true | _ ↦ false ]
+is_left_side e = elim e [ NameTree name type ↦ true | IndexTree subject index ↦ true | SliceTree subject high low ↦ true | PartSelectTree subject start width ↦ true | MemberOfTree subject name ↦ true | ConcatTree count parts ↦ true | _ ↦ false ]
 
 -- A call of a function or of a task, or the use of a macro.
 abbrev pub is_call : ExprTree → Bool
@@ -92,6 +92,7 @@ abbrev mutual
   is_plain_member (AssignMember left right) = is_plain_assignment left right
   is_plain_member (ParameterMember local parameter value) = is_plain_parameter_name parameter && is_plain value
   is_plain_member (InlineMember text) = false
+  is_plain_member (ImportMember package_name) = is_plain_name package_name
   is_plain_member (MacroMember call semicolon) = is_plain call
   is_plain_member (InstanceMember i) = is_plain_instance i
   is_plain_member (AlwaysMember word events body) = are_plain_awaited word events && are_plain_statements body
@@ -125,10 +126,11 @@ abbrev pub are_plain_items : List FileItemTree → Bool
 are_plain_items [] = true
 are_plain_items (ModuleItem m ∷ items) = is_plain_module m && are_plain_items items
 are_plain_items (IncludeItem path ∷ items) = every is_path_byte path && are_plain_items items
+are_plain_items (ImportItem package_name ∷ items) = is_plain_name package_name && are_plain_items items
 are_plain_items (_ ∷ items) = are_plain_items items
 
 -- The names of the file's modules, instances, ports, connections, parameters, labels, packages, types and macros are plain, no
--- inline text stands in it, edges stand only in the lists of events, left sides are names, selects and concatenations, and what
+-- inline text stands in it, edges stand only in the lists of events, left sides are names, selects, members and concatenations, and what
 -- stands as a statement by itself is a call. What isn't printed is not asked: the types of names, and events that aren't listed.
 abbrev pub is_plain_file : FileTree → Bool
 is_plain_file f = are_plain_items f.items

@@ -1,7 +1,7 @@
 -- What the shape of a tree decides: where parentheses stand, which selects are left out, which dimensions an
--- array has, with which kind something is declared, which arms and calls stand bare, and how an always block begins. The layout, the tokens of its text and the normal form go by these.
+-- array has, with which kind something is declared, which arms and calls stand bare, how an always block begins, and what an import is. The layout, the tokens of its text and the normal form go by these.
 use Rattle.std.specs.Prelude.{ℕ, ℤ, pos, Bool, true, false, cond, ◌&&◌, ◌||◌, ◌==◌, List, [], ◌∷◌, Option, Some, None, nat_lt, nat_le}
-use Rattle.vast_literal.specs.Tokens.{Op, LogicOr, LogicAnd, BitOr, BitXor, BitAnd, NotEqual, CaseNotEqual, Equal, CaseEqual, GreaterEqual, Greater, LessEqual, Less, ShiftLeft, ShiftRightSigned, ShiftRight, Plus, Minus, Times, Divide, Modulo, Power, OpenParen, At, AlwaysCombKey, AlwaysFFKey, AlwaysKey, AlwaysLatchKey, InitialKey, Token, Reserved, Operator, Mark}
+use Rattle.vast_literal.specs.Tokens.{Op, LogicOr, LogicAnd, BitOr, BitXor, BitAnd, NotEqual, CaseNotEqual, Equal, CaseEqual, GreaterEqual, Greater, LessEqual, Less, ShiftLeft, ShiftRightSigned, ShiftRight, Plus, Minus, Times, Divide, Modulo, Power, OpenParen, Semicolon, At, DoubleColon, AlwaysCombKey, AlwaysFFKey, AlwaysKey, AlwaysLatchKey, InitialKey, ImportKey, Token, Reserved, Word, Operator, Mark}
 use Rattle.vast_literal.specs.Tree.{UnaryOp, NegateOp, BitwiseNotOp, LogicalNotOp}
 use Rattle.vast_literal.specs.Tree.{BinaryOp, AddOp, SubOp, MulOp, DivOp, ModOp, PowerOp, BitwiseAndOp, BitwiseOrOp, BitwiseXorOp, ShllOp, ShraOp, ShrlOp, NeOp, CaseNeOp, EqOp, CaseEqOp, GeOp, GtOp, LeOp, LtOp, LogicalAndOp, LogicalOrOp, NeXOp, EqXOp}
 use Rattle.vast_literal.specs.Tree.{ExprTree, NameTree, LiteralTree, UnaryTree, BinaryTree, TernaryTree, WidthCastTree, CallTree}
@@ -121,7 +121,7 @@ right_child_wraps o e = nat_le (precedence e) (binary_precedence o) || is_reduct
 abbrev pub ternary_wraps : ExprTree → Bool
 ternary_wraps e = precedence e == 0
 
--- Before brackets: whatever has an operator, a literal with a minus.
+-- Before brackets and before a member: whatever has an operator, a literal with a minus.
 abbrev pub select_wraps : ExprTree → Bool
 select_wraps e = nat_lt (precedence e) 13 || is_negative_literal e
 
@@ -222,3 +222,7 @@ always_words word = (always_row word).0
 
 abbrev pub has_events : AlwaysWord → Bool
 has_events word = (always_row word).1
+
+-- import P :: * ;
+abbrev pub import_words : (package_name : List ℕ) → List Token
+import_words package_name = Reserved ImportKey ∷ Word package_name ∷ Mark DoubleColon ∷ Operator Times ∷ Mark Semicolon ∷ []

@@ -31,6 +31,8 @@ mutual
     IndexTree : (subject index : ExprTree) → ExprTree
     SliceTree : (subject high low : ExprTree) → ExprTree
     PartSelectTree : (subject start : ExprTree) (width : ℤ) → ExprTree
+    -- A member of a value of a named type.
+    MemberOfTree : (subject : ExprTree) (name : List ℕ) → ExprTree
     ConcatTree : (count : MaybeExpr) (parts : Exprs) → ExprTree
     PatternTree : (parts : Exprs) → ExprTree
     WidthCastTree : (width operand : ExprTree) → ExprTree
@@ -130,6 +132,8 @@ mutual
     ParameterMember : (local : Bool) (parameter : ParameterName) (value : ExprTree) → MemberTree
     CommentMember InlineMember : (text : List ℕ) → MemberTree
     BlankMember : MemberTree
+    -- All that a package declares.
+    ImportMember : (package_name : List ℕ) → MemberTree
     MacroMember : (call : ExprTree) (semicolon : Bool) → MemberTree
     InstanceMember : InstanceTree → MemberTree
     AlwaysMember : AlwaysWord → (events : Exprs) (body : Statements) → MemberTree
@@ -161,6 +165,7 @@ pub record ModuleTree : Type 0 where
 pub data FileItemTree : Type 0 where
   ModuleItem : ModuleTree → FileItemTree
   IncludeItem : (path : List ℕ) → FileItemTree
+  ImportItem : (package_name : List ℕ) → FileItemTree
   CommentItem : (text : List ℕ) → FileItemTree
   BlankItem : FileItemTree
 

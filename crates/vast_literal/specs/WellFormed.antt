@@ -1,7 +1,7 @@
 -- Well-formed expressions: those whose literals and strings are tokens. Each expression that was built is one.
 use Rattle.std.specs.Prelude.{suc, ℤ, pos, Bool, true, false, ◌&&◌}
 use Rattle.vast_literal.specs.LiteralToken.{is_literal_text, is_string_text}
-use Rattle.vast_literal.specs.Tree.{ExprTree, NameTree, LiteralTree, StringTree, UnaryTree, BinaryTree, TernaryTree, IndexTree, SliceTree, PartSelectTree, ConcatTree, PatternTree, WidthCastTree, TypeCastTree, PosEdgeTree, NegEdgeTree, MacroTree, CallTree, MissingExpr}
+use Rattle.vast_literal.specs.Tree.{ExprTree, NameTree, LiteralTree, StringTree, UnaryTree, BinaryTree, TernaryTree, IndexTree, SliceTree, PartSelectTree, MemberOfTree, ConcatTree, PatternTree, WidthCastTree, TypeCastTree, PosEdgeTree, NegEdgeTree, MacroTree, CallTree, MissingExpr}
 use Rattle.vast_literal.specs.Tree.{TypeTree, VectorTree, PackedTree, UnpackedTree, MissingType}
 use Rattle.vast_literal.specs.Tree.{NoExpr, SomeExpr, Exprs, NoExprs, MoreExprs, NoArguments, SomeArguments}
 
@@ -30,6 +30,7 @@ abbrev mutual
   is_well_formed (IndexTree subject index) = is_well_formed subject && is_well_formed index
   is_well_formed (SliceTree subject high low) = is_well_formed subject && (is_well_formed high && is_well_formed low)
   is_well_formed (PartSelectTree subject start width) = is_well_formed subject && (is_well_formed start && is_positive width)
+  is_well_formed (MemberOfTree subject name) = is_well_formed subject
   is_well_formed (ConcatTree NoExpr parts) = are_well_formed parts
   is_well_formed (ConcatTree (SomeExpr count) parts) = is_well_formed count && are_well_formed parts
   is_well_formed (PatternTree parts) = are_well_formed parts

@@ -5,7 +5,7 @@ use Rattle.vast_literal.specs.Tree.{MaybeExpr, NoExpr, SomeExpr, Exprs, NoExprs,
 use Rattle.vast_literal.specs.Tree.{StatementTree, AssignTree, TaskTree, ConditionalTree, CaseTree, Statements, NoStatements, MoreStatements, Alternates, NoElse, ElseIf, Else, CaseArms, NoCaseArms, CaseArm}
 use Rattle.vast_literal.specs.Tree.{ParameterName, PlainParameter, IntParameter, DefinedParameter, Connection, FunctionTree}
 use Rattle.vast_literal.specs.Tree.{MemberTree, DeclarationMember, AssignMember, ParameterMember, MacroMember, InstanceMember, AlwaysMember, ConditionalMember, FunctionMember, LoopMember, Members, NoMembers, MoreMembers}
-use Rattle.vast_literal.specs.Tree.{PortTree, ParameterPortTree, ModuleTree, FileItemTree, ModuleItem, IncludeItem, CommentItem, BlankItem, FileTree}
+use Rattle.vast_literal.specs.Tree.{PortTree, ParameterPortTree, ModuleTree, FileItemTree, ModuleItem, IncludeItem, ImportItem, CommentItem, BlankItem, FileTree}
 use Rattle.vast_literal.specs.WellFormed.{is_well_formed, is_well_formed_type}
 
 abbrev pub is_well_formed_maybe : MaybeExpr → Bool
@@ -125,6 +125,7 @@ abbrev pub are_well_formed_items : List FileItemTree → Bool
 are_well_formed_items [] = true
 are_well_formed_items (ModuleItem m ∷ items) = is_well_formed_module m && are_well_formed_items items
 are_well_formed_items (IncludeItem path ∷ items) = are_well_formed_items items
+are_well_formed_items (ImportItem package_name ∷ items) = are_well_formed_items items
 are_well_formed_items (CommentItem text ∷ items) = are_well_formed_items items
 are_well_formed_items (BlankItem ∷ items) = are_well_formed_items items
 

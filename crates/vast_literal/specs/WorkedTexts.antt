@@ -2,7 +2,7 @@
 use Rattle.std.specs.Prelude.{◌≡◌, ℕ, pos, negsuc, List, [], ◌∷◌, true, false, codes, Some, None}
 use Rattle.vast_literal.specs.Tokens.{Minus, LessEqual, Power, CasezKey, WireKey}
 use Rattle.vast_literal.specs.Tree.{AlwaysCombWord}
-use Rattle.vast_literal.specs.NormalExpr.{NormalExpr, Name, Literal, Unary, Binary, Ternary, Concat, Replicated, Cast, NormalExprs, NoNormals, MoreNormals, normal}
+use Rattle.vast_literal.specs.NormalExpr.{NormalExpr, Name, Literal, Unary, Binary, Ternary, Index, MemberOf, Concat, Replicated, Cast, NormalExprs, NoNormals, MoreNormals, normal}
 use Rattle.vast_literal.specs.NormalFile.{BlockingStatement, NonblockingStatement, CaseStatement, Done, Then, NoLabels, Label, Range, NormalMember, DeclarationPart, AlwaysPart, FunctionPart, NoParts, MoreParts, ModulePart, NormalFile}
 use Rattle.vast_literal.specs.Tree.{SubOp, PowerOp, ExprTree, NameTree, LiteralTree, BinaryTree, WidthCastTree, TypeCastTree, TypeTree, VectorTree, ExternalTree, Untyped}
 use Rattle.vast_literal.specs.Tree.{SystemVerilogDialect, WireKind, AssignMember, NoMembers, MoreMembers, InputDirection, OutputDirection, ModuleItem, FileTree}
@@ -110,6 +110,9 @@ pub record WorkedTexts : Type 0 where
   -- A replication is no concatenation in a concatenation.
   pub replication : HasOneTree (codes "{a{b}}") (Replicated (Name (codes "a")) (one_part (Name (codes "b"))))
   pub nested_concatenation : HasOneTree (codes "{a, {b}}") (Concat (MoreNormals (Name (codes "a")) (one_part (Concat (one_part (Name (codes "b")))))))
+  -- A dot names a member of all before it, and no member has a number for its name.
+  pub member_of_element : HasOneTree (codes "a[1].b.c") (MemberOf (MemberOf (Index (Name (codes "a")) (Literal (codes "1"))) (codes "b")) (codes "c"))
+  pub numbered_member : HasNoTree (codes "a.1")
   -- The first arrow assigns, the second compares.
   pub assigned_comparison : HasOneFile (codes "module m; always_comb begin x <= a <= b; end endmodule") (module_of given_comparison)
   -- The first colon is the ternary's, the second the label's.

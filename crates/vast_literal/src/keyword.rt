@@ -27,7 +27,7 @@ macro_rules! keywords {
             "expect", "export", "extends", "extern", "final", "first_match", "for" For, "force",
             "foreach", "forever", "fork", "forkjoin", "function" Function, "generate",
             "genvar" Genvar, "global", "highz0", "highz1", "if" If, "iff", "ifnone", "ignore_bins",
-            "illegal_bins", "implements", "implies", "import", "incdir", "include",
+            "illegal_bins", "implements", "implies", "import" Import, "incdir", "include",
             "initial" Initial, "inout" InOut, "input" Input, "inside", "instance", "int" Int, "integer" Integer,
             "interconnect", "interface", "intersect", "join", "join_any", "join_none", "large",
             "let", "liblist", "library", "local", "localparam" Localparam, "logic" Logic,

@@ -97,6 +97,7 @@ pub enum Key {
     For,
     AlwaysLatch,
     Initial,
+    Import,
 }
 
 impl Sign {

@@ -74,6 +74,9 @@ fn begin(ast: &Ast, e: Expr, waiting: &mut Vec<Expr>) -> Result<bool, AllocError
         ExprNode::Index(subject, index) => wait(ast, &[*subject, *index], waiting),
         ExprNode::Slice(subject, high, low) => wait(ast, &[*subject, *high, *low], waiting),
         ExprNode::PartSelect(subject, start, _) => wait(ast, &[*subject, *start], waiting),
+        ExprNode::MemberOf(subject, name) => {
+            begin_named(ast, is_plain_name(name.as_str()), &[*subject], waiting)
+        }
         ExprNode::Concat(count, parts) => begin_concat(ast, *count, parts, waiting),
         ExprNode::Pattern(parts) => wait(ast, parts, waiting),
         ExprNode::WidthCast(width, operand) => wait(ast, &[*width, *operand], waiting),
@@ -82,10 +85,10 @@ fn begin(ast: &Ast, e: Expr, waiting: &mut Vec<Expr>) -> Result<bool, AllocError
         ExprNode::NegEdge(_) => Ok(false),
         ExprNode::Macro(name) => Ok(is_plain_name(name.as_str())),
         ExprNode::MacroCall(name, arguments) => {
-            begin_call(ast, is_plain_name(name), arguments, waiting)
+            begin_named(ast, is_plain_name(name), arguments, waiting)
         }
         ExprNode::Call(name, arguments) => {
-            begin_call(ast, is_called_name(name), arguments, waiting)
+            begin_named(ast, is_called_name(name), arguments, waiting)
         }
         ExprNode::DataType(_) => unreachable!(),
     }
@@ -132,24 +135,24 @@ fn begin_cast(
     begin_type(ast, data_type, waiting)
 }
 
-/// The same of a call, by whether its name is plain.
+/// The same of a call or a member, by whether its name is plain.
 #[tactic(auto, using(crate::proofs::Values::heads))]
-fn begin_call(
+fn begin_named(
     ast: &Ast,
     has_plain_name: bool,
-    arguments: &[Expr],
+    parts: &[Expr],
     waiting: &mut Vec<Expr>,
 ) -> Result<bool, AllocError>
-    requires arguments { All (OwnsExpr (bench ast.now)) arguments.now }
+    requires parts { All (OwnsExpr (bench ast.now)) parts.now }
     requires owned { All (OwnsExpr (bench ast.now)) waiting.old.items }
     ensures { Begins (bench ast.now) waiting.old.items waiting.new.items
-        (has_plain_name && are_plain (trees_of (bench ast.now) arguments.now))
-        (exprs_weight (trees_of (bench ast.now) arguments.now) + 1) result }
+        (has_plain_name && are_plain (trees_of (bench ast.now) parts.now))
+        (exprs_weight (trees_of (bench ast.now) parts.now) + 1) result }
 {
     if !has_plain_name {
         return Ok(false);
     }
-    wait(ast, arguments, waiting)
+    wait(ast, parts, waiting)
 }
 
 /// Whether there is no expression, or it is plain and has no edge.
@@ -163,7 +166,7 @@ pub(crate) fn is_plain_maybe(ast: &Ast, e: Option<Expr>) -> Result<bool, AllocEr
     }
 }
 
-/// Whether the expression is a name, a select or a concatenation.
+/// Whether the expression is a name, a select, a member or a concatenation.
 pub(crate) fn is_left_side(ast: &Ast, e: Expr) -> bool
     requires { OwnsExpr (bench ast.now) e }
     ensures { result ≡ is_left_side (tree_of (bench ast.now) e) }
@@ -173,6 +176,7 @@ pub(crate) fn is_left_side(ast: &Ast, e: Expr) -> bool
         ExprNode::Index(_, _) => true,
         ExprNode::Slice(_, _, _) => true,
         ExprNode::PartSelect(_, _, _) => true,
+        ExprNode::MemberOf(_, _) => true,
         ExprNode::Concat(_, _) => true,
         _ => false,
     }

@@ -8,7 +8,7 @@ ghost use Rattle.vast_core.specs.View.{bench};
 ghost use Rattle.vast_plain.specs.Internal.Values.{Answers};
 
 use crate::module::is_plain_module;
-use crate::names::is_plain_path;
+use crate::names::{is_plain_name, is_plain_path};
 use std::alloc::AllocError;
 use vast_core::{Ast, FileItem};
 
@@ -21,14 +21,15 @@ fn is_plain_item(ast: &Ast, item: &FileItem) -> Result<bool, AllocError>
     match item {
         FileItem::Module(m) => is_plain_module(ast, ast.module(*m)),
         FileItem::Include(path) => Ok(is_plain_path(path.as_str())),
+        FileItem::Import(package) => Ok(is_plain_name(package.as_str())),
         FileItem::Comment(_) => Ok(true),
         FileItem::BlankLine => Ok(true),
     }
 }
 
 /// Whether the file is plain: each printed name is an identifier and no keyword, edges stand only in lists of events,
-/// left sides are names, selects or concatenations, an include's path has no quote, backslash or line break, and
-/// there is no inline text. Where it is, the grammar derives the normal form of the file's tree from its text.
+/// left sides are names, selects, members or concatenations, an include's path has no quote, backslash or line break,
+/// and there is no inline text. Where it is, the grammar derives the normal form of the file's tree from its text.
 ///
 /// It takes memory for the parts of an expression that wait to be looked at, and stack in proportion to how deep
 /// statements and loops are nested.

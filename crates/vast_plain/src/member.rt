@@ -32,6 +32,7 @@ fn is_plain_member(ast: &Ast, member: &Member) -> Result<bool, AllocError>
         Member::Parameter(_, form, value) => is_plain_parameter(ast, form, *value),
         Member::BlankLine => Ok(true),
         Member::Comment(_) => Ok(true),
+        Member::Import(package) => Ok(is_plain_name(package.as_str())),
         Member::Inline(_) => Ok(false),
         Member::Macro(a) => {
             let (call, _) = ast.macro_statement(*a);

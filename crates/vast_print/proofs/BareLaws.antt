@@ -8,7 +8,7 @@ use Rattle.std.proofs.lemmas.List.Folds.{list_all-append}
 use Rattle.vast_literal.specs.declared.operator.UnaryOperator.{UnaryOperator as UnaryOp}
 use Rattle.vast_literal.specs.declared.operator.UnaryOperator.TheVariants.{Negate as NegateOp}
 use Rattle.vast_literal.specs.declared.operator.BinaryOperator.{BinaryOperator as BinaryOp}
-use Rattle.vast_literal.specs.Tree.{ExprTree, NameTree, LiteralTree, StringTree, UnaryTree, BinaryTree, TernaryTree, IndexTree, SliceTree, PartSelectTree, ConcatTree, PatternTree, WidthCastTree, TypeCastTree, PosEdgeTree, NegEdgeTree, MacroTree, CallTree, MissingExpr, TypeTree, ScalarTree, IntegerTree, IntTree}
+use Rattle.vast_literal.specs.Tree.{ExprTree, NameTree, LiteralTree, StringTree, UnaryTree, BinaryTree, TernaryTree, IndexTree, SliceTree, PartSelectTree, MemberOfTree, ConcatTree, PatternTree, WidthCastTree, TypeCastTree, PosEdgeTree, NegEdgeTree, MacroTree, CallTree, MissingExpr, TypeTree, ScalarTree, IntegerTree, IntTree}
 use Rattle.vast_literal.specs.Shape.{is_scalar_name, is_zero}
 use Rattle.vast_literal.specs.Literal.{is_decimal}
 use Rattle.vast_print.specs.declared.refusal.Refusal.{Refusal}
@@ -124,6 +124,7 @@ bare-head (IndexTree s i) =
 bare-head (SliceTree s h l) =
     bare-select (is_scalar_name s) (is_zero h && is_zero l) ScalarSlice (expr_text s) _ (is_bare_head s) (bare-head s) (broken-ends _ (codes "]") (record { broken = refl }))
 bare-head (PartSelectTree s i w) = broken-bare _ (broken-ends _ (codes "]") (record { broken = refl }))
+bare-head (MemberOfTree s n) = broken-bare _ (broken-then _ _ (broken-ends _ (codes ".") (record { broken = refl })))
 bare-head (ConcatTree n es) = broken-bare _ (broken-ends _ (codes "}") (record { broken = refl }))
 bare-head (PatternTree es) = broken-bare _ (broken-ends _ (codes "}") (record { broken = refl }))
 bare-head (WidthCastTree w e) = broken-bare _ (broken-width _ _)

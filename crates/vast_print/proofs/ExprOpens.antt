@@ -5,7 +5,7 @@ use Rattle.vast_literal.specs.declared.operator.UnaryOperator.{UnaryOperator as 
 use Rattle.vast_literal.specs.declared.operator.UnaryOperator.TheVariants.{Negate as NegateOp}
 use Rattle.vast_literal.specs.declared.operator.BinaryOperator.{BinaryOperator as BinaryOp}
 use Rattle.vast_literal.specs.declared.operator.BinaryOperator.TheVariants.{Add as AddOp}
-use Rattle.vast_literal.specs.Tree.{ExprTree, NameTree, LiteralTree, StringTree, UnaryTree, BinaryTree, TernaryTree, IndexTree, SliceTree, PartSelectTree, ConcatTree, PatternTree, WidthCastTree, TypeCastTree, PosEdgeTree, NegEdgeTree, MacroTree, CallTree, MissingExpr, TypeTree, ScalarTree, VectorTree, IntegerTree, IntTree, ExternalTree, PackageTree, PackedTree, UnpackedTree, MissingType}
+use Rattle.vast_literal.specs.Tree.{ExprTree, NameTree, LiteralTree, StringTree, UnaryTree, BinaryTree, TernaryTree, IndexTree, SliceTree, PartSelectTree, MemberOfTree, ConcatTree, PatternTree, WidthCastTree, TypeCastTree, PosEdgeTree, NegEdgeTree, MacroTree, CallTree, MissingExpr, TypeTree, ScalarTree, VectorTree, IntegerTree, IntTree, ExternalTree, PackageTree, PackedTree, UnpackedTree, MissingType}
 use Rattle.vast_literal.specs.Scan.{is_letter, is_digit, is_word_byte}
 use Rattle.vast_literal.specs.LiteralToken.{every, is_number, is_based, is_filled, is_bare_literal, is_literal_text, is_string_text}
 use Rattle.vast_literal.specs.Plain.{is_identifier, is_plain_name, is_called_name, is_plain, is_plain_type}
@@ -165,6 +165,8 @@ opens_text tight (SliceTree s a b) h w l =
     (λ _. front tight _ _ (front tight _ _ (front tight _ _ (front tight _ _ (front tight _ _ (wrapped_opens tight (select_wraps s) (expr_text s) (λ e. opens_text tight s (search halves) (search halves) (λ _. not_false (select_wraps s) _ refl e))))))))
 opens_text tight (PartSelectTree s i n) h w l =
     front tight _ _ (front tight _ _ (front tight _ _ (front tight _ _ (front tight _ _ (wrapped_opens tight (select_wraps s) (expr_text s) (λ e. opens_text tight s (search halves) (search halves) (λ _. not_false (select_wraps s) _ refl e)))))))
+opens_text tight (MemberOfTree s n) h w l =
+    front tight _ _ (front tight _ _ (wrapped_opens tight (select_wraps s) (expr_text s) (λ e. opens_text tight s (search halves) w (λ _. not_false (select_wraps s) _ refl e))))
 opens_text tight (ConcatTree n es) h w l = front tight _ _ (front tight _ _ (word_opens tight (codes "{") refl))
 opens_text tight (PatternTree es) h w l = front tight _ _ (front tight _ _ (word_opens tight (codes "'{") refl))
 opens_text tight (WidthCastTree w e) h k l = width_opens tight (expr_text w) (expr_text e)

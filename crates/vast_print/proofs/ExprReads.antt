@@ -7,12 +7,12 @@ use Rattle.vast_literal.specs.declared.token.Mark.TheVariants.{Apostrophe, OpenP
 use Rattle.vast_literal.specs.declared.token.Key.{Key}
 use Rattle.vast_literal.specs.declared.token.Key.TheVariants.{Logic as LogicKey, Signed as SignedKey, Unsigned as UnsignedKey, Integer as IntegerKey, Int as IntKey}
 use Rattle.vast_literal.specs.declared.operator.UnaryOperator.{UnaryOperator as UnaryOp}
-use Rattle.vast_literal.specs.Tree.{ExprTree, NameTree, LiteralTree, StringTree, UnaryTree, BinaryTree, TernaryTree, IndexTree, SliceTree, PartSelectTree, ConcatTree, PatternTree, WidthCastTree, TypeCastTree, PosEdgeTree, NegEdgeTree, MacroTree, CallTree, MissingExpr, TypeTree, ScalarTree, VectorTree, IntegerTree, IntTree, ExternalTree, PackageTree, NoExpr, SomeExpr, Exprs, NoExprs, MoreExprs, NoArguments, SomeArguments}
+use Rattle.vast_literal.specs.Tree.{ExprTree, NameTree, LiteralTree, StringTree, UnaryTree, BinaryTree, TernaryTree, IndexTree, SliceTree, PartSelectTree, MemberOfTree, ConcatTree, PatternTree, WidthCastTree, TypeCastTree, PosEdgeTree, NegEdgeTree, MacroTree, CallTree, MissingExpr, TypeTree, ScalarTree, VectorTree, IntegerTree, IntTree, ExternalTree, PackageTree, NoExpr, SomeExpr, Exprs, NoExprs, MoreExprs, NoArguments, SomeArguments}
 use Rattle.vast_literal.specs.Scan as Scan
 use Rattle.vast_literal.specs.Scan.{tokens}
 use Rattle.vast_literal.specs.Grammar.{DerivesExpression}
 use Rattle.vast_literal.specs.NormalExpr.{normal, signing_key, scalar_sign, integer_sign, binary_operator_token}
-use Rattle.vast_literal.proofs.Pieces.{add_tokens-nil, sign_reads, operator_divides, as_reads, open_paren, close_paren, open_bracket, close_bracket, open_brace, close_brace, comma, question, colon}
+use Rattle.vast_literal.proofs.Pieces.{add_tokens-nil, sign_reads, operator_divides, as_reads, open_paren, close_paren, open_bracket, close_bracket, open_brace, close_brace, comma, dot, question, colon}
 use Rattle.vast_literal.proofs.Spelled.{spelled, low}
 use Rattle.vast_literal.proofs.Longest.{scan_lexes}
 use Rattle.vast_literal.specs.Plain.{is_plain_name, is_plain, is_plain_type, are_plain}
@@ -119,6 +119,7 @@ mutual
   expr_reads (PartSelectTree s i n) p w =
       simp printed_assoc (parted (bracketed (select_wraps s) (expr_reads s (search halves) (search halves))) open_bracket (parted (expr_reads i (search halves) (search halves)) plus_colon
       (closed (stands _ (number_reads (signed_decimal n) (positive_number n (search halves)))) close_bracket)))
+  expr_reads (MemberOfTree s n) p w = simp printed_assoc (parted (bracketed (select_wraps s) (expr_reads s (search halves) w)) dot (stands _ (name_reads n (search halves))))
   expr_reads (ConcatTree NoExpr es) p w = simp printed_assoc (after (stands _ open_brace.free) (closed (list_reads es p w) close_brace))
   expr_reads (ConcatTree (SomeExpr n) es) p w = simp printed_assoc (after (stands _ open_brace.free) (parted (expr_reads n (search halves) (search halves)) open_brace
       (parted (list_reads es (search halves) (search halves)) close_brace (stands _ (as_reads close_brace.free)))))

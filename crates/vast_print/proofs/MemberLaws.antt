@@ -1,6 +1,6 @@
 -- Laws of writing the members of modules and loops, one for each case.
 use Rattle.std.proofs.Common.{◌≡◌, ◌<◌, ℕ, ◌+◌, Bool, true, false, List, [], ◌∷◌, length, map, refl, ◌∙◌, codes, arith, Option, Some, None}
-use Rattle.vast_literal.specs.Tree.{ExprTree, NoExpr, SomeExpr, Exprs, Declaration, Statements, ParameterName, PlainParameter, IntParameter, Connection, InstanceTree, FunctionTree, MemberTree, DeclarationMember, ParameterMember, CommentMember, BlankMember, InlineMember, MacroMember, InstanceMember, AlwaysMember, FunctionMember, LoopMember, Members, NoMembers, MoreMembers}
+use Rattle.vast_literal.specs.Tree.{ExprTree, NoExpr, SomeExpr, Exprs, Declaration, Statements, ParameterName, PlainParameter, IntParameter, Connection, InstanceTree, FunctionTree, MemberTree, DeclarationMember, ParameterMember, CommentMember, BlankMember, ImportMember, InlineMember, MacroMember, InstanceMember, AlwaysMember, FunctionMember, LoopMember, Members, NoMembers, MoreMembers}
 use Rattle.vast_literal.specs.declared.kind.VastFileType.{VastFileType as Dialect}
 use Rattle.vast_literal.specs.declared.operator.BinaryOperator.TheVariants.{Lt as LtOp}
 use Rattle.vast_literal.specs.declared.kind.AlwaysKind.{AlwaysKind as AlwaysWord}
@@ -13,7 +13,7 @@ use Rattle.vast_print.specs.Output.{Output, word, next, indented, inline}
 use Rattle.vast_print.specs.Text.{expr_text}
 use Rattle.vast_print.specs.Declaration.{declaration_text, port_declaration_text}
 use Rattle.vast_print.specs.Statements.{statements_page, block_page}
-use Rattle.vast_print.specs.Members.{entries_page, parameter_word, parameter_text, semicolon_text, connection_text, connections_page, instance_head_page, instance_page, events_text, always_opening, always_text, input_text, inputs_text, local_page, locals_page, function_body_page, function_page, loop_label_text, loop_text, member_page, members_page}
+use Rattle.vast_print.specs.Members.{entries_page, parameter_word, parameter_text, semicolon_text, connection_text, connections_page, instance_head_page, instance_page, events_text, always_opening, always_text, input_text, inputs_text, local_page, locals_page, function_body_page, function_page, loop_label_text, loop_text, import_text, member_page, members_page}
 use Rattle.vast_print.proofs.Lines.{word-word, unbroken}
 use Rattle.vast_print.proofs.OutputLaws.{indented-line, indented-none, indented-blank, indented-above, indented-beside, indented-inner, indented-written, inline-then, inline-empty, inline-word}
 use Rattle.vast_print.proofs.StatementLaws.{indented-block}
@@ -44,6 +44,16 @@ indented-comment-member d k dialect text = refl
 pub indented-blank-member : (d : ℕ) (k : Output) (dialect : Dialect) → indented d k (member_page dialect BlankMember) ≡ next d k
 unfolding member_page
 indented-blank-member d k dialect = indented-blank d k
+
+-- the line of an import, alike in a module and in a file
+pub indented-import : (d : ℕ) (k : Output) (package_name : List ℕ) →
+    indented d k (written (import_text package_name)) ≡ word (inline d (word (next d k) (codes "import ")) (written (plain_text package_name))) (codes "::*;")
+unfolding import_text
+indented-import d k package_name = indented-written d k _ ∙ simp (inline-then, inline-word)
+
+pub indented-import-member : (d : ℕ) (k : Output) (dialect : Dialect) (package_name : List ℕ) → indented d k (member_page dialect (ImportMember package_name)) ≡ indented d k (written (import_text package_name))
+unfolding member_page
+indented-import-member d k dialect package_name = refl
 
 pub indented-inline-member : (d : ℕ) (k : Output) (dialect : Dialect) (text : List ℕ) → indented d k (member_page dialect (InlineMember text)) ≡ inline d (next d k) (written (plain_text text))
 unfolding member_page

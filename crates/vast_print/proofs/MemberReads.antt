@@ -1,20 +1,25 @@
 -- The page of a plain member has the tokens that the grammar reads.
-use Rattle.std.proofs.Common.{◌≡◌, List, [], ◌∷◌, ◌++◌, Bool, true, false, append_assoc}
-use Rattle.vast_literal.specs.Tokens.{Token, key_text, Reserved}
-use Rattle.vast_literal.specs.declared.token.Key.TheVariants.{End as EndKey, Parameter as ParameterKey, Localparam as LocalparamKey, Int as IntKey}
+use Rattle.std.proofs.Common.{◌≡◌, ℕ, List, [], ◌∷◌, ◌++◌, Bool, true, false, refl, append_assoc, codes}
+use Rattle.vast_literal.specs.Tokens.{Token, key_text, Reserved, Operator, Mark}
+use Rattle.vast_literal.specs.declared.token.Mark.TheVariants.{DoubleColon, Semicolon}
+use Rattle.vast_literal.specs.declared.token.Sign.TheVariants.{Times}
+use Rattle.vast_literal.specs.Plain.{is_plain_name}
+use Rattle.vast_literal.specs.Scan.{scan}
+use Rattle.vast_literal.specs.Shape.{import_words}
+use Rattle.vast_literal.specs.declared.token.Key.TheVariants.{End as EndKey, Parameter as ParameterKey, Localparam as LocalparamKey, Int as IntKey, Import as ImportKey}
 use Rattle.vast_literal.specs.declared.kind.VastFileType.{VastFileType as Dialect}
-use Rattle.vast_literal.specs.Tree.{ParameterName, PlainParameter, IntParameter, DefinedParameter, ConditionalTree, MemberTree, DeclarationMember, AssignMember, ParameterMember, CommentMember, BlankMember, InlineMember, MacroMember, InstanceMember, AlwaysMember, ConditionalMember, FunctionMember, LoopMember, Members, NoMembers, MoreMembers}
+use Rattle.vast_literal.specs.Tree.{ParameterName, PlainParameter, IntParameter, DefinedParameter, ConditionalTree, MemberTree, DeclarationMember, AssignMember, ParameterMember, CommentMember, BlankMember, ImportMember, InlineMember, MacroMember, InstanceMember, AlwaysMember, ConditionalMember, FunctionMember, LoopMember, Members, NoMembers, MoreMembers}
 use Rattle.vast_literal.specs.declared.kind.AssignmentForm.TheVariants.{Continuous}
 use Rattle.vast_literal.specs.PlainFile.{is_plain_parameter_name, is_plain_member, are_plain_members}
 use Rattle.vast_literal.specs.WellFormedFile.{is_well_formed_parameter_name, is_well_formed_member, are_well_formed_members}
 use Rattle.vast_literal.specs.NormalTree.{parameter_key}
 use Rattle.vast_literal.proofs.FileTokens.{parameter_name_tokens, semicolon_tokens, member_tokens, members_tokens, statement_tokens}
-use Rattle.vast_literal.proofs.TokenReads.{Free, Reads}
+use Rattle.vast_literal.proofs.TokenReads.{Free, Divides, Reads}
 use Rattle.vast_print.proofs.FaultLaws.{halves}
 use Rattle.vast_literal.proofs.Words.{key_reads, name_reads}
 use Rattle.vast_print.specs.Printed.{Printed, plain_text, ◌⊕◌}
-use Rattle.vast_print.specs.Members.{parameter_word, parameter_text, semicolon_text, member_page, members_page}
-use Rattle.vast_print.proofs.TextReads.{Prints, printed_assoc, stands, rest_none, after, closed, enclosing, goes_on}
+use Rattle.vast_print.specs.Members.{parameter_word, parameter_text, semicolon_text, import_text, member_page, members_page}
+use Rattle.vast_print.proofs.TextReads.{Prints, printed_assoc, leftward, stands, rest_none, after, closed, enclosing, goes_on}
 use Rattle.vast_print.proofs.ExprReads.{expr_reads}
 use Rattle.vast_print.proofs.StatementReads.{statements_whole, block_open, assignment_open, statement_whole}
 use Rattle.vast_print.proofs.PageReads.{Whole, page_regrouped, whole_above, whole_inner, whole_none, whole, whole_line, whole_written, whole_blank, equals, semicolon, key_space, whole_comment}
@@ -38,6 +43,16 @@ macro_ends : (s : Bool) {p : Printed} {ts : List Token} → Prints Reads p ts �
 macro_ends true r = closed r semicolon
 macro_ends false r = goes_on r rest_none
 
+-- imports
+
+import_end : Divides (codes "::*;") (Mark DoubleColon ∷ Operator Times ∷ Mark Semicolon ∷ [])
+unfolding scan
+import_end = record { free = record { at = λ rest. refl }; stop = λ rest. refl }
+
+pub import_reads : (package_name : List ℕ) → is_plain_name package_name ≡ true → Prints Reads (import_text package_name) (import_words package_name)
+unfolding import_text key_text
+import_reads package_name h = leftward _ _ _ (after (stands _ (key_space ImportKey)) (closed (stands _ (name_reads package_name h)) import_end))
+
 mutual
   unfolding statement_page statement_tokens member_page member_tokens key_text
 
@@ -49,6 +64,7 @@ mutual
       (expr_reads v (search halves) (search halves)) semicolon)))
   member_whole dialect (CommentMember text) p w = whole_comment text
   member_whole dialect BlankMember p w = whole_blank
+  member_whole dialect (ImportMember package_name) p w = whole_written (import_reads package_name p)
   member_whole dialect (InlineMember text) p w = absurd (cc p)
   member_whole dialect (MacroMember e s) p w = whole_written (macro_ends s (expr_reads e p (search halves)))
   member_whole dialect (InstanceMember i) p w = instance_whole i p w

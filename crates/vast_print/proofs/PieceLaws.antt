@@ -3,7 +3,7 @@ use Rattle.std.proofs.Common.{◌≡◌, ◌<◌, ◌≤◌, ℕ, zero, suc, ◌
 use Rattle.std.specs.Prelude.{◌&&◌}
 use Rattle.std.specs.Fmt.{signed_decimal}
 use Rattle.std.proofs.lemmas.List.{drop_all}
-use Rattle.vast_literal.specs.Tree.{ExprTree, Exprs, SliceTree, PartSelectTree, TypeTree, ExternalTree, PackedTree, UnpackedTree}
+use Rattle.vast_literal.specs.Tree.{ExprTree, Exprs, SliceTree, PartSelectTree, MemberOfTree, TypeTree, ExternalTree, PackedTree, UnpackedTree}
 use Rattle.vast_literal.specs.Shape.{is_scalar_name, is_zero, select_wraps}
 use Rattle.vast_core.specs.declared.handle.Expr.{Expr}
 use Rattle.vast_core.specs.Bench.{Bench, tree_of, trees_of}
@@ -122,6 +122,12 @@ pub part-select-then : (d : ℕ) (k : Output) (s i : ExprTree) (width : ℤ) (w 
 unfolding expr_text
 part-select-then d k s i width w = simp (inline-then, inline-bare)
 
+pub member-then : (d : ℕ) (k : Output) (s : ExprTree) (n : List ℕ) (w : Printed) →
+    inline d (inline d k (written (expr_text (MemberOfTree s n)))) (written w)
+    ≡ inline d k (written (wrapped (select_wraps s) (expr_text s) ⊕ (plain_text (codes ".") ⊕ (plain_text n ⊕ w))))
+unfolding expr_text
+member-then d k s n w = simp (inline-then, inline-bare)
+
 -- lists
 
 pub list-none : (ps : List Expr) (b : Bench) (i : ℕ) → length ps ≤ i → rest_text i (trees_of b (drop i ps)) ≡ plain_text []
@@ -165,6 +171,8 @@ pub ruleset indexes = (inline-then, inline-bare, inline-refused, inline-word)
 pub ruleset slices = (slice-then, scalar-slice-then, inline-refused-slice)
 
 pub ruleset part_selects = (part-select-then)
+
+pub ruleset member_selects = (member-then)
 
 pub ruleset lists = (inline-then, inline-bare, inline-word, inline-empty)
 

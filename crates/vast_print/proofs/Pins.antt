@@ -25,6 +25,7 @@ worked_texts =
       first_refusal = refl;
       outer_select = refl;
       part_select = refl;
+      member_of_sum = refl;
       based_cast = refl;
       named_cast = refl;
       negated_cast = refl;

@@ -8,7 +8,7 @@ use Rattle.vast_literal.specs.declared.kind.AssignmentForm.TheVariants.{Continuo
 use Rattle.vast_literal.specs.Tree.{ParameterName, PlainParameter, IntParameter, DefinedParameter, Connection, InstanceTree, FunctionTree}
 use Rattle.vast_literal.specs.declared.kind.AlwaysKind.{AlwaysKind as AlwaysWord}
 use Rattle.vast_literal.specs.declared.kind.AlwaysKind.TheVariants.{AlwaysFF as AlwaysFFWord, AlwaysAt as AlwaysAtWord, AlwaysComb as AlwaysCombWord, AlwaysStar as AlwaysStarWord, AlwaysLatch as AlwaysLatchWord, Initial as InitialWord}
-use Rattle.vast_literal.specs.Tree.{MemberTree, DeclarationMember, AssignMember, ParameterMember, CommentMember, BlankMember, InlineMember, MacroMember, InstanceMember, AlwaysMember, ConditionalMember, FunctionMember, LoopMember, Members, NoMembers, MoreMembers}
+use Rattle.vast_literal.specs.Tree.{MemberTree, DeclarationMember, AssignMember, ParameterMember, CommentMember, BlankMember, ImportMember, InlineMember, MacroMember, InstanceMember, AlwaysMember, ConditionalMember, FunctionMember, LoopMember, Members, NoMembers, MoreMembers}
 use Rattle.vast_literal.specs.Shape.{result_kind, right_child_wraps, is_one_casez, has_events}
 use Rattle.vast_print.specs.Printed.{Printed, plain_text, ◌⊕◌, wrapped}
 use Rattle.vast_print.specs.Text.{expr_text}
@@ -122,6 +122,10 @@ loop_text i start end label =
     ⊕ plain_text (codes "; ") ⊕ plain_text i ⊕ plain_text (codes " = ") ⊕ plain_text i ⊕ plain_text (codes " + 1) begin")
     ⊕ loop_label_text label
 
+-- import P::*;
+unfoldable pub import_text : (package_name : List ℕ) → Printed
+import_text package_name = plain_text (codes "import ") ⊕ plain_text package_name ⊕ plain_text (codes "::*;")
+
 unfoldable mutual
   pub member_page : Dialect → MemberTree → Page
   member_page dialect (DeclarationMember d) = written (declared_text dialect d ⊕ plain_text (codes ";"))
@@ -130,6 +134,7 @@ unfoldable mutual
       written (plain_text (parameter_word local) ⊕ parameter_text dialect parameter ⊕ plain_text (codes " = ") ⊕ expr_text v ⊕ plain_text (codes ";"))
   member_page dialect (CommentMember text) = commented (written (plain_text text))
   member_page dialect BlankMember = line []
+  member_page dialect (ImportMember package_name) = written (import_text package_name)
   member_page dialect (InlineMember text) = written (plain_text text)
   member_page dialect (MacroMember call semicolon) = written (expr_text call ⊕ plain_text (semicolon_text semicolon))
   member_page dialect (InstanceMember i) = instance_page i

@@ -1,7 +1,7 @@
 -- The text of an expression, or the first refusal in its order.
 use Rattle.std.specs.Prelude.{ℕ, Bool, true, false, not, ◌&&◌, List, [], codes, if◌then◌else◌}
 use Rattle.std.specs.Fmt.{signed_decimal}
-use Rattle.vast_literal.specs.Tree.{ExprTree, NameTree, LiteralTree, StringTree, UnaryTree, BinaryTree, TernaryTree, IndexTree, SliceTree, PartSelectTree, ConcatTree, PatternTree, WidthCastTree, TypeCastTree, PosEdgeTree, NegEdgeTree, MacroTree, CallTree, MissingExpr}
+use Rattle.vast_literal.specs.Tree.{ExprTree, NameTree, LiteralTree, StringTree, UnaryTree, BinaryTree, TernaryTree, IndexTree, SliceTree, PartSelectTree, MemberOfTree, ConcatTree, PatternTree, WidthCastTree, TypeCastTree, PosEdgeTree, NegEdgeTree, MacroTree, CallTree, MissingExpr}
 use Rattle.vast_literal.specs.Tree.{TypeTree, ScalarTree, VectorTree, IntegerTree, IntTree, ExternalTree, PackageTree}
 use Rattle.vast_literal.specs.Tree.{MaybeExpr, NoExpr, SomeExpr, Exprs, NoExprs, MoreExprs, MaybeExprs, NoArguments, SomeArguments}
 use Rattle.vast_literal.specs.Shape.{is_scalar_name, is_zero, left_child_wraps, right_child_wraps, select_wraps, ternary_wraps, unary_wraps}
@@ -62,6 +62,7 @@ unfoldable mutual
   expr_text (PartSelectTree s i w) =
       wrapped (select_wraps s) (expr_text s)
       ⊕ plain_text (codes "[") ⊕ expr_text i ⊕ plain_text (codes " +: ") ⊕ plain_text (signed_decimal w) ⊕ plain_text (codes "]")
+  expr_text (MemberOfTree s n) = wrapped (select_wraps s) (expr_text s) ⊕ plain_text (codes ".") ⊕ plain_text n
   expr_text (ConcatTree n es) = plain_text (codes "{") ⊕ replicated n (list_text es) ⊕ plain_text (codes "}")
   expr_text (PatternTree es) = plain_text (codes "'{") ⊕ list_text es ⊕ plain_text (codes "}")
   expr_text (WidthCastTree w e) = width_cast (expr_text w) (expr_text e)

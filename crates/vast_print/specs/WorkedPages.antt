@@ -8,7 +8,7 @@ use Rattle.vast_literal.specs.declared.kind.DataKind.TheVariants.{Wire as WireKi
 use Rattle.vast_literal.specs.Tree.{AssignTree, TaskTree, CommentTree, ConditionalTree, CaseTree, Statements, NoStatements, MoreStatements, ElseIf, Else, NoCaseArms, CaseArm, NoExpr, SomeExpr}
 use Rattle.vast_literal.specs.declared.kind.AssignmentForm.TheVariants.{Blocking}
 use Rattle.vast_literal.specs.declared.kind.CaseKind.TheVariants.{CaseZ}
-use Rattle.vast_literal.specs.Tree.{DeclarationMember, BlankMember, InstanceMember, AlwaysMember, FunctionMember, LoopMember, NoExprs, MoreExprs, Members, NoMembers, MoreMembers, PortTree, ModuleItem, IncludeItem, BlankItem, CommentItem, FileTree}
+use Rattle.vast_literal.specs.Tree.{DeclarationMember, BlankMember, ImportMember, InstanceMember, AlwaysMember, FunctionMember, LoopMember, NoExprs, MoreExprs, Members, NoMembers, MoreMembers, PortTree, ModuleItem, IncludeItem, ImportItem, BlankItem, CommentItem, FileTree}
 use Rattle.vast_literal.specs.declared.kind.AlwaysKind.TheVariants.{AlwaysComb as AlwaysCombWord, Initial as InitialWord}
 use Rattle.vast_literal.specs.declared.kind.ModulePortDirection.TheVariants.{Input as InputDirection}
 use Rattle.vast_literal.specs.WorkedTexts.{passthrough_file}
@@ -60,10 +60,12 @@ pub record WorkedPages : Type 0 where
   -- A module without members has one blank line, as one with a blank line has.
   pub empty_module : print (layout (module_file (codes "m") [] NoMembers)) ≡ codes "module m;\n\nendmodule\n"
   pub blank_member : print (layout (module_file (codes "m") [] (MoreMembers BlankMember NoMembers))) ≡ codes "module m;\n\nendmodule\n"
+  -- The import of a package is a line among the members.
+  pub import_of_package : print (member_page SystemVerilogDialect (ImportMember (codes "p"))) ≡ codes "import p::*;\n"
   -- Items stand on lines of their own; a comment has its mark before each of its lines.
   pub file_items :
-      print (layout (record { dialect = SystemVerilogDialect; items = IncludeItem (codes "defs.svh") ∷ BlankItem ∷ CommentItem (codes "one\n\ntwo") ∷ [] }))
-      ≡ codes "`include \"defs.svh\"\n\n// one\n//\n// two\n"
+      print (layout (record { dialect = SystemVerilogDialect; items = IncludeItem (codes "defs.svh") ∷ ImportItem (codes "p") ∷ BlankItem ∷ CommentItem (codes "one\n\ntwo") ∷ [] }))
+      ≡ codes "`include \"defs.svh\"\nimport p::*;\n\n// one\n//\n// two\n"
   -- The module of the README, which is plain and well formed and which nothing refuses.
   pub passthrough : print (layout passthrough_file) ≡ codes "module passthrough(\n  input wire [7:0] input_data,\n  output wire [7:0] output_data\n);\n  assign output_data = input_data;\nendmodule\n"
   pub passthrough_prints_plainly : FilePrintsPlainly passthrough_file

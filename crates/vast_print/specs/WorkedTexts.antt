@@ -1,6 +1,6 @@
 -- Worked texts of expressions, proved in the law `worked_texts`.
 use Rattle.std.specs.Prelude.{◌≡◌, ℕ, ℤ, pos, negsuc, false, List, [], Some, None, codes}
-use Rattle.vast_literal.specs.Tree.{ExprTree, NameTree, LiteralTree, UnaryTree, BinaryTree, TernaryTree, IndexTree, SliceTree, PartSelectTree, WidthCastTree, TypeCastTree}
+use Rattle.vast_literal.specs.Tree.{ExprTree, NameTree, LiteralTree, UnaryTree, BinaryTree, TernaryTree, IndexTree, SliceTree, PartSelectTree, MemberOfTree, WidthCastTree, TypeCastTree}
 use Rattle.vast_literal.specs.declared.operator.UnaryOperator.TheVariants.{Negate as NegateOp, AndReduce as AndReduceOp, OrReduce as OrReduceOp}
 use Rattle.vast_literal.specs.declared.operator.BinaryOperator.TheVariants.{Sub as SubOp, Power as PowerOp, LogicalOr as LogicalOrOp}
 use Rattle.vast_literal.specs.Tree.{ScalarTree, VectorTree, Typed, Untyped}
@@ -45,6 +45,8 @@ pub record WorkedTexts : Type 0 where
   -- A select of an elided select isn't elided, and no part select is.
   pub outer_select : expr_text (IndexTree (IndexTree (scalar (codes "s")) (number (codes "0") (pos 0))) (number (codes "3") (pos 3))) ≡ plain_text (codes "s[3]")
   pub part_select : expr_text (PartSelectTree (scalar (codes "s")) (number (codes "0") (pos 0)) (pos 1)) ≡ plain_text (codes "s[0 +: 1]")
+  -- A member stands behind what an index would stand behind.
+  pub member_of_sum : expr_text (MemberOfTree (BinaryTree SubOp (name (codes "a")) (name (codes "b"))) (codes "f")) ≡ plain_text (codes "(a - b).f")
   -- The width of a cast is in parentheses unless it is a numeral or a name, also one whose index is elided.
   pub based_cast : expr_text (WidthCastTree (number (codes "8'h08") (pos 8)) (name (codes "x"))) ≡ plain_text (codes "(8'h08)'(x)")
   pub named_cast : expr_text (WidthCastTree (IndexTree (scalar (codes "W")) (number (codes "0") (pos 0))) (name (codes "x"))) ≡ plain_text (codes "W'(x)")

@@ -24,7 +24,7 @@ fn push_operand(
     ast: &Ast,
     operand: Expr,
     closing: &'static str,
-    work: &mut Vec<Piece>,
+    work: &mut Vec<Piece<'_>>,
 ) -> Result<(), AllocError>
     requires part { OwnsExpr (bench ast.now) operand }
     requires owned { PiecesOwned (bench ast.now) work.old.items }
@@ -48,7 +48,7 @@ pub(crate) fn begin_width_cast(
     width: Expr,
     operand: Expr,
     out: &mut Writer,
-    work: &mut Vec<Piece>,
+    work: &mut Vec<Piece<'_>>,
 ) -> Result<(), PrintFault>
     requires width { OwnsExpr (bench ast.now) width }
     requires operand { OwnsExpr (bench ast.now) operand }
@@ -68,7 +68,7 @@ fn begin_external_cast(
     name: &str,
     operand: Expr,
     out: &mut Writer,
-    work: &mut Vec<Piece>,
+    work: &mut Vec<Piece<'_>>,
 ) -> Result<(), PrintFault>
     requires operand { OwnsExpr (bench ast.now) operand }
     requires owned { PiecesOwned (bench ast.now) work.old.items }
@@ -88,7 +88,7 @@ fn begin_package_cast(
     name: &str,
     operand: Expr,
     out: &mut Writer,
-    work: &mut Vec<Piece>,
+    work: &mut Vec<Piece<'_>>,
 ) -> Result<(), PrintFault>
     requires operand { OwnsExpr (bench ast.now) operand }
     requires owned { PiecesOwned (bench ast.now) work.old.items }
@@ -110,7 +110,7 @@ pub(crate) fn begin_type_cast(
     data_type: VastDataType,
     operand: Expr,
     out: &mut Writer,
-    work: &mut Vec<Piece>,
+    work: &mut Vec<Piece<'_>>,
 ) -> Result<(), PrintFault>
     requires data_type { OwnsType (bench ast.now) data_type }
     requires operand { OwnsExpr (bench ast.now) operand }

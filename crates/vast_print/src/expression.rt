@@ -13,7 +13,7 @@ use crate::lists::{begin_call, begin_concat, begin_macro_call, begin_pattern, pr
 use crate::operators::{begin_binary, begin_negedge, begin_posedge, begin_ternary, begin_unary};
 use crate::pieces::{Piece, push_plain};
 use crate::refusal::PrintFault;
-use crate::selects::{begin_index, begin_part_select, begin_slice};
+use crate::selects::{begin_index, begin_member, begin_part_select, begin_slice};
 use crate::writer::Writer;
 use vast_core::{Ast, Expr, ExprNode};
 
@@ -56,11 +56,11 @@ pub(crate) fn print_wrapped(
 
 /// Writes a piece, or begins it.
 #[tactic(auto, using(crate::proofs::PieceLaws::pieces))]
-fn print_piece(
-    ast: &Ast,
-    piece: Piece,
+fn print_piece<'a>(
+    ast: &'a Ast,
+    piece: Piece<'a>,
     out: &mut Writer,
-    work: &mut Vec<Piece>,
+    work: &mut Vec<Piece<'a>>,
 ) -> Result<(), PrintFault>
     requires piece { PieceOwned (bench ast.now) piece }
     requires owned { PiecesOwned (bench ast.now) work.old.items }
@@ -83,12 +83,12 @@ fn print_piece(
 /// Begins an expression, in parentheses where it needs them.
 #[inline(always)]
 #[tactic(auto, using(crate::proofs::PieceLaws::parts))]
-fn begin_part(
-    ast: &Ast,
+fn begin_part<'a>(
+    ast: &'a Ast,
     e: Expr,
     wraps: bool,
     out: &mut Writer,
-    work: &mut Vec<Piece>,
+    work: &mut Vec<Piece<'a>>,
 ) -> Result<(), PrintFault>
     requires part { OwnsExpr (bench ast.now) e }
     requires owned { PiecesOwned (bench ast.now) work.old.items }
@@ -107,7 +107,12 @@ fn begin_part(
 
 /// Writes the first words of an expression, and puts what is left of it on the list.
 #[tactic(auto, unfolding(crate::specs::Text::expr_text))]
-fn begin(ast: &Ast, e: Expr, out: &mut Writer, work: &mut Vec<Piece>) -> Result<(), PrintFault>
+fn begin<'a>(
+    ast: &'a Ast,
+    e: Expr,
+    out: &mut Writer,
+    work: &mut Vec<Piece<'a>>,
+) -> Result<(), PrintFault>
     requires part { OwnsExpr (bench ast.now) e }
     requires owned { PiecesOwned (bench ast.now) work.old.items }
     ensures { BeginsExpr (bench ast.now) out.old out.new work.old.items work.new.items result
@@ -129,6 +134,7 @@ fn begin(ast: &Ast, e: Expr, out: &mut Writer, work: &mut Vec<Piece>) -> Result<
         ExprNode::PartSelect(subject, start, width) => {
             begin_part_select(ast, *subject, *start, *width, out, work)
         }
+        ExprNode::MemberOf(subject, name) => begin_member(ast, *subject, name.as_str(), out, work),
         ExprNode::Concat(count, parts) => begin_concat(ast, *count, parts, out, work),
         ExprNode::Pattern(parts) => begin_pattern(ast, parts, out, work),
         ExprNode::WidthCast(width, operand) => begin_width_cast(ast, *width, *operand, out, work),

@@ -16,6 +16,7 @@ ghost use Rattle.vast_print.specs.Text.{expr_text};
 ghost use Rattle.vast_print.specs.Layout.{item_page, layout};
 
 use crate::expression::print_expression;
+use crate::imports::print_import;
 use crate::module::print_module;
 use crate::refusal::PrintFault;
 use crate::writer::Writer;
@@ -46,6 +47,7 @@ fn print_item(ast: &Ast, item: &FileItem, out: &mut Writer) -> Result<(), PrintF
     match item {
         FileItem::Module(m) => print_module(ast, *m, out),
         FileItem::Include(path) => print_include(ast, path.as_str(), out),
+        FileItem::Import(package) => print_import(package.as_str(), out),
         FileItem::Comment(text) => Ok(out.comment(text.as_str())?),
         FileItem::BlankLine => Ok(out.next()?),
     }

@@ -12,6 +12,7 @@ mod expression;
 mod file;
 mod function;
 mod generate_loop;
+mod imports;
 mod instance;
 pub mod laws;
 mod levels;

@@ -20,7 +20,7 @@ pub(crate) fn begin_concat(
     count: Option<Expr>,
     parts: &[Expr],
     out: &mut Writer,
-    work: &mut Vec<Piece>,
+    work: &mut Vec<Piece<'_>>,
 ) -> Result<(), PrintFault>
     requires count { IfSome count (OwnsExpr (bench ast.now)) }
     requires parts { All (OwnsExpr (bench ast.now)) parts.now }
@@ -47,7 +47,7 @@ pub(crate) fn begin_pattern(
     ast: &Ast,
     parts: &[Expr],
     out: &mut Writer,
-    work: &mut Vec<Piece>,
+    work: &mut Vec<Piece<'_>>,
 ) -> Result<(), PrintFault>
     requires parts { All (OwnsExpr (bench ast.now)) parts.now }
     requires owned { PiecesOwned (bench ast.now) work.old.items }
@@ -75,7 +75,7 @@ pub(crate) fn begin_macro_call(
     name: &str,
     arguments: &[Expr],
     out: &mut Writer,
-    work: &mut Vec<Piece>,
+    work: &mut Vec<Piece<'_>>,
 ) -> Result<(), PrintFault>
     requires arguments { All (OwnsExpr (bench ast.now)) arguments.now }
     requires owned { PiecesOwned (bench ast.now) work.old.items }
@@ -96,7 +96,7 @@ pub(crate) fn begin_call(
     name: &str,
     arguments: &[Expr],
     out: &mut Writer,
-    work: &mut Vec<Piece>,
+    work: &mut Vec<Piece<'_>>,
 ) -> Result<(), PrintFault>
     requires arguments { All (OwnsExpr (bench ast.now)) arguments.now }
     requires owned { PiecesOwned (bench ast.now) work.old.items }

@@ -16,6 +16,7 @@ use crate::declaration::print_declaration;
 use crate::expression::print_expression;
 use crate::function::print_function;
 use crate::generate_loop::print_loop;
+use crate::imports::print_import;
 use crate::instance::print_instance;
 use crate::parameter::print_parameter;
 use crate::refusal::PrintFault;
@@ -77,6 +78,7 @@ pub(crate) fn print_member(ast: &Ast, member: &Member, out: &mut Writer) -> Resu
         Member::Parameter(local, form, value) => { print_parameter(ast, *local, form, *value, out) }
         Member::BlankLine => Ok(out.next()?),
         Member::Comment(a) => Ok(out.comment(ast.comment_text(*a))?),
+        Member::Import(package) => print_import(package.as_str(), out),
         Member::Inline(a) => print_inline(ast.inline_text(*a), out),
         Member::Macro(a) => {
             let (call, semicolon) = ast.macro_statement(*a);

@@ -19,7 +19,7 @@ pub(crate) fn begin_unary(
     operator: UnaryOperator,
     operand: Expr,
     out: &mut Writer,
-    work: &mut Vec<Piece>,
+    work: &mut Vec<Piece<'_>>,
 ) -> Result<(), PrintFault>
     requires operand { OwnsExpr (bench ast.now) operand }
     requires owned { PiecesOwned (bench ast.now) work.old.items }
@@ -39,7 +39,7 @@ pub(crate) fn begin_binary(
     left: Expr,
     right: Expr,
     out: &mut Writer,
-    work: &mut Vec<Piece>,
+    work: &mut Vec<Piece<'_>>,
 ) -> Result<(), PrintFault>
     requires left { OwnsExpr (bench ast.now) left }
     requires right { OwnsExpr (bench ast.now) right }
@@ -60,7 +60,7 @@ pub(crate) fn begin_ternary(
     consequent: Expr,
     alternate: Expr,
     out: &mut Writer,
-    work: &mut Vec<Piece>,
+    work: &mut Vec<Piece<'_>>,
 ) -> Result<(), PrintFault>
     requires condition { OwnsExpr (bench ast.now) condition }
     requires consequent { OwnsExpr (bench ast.now) consequent }
@@ -83,7 +83,7 @@ pub(crate) fn begin_posedge(
     ast: &Ast,
     operand: Expr,
     out: &mut Writer,
-    work: &mut Vec<Piece>,
+    work: &mut Vec<Piece<'_>>,
 ) -> Result<(), PrintFault>
     requires operand { OwnsExpr (bench ast.now) operand }
     requires owned { PiecesOwned (bench ast.now) work.old.items }
@@ -100,7 +100,7 @@ pub(crate) fn begin_negedge(
     ast: &Ast,
     operand: Expr,
     out: &mut Writer,
-    work: &mut Vec<Piece>,
+    work: &mut Vec<Piece<'_>>,
 ) -> Result<(), PrintFault>
     requires operand { OwnsExpr (bench ast.now) operand }
     requires owned { PiecesOwned (bench ast.now) work.old.items }

@@ -17,9 +17,9 @@ use vast_core::{Ast, Expr};
 
 /// What is still to write.
 #[derive(Clone, Copy, Drop)]
-pub(crate) enum Piece {
+pub(crate) enum Piece<'a> {
     /// A text as it stands.
-    Plain(&'static str),
+    Plain(&'a str),
     /// A number in decimal.
     Number(i64),
     /// An expression, in parentheses where it needs them.
@@ -27,10 +27,10 @@ pub(crate) enum Piece {
 }
 
 #[tactic(auto, using(crate::proofs::PieceLaws::pushes))]
-pub(crate) fn push_plain(
+pub(crate) fn push_plain<'a>(
     ast: &Ast,
-    text: &'static str,
-    work: &mut Vec<Piece>,
+    text: &'a str,
+    work: &mut Vec<Piece<'a>>,
 ) -> Result<(), AllocError>
     requires { PiecesOwned (bench ast.now) work.old.items }
     ensures text { OnOk result
@@ -46,7 +46,11 @@ pub(crate) fn push_plain(
 }
 
 #[tactic(auto, using(crate::proofs::PieceLaws::pushes))]
-pub(crate) fn push_number(ast: &Ast, number: i64, work: &mut Vec<Piece>) -> Result<(), AllocError>
+pub(crate) fn push_number(
+    ast: &Ast,
+    number: i64,
+    work: &mut Vec<Piece<'_>>,
+) -> Result<(), AllocError>
     requires { PiecesOwned (bench ast.now) work.old.items }
     ensures text { OnOk result
         (pieces_text (bench ast.now) work.new.items
@@ -65,7 +69,7 @@ pub(crate) fn push_part(
     ast: &Ast,
     e: Expr,
     wraps: bool,
-    work: &mut Vec<Piece>,
+    work: &mut Vec<Piece<'_>>,
 ) -> Result<(), AllocError>
     requires part { OwnsExpr (bench ast.now) e }
     requires owned { PiecesOwned (bench ast.now) work.old.items }
@@ -88,7 +92,7 @@ pub(crate) fn push_part(
 pub(crate) fn push_subject(
     ast: &Ast,
     subject: Expr,
-    work: &mut Vec<Piece>,
+    work: &mut Vec<Piece<'_>>,
 ) -> Result<(), AllocError>
     requires part { OwnsExpr (bench ast.now) subject }
     requires owned { PiecesOwned (bench ast.now) work.old.items }
@@ -109,7 +113,11 @@ pub(crate) fn push_subject(
 
 /// Puts the expressions of a list, with commas between, on the list of work.
 #[tactic(auto, using(crate::proofs::PieceLaws::list_parts))]
-pub(crate) fn push_list(ast: &Ast, parts: &[Expr], work: &mut Vec<Piece>) -> Result<(), AllocError>
+pub(crate) fn push_list(
+    ast: &Ast,
+    parts: &[Expr],
+    work: &mut Vec<Piece<'_>>,
+) -> Result<(), AllocError>
     requires parts { All (OwnsExpr (bench ast.now)) parts.now }
     requires owned { PiecesOwned (bench ast.now) work.old.items }
     ensures text { OnOk result

@@ -1,11 +1,11 @@
-//! Selects of bits.
+//! Selects: of bits, and of members.
 
-ghost use Rattle.vast_literal.specs.Tree.{IndexTree, SliceTree, PartSelectTree};
+ghost use Rattle.vast_literal.specs.Tree.{IndexTree, SliceTree, PartSelectTree, MemberOfTree};
 ghost use Rattle.vast_core.specs.Bench.{OwnsExpr, tree_of};
 ghost use Rattle.vast_core.specs.View.{bench};
 ghost use Rattle.vast_print.specs.Internal.Pieces.{PiecesOwned, BeginsExpr};
 
-use crate::levels::{is_scalar_name, is_zero};
+use crate::levels::{is_scalar_name, is_zero, select_wraps};
 use crate::pieces::{Piece, push_number, push_part, push_plain, push_subject};
 use crate::refusal::{PrintFault, Refusal};
 use crate::writer::Writer;
@@ -18,7 +18,7 @@ pub(crate) fn begin_index(
     subject: Expr,
     index: Expr,
     out: &mut Writer,
-    work: &mut Vec<Piece>,
+    work: &mut Vec<Piece<'_>>,
 ) -> Result<(), PrintFault>
     requires subject { OwnsExpr (bench ast.now) subject }
     requires index { OwnsExpr (bench ast.now) index }
@@ -47,7 +47,7 @@ pub(crate) fn begin_slice(
     high: Expr,
     low: Expr,
     out: &mut Writer,
-    work: &mut Vec<Piece>,
+    work: &mut Vec<Piece<'_>>,
 ) -> Result<(), PrintFault>
     requires subject { OwnsExpr (bench ast.now) subject }
     requires high { OwnsExpr (bench ast.now) high }
@@ -79,7 +79,7 @@ pub(crate) fn begin_part_select(
     start: Expr,
     width: i64,
     out: &mut Writer,
-    work: &mut Vec<Piece>,
+    work: &mut Vec<Piece<'_>>,
 ) -> Result<(), PrintFault>
     requires subject { OwnsExpr (bench ast.now) subject }
     requires start { OwnsExpr (bench ast.now) start }
@@ -92,5 +92,24 @@ pub(crate) fn begin_part_select(
     push_plain(ast, " +: ", work)?;
     push_part(ast, start, false, work)?;
     push_subject(ast, subject, work)?;
+    Ok(())
+}
+
+#[tactic(auto, using(crate::proofs::PieceLaws::member_selects))]
+pub(crate) fn begin_member<'a>(
+    ast: &Ast,
+    subject: Expr,
+    name: &'a str,
+    out: &mut Writer,
+    work: &mut Vec<Piece<'a>>,
+) -> Result<(), PrintFault>
+    requires subject { OwnsExpr (bench ast.now) subject }
+    requires owned { PiecesOwned (bench ast.now) work.old.items }
+    ensures { BeginsExpr (bench ast.now) out.old out.new work.old.items work.new.items result
+        (MemberOfTree (tree_of (bench ast.now) subject) name.now) }
+{
+    push_plain(ast, name, work)?;
+    push_plain(ast, ".", work)?;
+    push_part(ast, subject, select_wraps(ast, subject), work)?;
     Ok(())
 }

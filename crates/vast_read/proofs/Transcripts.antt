@@ -2,11 +2,11 @@
 use Rattle.std.proofs.Common.{◌≡◌, ◌≢◌, ◌∙◌, ℕ, Bool, true, false, List, [], ◌∷◌, ◌++◌, Option, Some, None, option_map, MatchBool, Result, IfOk, map, refl, sym, ap, subst, append_assoc, append-nil}
 use Rattle.std.proofs.lemmas.List.{map-append}
 use Rattle.std.specs.List.{flat_map}
-use Rattle.vast_literal.specs.NormalExpr.{NormalExpr, NormalExprs, Name, Literal, Text, MacroAlone, Unary, Binary, Ternary, Index, Slice, PartSelect, Concat, Pattern, Replicated, Call, MacroCall, Cast, PackageCast, WordCast, NoNormals, MoreNormals}
+use Rattle.vast_literal.specs.NormalExpr.{NormalExpr, NormalExprs, Name, Literal, Text, MacroAlone, Unary, Binary, Ternary, Index, Slice, PartSelect, MemberOf, Concat, Pattern, Replicated, Call, MacroCall, Cast, PackageCast, WordCast, NoNormals, MoreNormals}
 use Rattle.vast_literal.specs.Tokens.{Token}
 use Rattle.vast_literal.specs.declared.token.Sign.TheVariants.{Less}
 use Rattle.vast_expressions.specs.Events as expression
-use Rattle.vast_expressions.specs.Events.{NameE, LiteralE, TextE, MacroE, WordE, PartSelectE, Made, trace, traces, mores}
+use Rattle.vast_expressions.specs.Events.{NameE, LiteralE, TextE, MacroE, WordE, PartSelectE, MemberOfE, Made, trace, traces, mores}
 use Rattle.vast_expressions.specs.declared.event.Told.TheVariants.{Unary as UnaryT, Binary as BinaryT, Ternary as TernaryT, Index as IndexT, Slice as SliceT, NoneYet as NoneT, One as OneT, Push as PushT, Concat as ConcatT, Pattern as PatternT, Replicated as ReplicatedT, Call as CallT, MacroCall as MacroCallT, Cast as CastT, PackageCast as PackageCastT, WordCast as WordCastT}
 use Rattle.vast_expressions.specs.Hearing.{HearsAll}
 use Rattle.vast_expressions.specs.Phrases.{IsRead}
@@ -94,6 +94,7 @@ told_events (TextE w ∷ es) rest vs = told_events es rest (made_by (TextE w) vs
 told_events (MacroE w ∷ es) rest vs = told_events es rest (made_by (MacroE w) vs)
 told_events (WordE w ∷ es) rest vs = told_events es rest (made_by (WordE w) vs)
 told_events (PartSelectE w ∷ es) rest vs = told_events es rest (made_by (PartSelectE w) vs)
+told_events (MemberOfE w ∷ es) rest vs = told_events es rest (made_by (MemberOfE w) vs)
 told_events (Made t ∷ es) rest vs = told_events es rest (made_by (Made t) vs)
 
 told_expression : (x : NormalExpr) (rest : List Entry) (vs : List Value) → told_by (entries_of x ++ rest) vs ≡ told_by rest (Tree x ∷ vs)
@@ -156,6 +157,7 @@ mutual
   extends (Index x y) = then (trace x) _ (extends x) (then (trace y) _ (extends y) (one (Made IndexT)))
   extends (Slice x y z) = then (trace x) _ (extends x) (then (trace y) _ (extends y) (then (trace z) _ (extends z) (one (Made SliceT))))
   extends (PartSelect x y n) = then (trace x) _ (extends x) (then (trace y) _ (extends y) (one (PartSelectE n)))
+  extends (MemberOf x n) = then (trace x) _ (extends x) (one (MemberOfE n))
   extends (Concat xs) = then (traces xs) _ (list_extends xs) (one (Made ConcatT))
   extends (Pattern xs) = then (traces xs) _ (list_extends xs) (one (Made PatternT))
   extends (Replicated n xs) = then (trace n) _ (extends n) (then (traces xs) _ (list_extends xs) (one (Made ReplicatedT)))

@@ -44,6 +44,7 @@ abbrev pub member_level : NormalMember-F normal.NormalMember → normal.NormalMe
 member_level (NormalMember-F.Declaration d) = normal.DeclarationPart (declaration_view d.value)
 member_level (NormalMember-F.Assign l r) = normal.AssignPart (view l.value) (view r.value)
 member_level (NormalMember-F.Parameter word d x) = normal.ParameterPart (key_of word) (declaration_view d.value) (view x.value)
+member_level (NormalMember-F.Import package_name) = normal.ImportPart package_name
 member_level (NormalMember-F.Macro m) = normal.MacroPart m.value.name (option_map listed m.value.arguments) m.value.has_semicolon
 member_level (NormalMember-F.Instance i) = normal.InstancePart i.value.definition (connections_view i.value.parameters) i.value.name (connections_view i.value.connections)
 member_level (NormalMember-F.Always a) = normal.AlwaysPart a.value.kind (events_view a.value.events) (block_view a.value.body)

@@ -3,7 +3,7 @@ use Rattle.std.proofs.Common.{◌≡◌, ℕ, List, [], ◌∷◌, Bool, true, f
 use Rattle.vast_literal.specs.FileGrammar.{assignment}
 use Rattle.vast_literal.specs.NormalExpr.{NormalExprs, NoNormals, MoreNormals}
 use Rattle.vast_literal.specs.NormalFile as normal
-use Rattle.vast_literal.specs.NormalFile.{NormalStatement, BlockingStatement, NonblockingStatement, AssignStatement, TaskStatement, ChoiceStatement, CaseStatement, NormalStatements, Done, Then, Arms, Only, Otherwise, Or, Labels, NoLabels, Label, Group, One, Range, NormalDeclaration, EdgeEvent, NameEvent, NormalConnection, NormalMember, DeclarationPart, AssignPart, ParameterPart, MacroPart, InstancePart, AlwaysPart, ConditionalPart, FunctionPart, LoopPart, NormalMembers, NoParts, MoreParts, NormalParameter, NormalPort, NormalItem, ModulePart, IncludePart, NormalFile}
+use Rattle.vast_literal.specs.NormalFile.{NormalStatement, BlockingStatement, NonblockingStatement, AssignStatement, TaskStatement, ChoiceStatement, CaseStatement, NormalStatements, Done, Then, Arms, Only, Otherwise, Or, Labels, NoLabels, Label, Group, One, Range, NormalDeclaration, EdgeEvent, NameEvent, NormalConnection, NormalMember, DeclarationPart, AssignPart, ParameterPart, MacroPart, ImportPart, InstancePart, AlwaysPart, ConditionalPart, FunctionPart, LoopPart, NormalMembers, NoParts, MoreParts, NormalParameter, NormalPort, NormalItem, ModulePart, IncludePart, FileImportPart, NormalFile}
 use Rattle.vast_rows.specs.Built.{Seen, SeenAnswer, SeenExpressions, SeenGroup, SeenGroups, SeenDeclaration, SeenDeclarations, SeenConnection, SeenConnections, SeenEvent, SeenEvents, SeenStatement, SeenStatements, SeenArms, SeenLabels, SeenMember, SeenMembers, SeenParameter, SeenParameters, SeenPort, SeenPorts, SeenItem, SeenFile, of_one, of_two, of_three, of_four, make_none, make_more, declared, name_before, name_behind, assigned, alternated, make, happens, built}
 use Rattle.vast_rows.specs.Events.{Event, Makes, Names}
 use Rattle.vast_rows.specs.Laws.{TraceBuilds, TraceIsOne}
@@ -152,6 +152,7 @@ mutual
   member_builds (ParameterPart k d x) p = on (declaration_builds d _ _ (on p refl)) refl
   member_builds (MacroPart m None s) p = on (on (on (answer_builds s p) refl) refl) refl
   member_builds (MacroPart m (Some xs) s) p = on (on (expressions_build xs (answer_builds s p)) refl) refl
+  member_builds (ImportPart w) p = on (on p refl) refl
   member_builds (InstancePart m q i c) p = on (on (connections_build q (on (connections_build c p) refl)) refl) refl
   member_builds (AlwaysPart k e b) p = on (events_build e (statements_build b p)) refl
   member_builds (ConditionalPart a) p = on (arms_build a p) refl
@@ -185,6 +186,7 @@ item_builds : (i : NormalItem) (es : List Event) (vs : List Seen) → Builds es 
 unfolding trace_item make of_one of_two of_three of_four
 item_builds (ModulePart m) es vs p = on (on (parameters_build m.parameters (ports_build m.ports (members_build m.members p))) refl) refl
 item_builds (IncludePart path) es vs p = on (on (on p refl) refl) refl
+item_builds (FileImportPart w) es vs p = on (on p refl) refl
 
 file_builds : {es : List Event} {vs : List Seen} (t : NormalFile) → Builds es vs → Builds (trace t es) (SeenFile t ∷ vs)
 unfolding trace make_none make_more of_one of_two

@@ -3,9 +3,9 @@ use Rattle.std.proofs.Common.{◌≡◌, ◌≢◌, ℕ, suc, zero, ◌+◌, ◌
 use Rattle.std.proofs.lemmas.Bool.{eqb-true, eqb-false}
 use Rattle.vast_literal.specs.Tokens.{level, is_unary, Token, Word, SystemWord, MacroWord, Number, Operator, Mark, Reserved}
 use Rattle.vast_literal.specs.NormalExpr.{NormalExpr, NormalExprs, Binary}
-use Rattle.vast_literal.specs.Grammar.{is_cast_word, Spells, up, ternary, binary, unary, index, slice, part_select, name, number, based, quoted, paren, call, system_alone, system_call, concat, replicated, array_pattern, macro_alone, macro_call, number_cast, name_cast, package_cast, paren_cast, word_cast, SpellsList, none, some, SpellsJoined, last, next}
+use Rattle.vast_literal.specs.Grammar.{is_cast_word, Spells, up, ternary, binary, unary, index, slice, part_select, member_of, name, number, based, quoted, paren, call, system_alone, system_call, concat, replicated, array_pattern, macro_alone, macro_call, number_cast, name_cast, package_cast, paren_cast, word_cast, SpellsList, none, some, SpellsJoined, last, next}
 use Rattle.vast_literal.proofs.Levels.{level_small}
-use Rattle.vast_rows.specs.Numbers.{Op, LogicOr, LogicAnd, BitOr, BitXor, BitAnd, NotEqual, CaseNotEqual, Equal, CaseEqual, GreaterEqual, Greater, LessEqual, Less, ShiftLeft, ShiftRightSigned, ShiftRight, Plus, Minus, Times, Divide, Modulo, Power, BitNot, LogicNot, OpenParen, CloseParen, OpenBracket, OpenBrace, CloseBrace, Comma, Colon, Question, DoubleColon, Apostrophe, Key, LogicKey, SignedKey, UnsignedKey, IntegerKey, IntKey}
+use Rattle.vast_rows.specs.Numbers.{Op, LogicOr, LogicAnd, BitOr, BitXor, BitAnd, NotEqual, CaseNotEqual, Equal, CaseEqual, GreaterEqual, Greater, LessEqual, Less, ShiftLeft, ShiftRightSigned, ShiftRight, Plus, Minus, Times, Divide, Modulo, Power, BitNot, LogicNot, OpenParen, CloseParen, OpenBracket, OpenBrace, CloseBrace, Comma, Colon, Dot, Question, DoubleColon, Apostrophe, Key, LogicKey, SignedKey, UnsignedKey, IntegerKey, IntKey}
 use Rattle.vast_rows.specs.Internal.ExpressionPage.{Part, expression_page}
 use Rattle.vast_rows.specs.Internal.ExpressionPage as part
 use Rattle.vast_rows.specs.Internal.Headers.{IsAt}
@@ -83,6 +83,7 @@ joined (unary op u e) rs r o one h pos q = absurd (let s : level o ≤ 11 = leve
 joined (index a b) rs r o one h pos q = absurd (let s : level o ≤ 11 = level_small o in let z : ⊥ = omega (arith, h, s) in z)
 joined (slice a b c) rs r o one h pos q = absurd (let s : level o ≤ 11 = level_small o in let z : ⊥ = omega (arith, h, s) in z)
 joined (part_select n a b) rs r o one h pos q = absurd (let s : level o ≤ 11 = level_small o in let z : ⊥ = omega (arith, h, s) in z)
+joined (member_of m a) rs r o one h pos q = absurd (let s : level o ≤ 11 = level_small o in let z : ⊥ = omega (arith, h, s) in z)
 joined (name w) rs r o one h pos q = absurd (let s : level o ≤ 11 = level_small o in let z : ⊥ = omega (arith, h, s) in z)
 joined (number w) rs r o one h pos q = absurd (let s : level o ≤ 11 = level_small o in let z : ⊥ = omega (arith, h, s) in z)
 joined (based w) rs r o one h pos q = absurd (let s : level o ≤ 11 = level_small o in let z : ⊥ = omega (arith, h, s) in z)
@@ -133,6 +134,11 @@ selects_more ts i us e vs more ss s =
     let x : IsAt 13 ((ss ++ (Mark OpenBracket ∷ (ts ++ us))) ++ vs) = more (ss ++ (Mark OpenBracket ∷ (ts ++ us))) (e ss ts s i) in
     rw (← append_assoc ts us vs, ← append_assoc ss (Mark OpenBracket ∷ (ts ++ us)) vs) x
 
+member_more : (w : List ℕ) (ts : List Token) → Meant part.Selects ts → Meant part.Selects (Mark Dot ∷ (Word w ∷ ts))
+member_more w ts more ss s =
+    let x : IsAt 13 ((ss ++ (Mark Dot ∷ (Word w ∷ []))) ++ ts) = more (ss ++ (Mark Dot ∷ (Word w ∷ []))) (_, member_of w s.1) in
+    rw (← append_assoc ss (Mark Dot ∷ (Word w ∷ [])) ts) x
+
 maybe_none : Meant part.MaybeCast []
 maybe_none = (λ w. (_, name w), λ n. (_, number n), λ hs h. (_, paren h.1))
 
@@ -168,6 +174,7 @@ makes =
     infix_of Modulo (lit< tt) & infix_of Power (lit< tt) &
     (λ ss s. rw (append-nil ss) s) &
     selects_more &
+    member_more &
     (λ ss is s i. (_, index s.1 i.1)) &
     (λ ts x ss is s i. (_, slice s.1 i.1 x.1)) &
     (λ n ss is s i. (_, part_select n s.1 i.1)) &

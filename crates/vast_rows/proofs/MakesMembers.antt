@@ -1,6 +1,6 @@
 -- The rows of members, modules and files make what the typed relations say.
 use Rattle.std.proofs.Common.{[], ◌∷◌, Some, refl, append_assoc, append-nil}
-use Rattle.vast_literal.specs.FileGrammar.{is_parameter_word, is_edge, no_items, more_items, empty, full, present, edge, plain, input, declared, given, connected, unconnected, no_parameters, with_parameters, with_one, without, no_label, labelled, block_body, casez_body, declaration, continuous, parameter, macro, macro_with, instance, unclocked, clocked, conditional, function, loop, closed, and_member, header_parameter, port, no_header_parameters, header_parameters, no_ports, ports, module_item, include_item}
+use Rattle.vast_literal.specs.FileGrammar.{is_parameter_word, is_edge, no_items, more_items, empty, full, present, edge, plain, input, declared, given, connected, unconnected, no_parameters, with_parameters, with_one, without, no_label, labelled, block_body, casez_body, declaration, continuous, parameter, macro, macro_with, import_member, instance, unclocked, clocked, conditional, function, loop, closed, and_member, header_parameter, port, no_header_parameters, header_parameters, no_ports, ports, module_item, include_item, import_item}
 use Rattle.vast_literal.specs.Grammar.{none, some, last, next}
 use Rattle.vast_literal.specs.NormalFile.{LoopPart}
 use Rattle.vast_literal.specs.Tokens.{Mark}
@@ -22,6 +22,9 @@ item0 n ps p qs q ms m = (_, module_item n p.1 q.1 m.1)
 
 pub item1 : Makes FileItem 1
 item1 ts m (path p) = (_, include_item p)
+
+pub item2 : Makes FileItem 2
+item2 p = (_, import_item p)
 
 pub parameters0 : Makes Parameters 0
 parameters0 = (_, no_header_parameters)
@@ -96,6 +99,9 @@ member12 ds d is i ls l bs b = (_, function d.1 i.1 l.1 b.1)
 
 pub member13 : Makes Member 13
 member13 ts n (loop_head {x = x} {e = e} i p q) ls l ms m = (LoopPart i x e l.0 m.0, simp append_assoc (loop i p q l.1 m.1))
+
+pub member14 : Makes Member 14
+member14 p = (_, import_member p)
 
 pub awaited0 : Makes Awaited 0
 awaited0 es e bs b = (_, clocked AlwaysAtWord refl e.1 b.1)

@@ -1,7 +1,7 @@
 -- What the typed relations say of members, modules and files, the page spells and tells.
 use Rattle.std.proofs.Common.{◌≡◌, ℕ, List, [], ◌∷◌, ◌++◌, Bool, true, false, codes, Option, IsTrue, refl, ap, ◌∙◌, append_assoc, append-nil}
 use Rattle.std.specs.Str.{bytes_eq}
-use Rattle.vast_literal.specs.FileGrammar.{is_parameter_word, is_edge, is_direction, is_local_kind, IsMany, no_items, more_items, IsList, empty, full, IsEvent, edge, plain, IsInput, input, IsDeclared, IsGiven, given, IsConnection, connected, unconnected, IsGivenList, no_parameters, with_parameters, IsSemicolon, with_one, without, IsLabel, no_label, labelled, IsFunctionBody, block_body, casez_body, IsMember, declaration, continuous, parameter, macro, macro_with, instance, unclocked, clocked, conditional, function, loop, IsMembers, closed, and_member, IsParameter, header_parameter, IsPort, port, IsParameters, no_header_parameters, header_parameters, IsPorts, no_ports, ports, IsItem, module_item, include_item}
+use Rattle.vast_literal.specs.FileGrammar.{is_parameter_word, is_edge, is_direction, is_local_kind, IsMany, no_items, more_items, IsList, empty, full, IsEvent, edge, plain, IsInput, input, IsDeclared, IsGiven, given, IsConnection, connected, unconnected, IsGivenList, no_parameters, with_parameters, IsSemicolon, with_one, without, IsLabel, no_label, labelled, IsFunctionBody, block_body, casez_body, IsMember, declaration, continuous, parameter, macro, macro_with, import_member, instance, unclocked, clocked, conditional, function, loop, IsMembers, closed, and_member, IsParameter, header_parameter, IsPort, port, IsParameters, no_header_parameters, header_parameters, IsPorts, no_ports, ports, IsItem, module_item, include_item, import_item}
 use Rattle.vast_literal.specs.Grammar.{Spells, SpellsList, none, some, SpellsJoined, last, next}
 use Rattle.vast_literal.specs.NormalExpr.{NormalExpr, NormalExprs}
 use Rattle.vast_literal.specs.NormalFile as normal
@@ -182,6 +182,7 @@ mutual
   member_to (conditional a) = at Member 11 refl (choice_to a)
   member_to (function d i l b) = at Member 12 refl (tok _ refl (tok _ refl (nod (declaration_to d) (tok _ refl (nod (inputs_to i) (tok _ refl (tok _ refl (nod (locals_to l) (nod (function_body_to b) (tok _ refl stop))))))))))
   member_to (loop {xs = xs} {cs = cs} i p q l m) = at Member 13 refl (tok _ refl (along (loop_tokens xs cs _ i) (phr (loop_head i p q) (tok _ refl (nod (label_to l) (loop_members_to m))))))
+  member_to (import_member p) = at Member 14 refl (tok _ refl (tok (Word p) refl (tok _ refl (tok _ refl (tok _ refl stop)))))
 
   loop_members_to : {ts : List Token} {m : NormalMembers} {es : List Event} → IsMembers EndKey ts m → Node LoopMembers ts (trace_members m es) es
   loop_members_to (closed k) = at LoopMembers 0 refl (tok _ refl stop)
@@ -196,6 +197,7 @@ item_to : {ts : List Token} {i : NormalItem} {es : List Event} → IsItem ts i �
 unfolding trace_item
 item_to (module_item n p q m) = at FileItem 0 refl (tok _ refl (tok (Word n) refl (nod (parameters_to p) (nod (ports_to q) (tok _ refl (module_members_to m))))))
 item_to (include_item p) = at FileItem 1 refl (tok (MacroWord (codes "include")) refl (phr_last (path p)))
+item_to (import_item p) = at FileItem 2 refl (tok _ refl (tok (Word p) refl (tok _ refl (tok _ refl (tok _ refl stop)))))
 
 pub items_to : {ts : List Token} {is : List NormalItem} {es : List Event} → IsMany IsItem ts is → Node File ts (trace_items is es) es
 unfolding trace_list

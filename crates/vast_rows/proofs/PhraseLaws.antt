@@ -4,7 +4,7 @@ use Rattle.std.specs.Str.{bytes_eq}
 use Rattle.std.proofs.lemmas.List.{append_cancel_right}
 use Rattle.vast_literal.specs.Tokens.{level, is_unary, Token, Reserved, Word, MacroWord, Number, Operator, Mark}
 use Rattle.vast_literal.specs.NormalExpr.{NormalExpr, Name, Binary}
-use Rattle.vast_literal.specs.Grammar.{is_cast_word, Spells, up, ternary, binary, unary, index, slice, part_select, name, number, based, quoted, paren, call, system_alone, system_call, concat, replicated, array_pattern, macro_alone, macro_call, number_cast, name_cast, package_cast, paren_cast, word_cast}
+use Rattle.vast_literal.specs.Grammar.{is_cast_word, Spells, up, ternary, binary, unary, index, slice, part_select, member_of, name, number, based, quoted, paren, call, system_alone, system_call, concat, replicated, array_pattern, macro_alone, macro_call, number_cast, name_cast, package_cast, paren_cast, word_cast}
 use Rattle.vast_literal.proofs.Levels.{level_small}
 use Rattle.vast_expressions.specs.Rows as item
 use Rattle.vast_expressions.specs.Phrases.{Quiet}
@@ -14,7 +14,7 @@ use Rattle.vast_rows.specs.declared.grammar.Phrase.{Phrase}
 use Rattle.vast_rows.specs.declared.grammar.Phrase.TheVariants.{Expression, Target}
 use Rattle.vast_rows.specs.Kinds.{has}
 use Rattle.vast_rows.specs.Internal.Sources.{head_kind}
-use Rattle.vast_rows.specs.Numbers.{Op, LogicOr, BitOr, BitXor, BitAnd, LessEqual, Less, Plus, Minus, BitNot, LogicNot, OpenParen, CloseParen, OpenBracket, Semicolon, Question, DoubleColon, Assign, Apostrophe, Key, IfKey, LogicKey, SignedKey, UnsignedKey, IntegerKey, IntKey}
+use Rattle.vast_rows.specs.Numbers.{Op, LogicOr, BitOr, BitXor, BitAnd, LessEqual, Less, Plus, Minus, BitNot, LogicNot, OpenParen, CloseParen, OpenBracket, Dot, Semicolon, Question, DoubleColon, Assign, Apostrophe, Key, IfKey, LogicKey, SignedKey, UnsignedKey, IntegerKey, IntKey}
 use Rattle.vast_rows.specs.Phrases.{IsPhrase, expression, target, loop_head, path, Meaning, IsExpression, IsLoop, IsPath}
 use Rattle.vast_rows.specs.Internal.PhraseKinds.{firsts, stops}
 
@@ -70,6 +70,7 @@ begins_so k ts x (unary op h e) = record { signed = λ rest. sign op h; bare = �
 begins_so k ts x (index s i) = before 13 13 _ _ (λ h. h) (begins_so 13 _ _ s)
 begins_so k ts x (slice s h l) = before 13 13 _ _ (λ h. h) (begins_so 13 _ _ s)
 begins_so k ts x (part_select n s i) = before 13 13 _ _ (λ h. h) (begins_so 13 _ _ s)
+begins_so k ts x (member_of m s) = before 13 13 _ _ (λ h. h) (begins_so 13 _ _ s)
 begins_so k ts x (name w) = operand 14 _ _ refl refl
 begins_so k ts x (number w) = operand 14 _ _ refl refl
 begins_so k ts x (based w) = operand 14 _ _ refl refl
@@ -105,6 +106,7 @@ quiet_expression (Mark OpenParen ∷ us) h = absurd (cc h)
 quiet_expression (Mark Apostrophe ∷ us) h = absurd (cc h)
 quiet_expression (Mark DoubleColon ∷ us) h = absurd (cc h)
 quiet_expression (Mark OpenBracket ∷ us) h = absurd (cc h)
+quiet_expression (Mark Dot ∷ us) h = absurd (cc h)
 quiet_expression (Mark Question ∷ us) h = absurd (cc h)
 quiet_expression (Mark _ ∷ us) h = tt
 quiet_expression (_ ∷ us) h = tt
@@ -119,6 +121,7 @@ quiet_target (Mark OpenParen ∷ us) h = absurd (cc h)
 quiet_target (Mark Apostrophe ∷ us) h = absurd (cc h)
 quiet_target (Mark DoubleColon ∷ us) h = absurd (cc h)
 quiet_target (Mark OpenBracket ∷ us) h = absurd (cc h)
+quiet_target (Mark Dot ∷ us) h = absurd (cc h)
 quiet_target (Mark Question ∷ us) h = absurd (cc h)
 quiet_target (Mark _ ∷ us) h = tt
 quiet_target (_ ∷ us) h = tt

@@ -10,7 +10,7 @@ use Rattle.vast_literal.specs.NormalExpr.{Name, Literal, Unary, Binary, binary_o
 use Rattle.vast_literal.specs.PlainFile.{is_plain_file}
 use Rattle.vast_literal.specs.WorkedTexts.{named, passthrough_file, WorkedTexts}
 use Rattle.vast_expressions.specs.Events.{trace, traces, mores}
-use Rattle.vast_expressions.specs.Rows.{code, take_row, operand_row, rest_row, right_row, selects_row, select_end_row, word_row, macro_row, primary_row, maybe_cast_row, type_name_row, arguments_row, more_row, braces_row, brace_next_row}
+use Rattle.vast_expressions.specs.Rows.{code, take_row, operand_row, rest_row, right_row, selects_row, select_end_row, member_name_row, word_row, macro_row, primary_row, maybe_cast_row, type_name_row, arguments_row, more_row, braces_row, brace_next_row}
 use Rattle.vast_expressions.proofs.Computed.{run, outcome, only, none}
 use Rattle.vast_rows.specs.Numbers.{Minus, Power}
 use Rattle.vast_rows.proofs.FilePins
@@ -35,7 +35,7 @@ unfolding is_keyword
 passthrough_is_plain = refl
 
 pub worked_texts : WorkedTexts
-unfolding tokens word_token is_keyword level is_unary outcome run code take_row operand_row rest_row right_row selects_row select_end_row word_row macro_row primary_row maybe_cast_row type_name_row arguments_row more_row braces_row brace_next_row trace traces mores
+unfolding tokens word_token is_keyword level is_unary outcome run code take_row operand_row rest_row right_row selects_row select_end_row member_name_row word_row macro_row primary_row maybe_cast_row type_name_row arguments_row more_row braces_row brace_next_row trace traces mores
 worked_texts =
     record {
       nested_parentheses = only _ _ refl;
@@ -53,6 +53,8 @@ worked_texts =
       wrapped_cast = only _ _ refl;
       replication = only _ _ refl;
       nested_concatenation = only _ _ refl;
+      member_of_element = only _ _ refl;
+      numbered_member = none _ tt;
       assigned_comparison = FilePins.assigned_comparison;
       labelled_by_ternary = FilePins.labelled_by_ternary;
       wire_of_type = FilePins.wire_of_type;

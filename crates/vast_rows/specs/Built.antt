@@ -3,12 +3,12 @@ use Rattle.std.specs.Prelude.{ℕ, List, [], ◌∷◌, Bool, true, false, Optio
 use Rattle.vast_literal.specs.FileGrammar.{assignment}
 use Rattle.vast_literal.specs.NormalExpr.{NormalExpr, NormalExprs, NoNormals, MoreNormals}
 use Rattle.vast_literal.specs.NormalFile as normal
-use Rattle.vast_literal.specs.NormalFile.{NormalStatement, AssignStatement, TaskStatement, ChoiceStatement, CaseStatement, NormalStatements, Done, Then, Arms, Only, Otherwise, Or, Labels, NoLabels, Label, Group, One, Range, NormalDeclaration, EdgeEvent, NameEvent, NormalConnection, NormalMember, DeclarationPart, AssignPart, ParameterPart, MacroPart, InstancePart, AlwaysPart, ConditionalPart, FunctionPart, LoopPart, NormalMembers, NoParts, MoreParts, NormalParameter, NormalPort, NormalItem, ModulePart, IncludePart, NormalFile}
+use Rattle.vast_literal.specs.NormalFile.{NormalStatement, AssignStatement, TaskStatement, ChoiceStatement, CaseStatement, NormalStatements, Done, Then, Arms, Only, Otherwise, Or, Labels, NoLabels, Label, Group, One, Range, NormalDeclaration, EdgeEvent, NameEvent, NormalConnection, NormalMember, DeclarationPart, AssignPart, ParameterPart, MacroPart, ImportPart, InstancePart, AlwaysPart, ConditionalPart, FunctionPart, LoopPart, NormalMembers, NoParts, MoreParts, NormalParameter, NormalPort, NormalItem, ModulePart, IncludePart, FileImportPart, NormalFile}
 use Rattle.vast_rows.specs.Events.{Event, Makes, Reads, Names}
 use Rattle.vast_rows.specs.Numbers.{Key}
 use Rattle.vast_rows.specs.Phrases.{Meaning, IsExpression, IsLoop, IsPath}
 use Rattle.vast_rows.specs.declared.action.Action.{Action}
-use Rattle.vast_rows.specs.declared.action.Action.TheVariants.{Nothing, Yes, No, NoMore, OneMore, ModuleItem, IncludeItem, HeaderParameter, PortOf, DeclarationMember, AssignMember, ParameterMember, MacroMember, InstanceMember, AlwaysMember, ConditionalMember, FunctionMember, LoopMember, KindOf, SignOf, NameBefore, Packaged, Declares, GroupOf, Connects, EdgeOf, ChangeOf, Assigns, AssignsByWord, Chooses, UniqueCase, CaseOf, Conditional, NoArms, Arm, DefaultArm}
+use Rattle.vast_rows.specs.declared.action.Action.TheVariants.{Nothing, Yes, No, NoMore, OneMore, ModuleItem, IncludeItem, ImportItem, HeaderParameter, PortOf, DeclarationMember, AssignMember, ParameterMember, ImportMember, MacroMember, InstanceMember, AlwaysMember, ConditionalMember, FunctionMember, LoopMember, KindOf, SignOf, NameBefore, Packaged, Declares, GroupOf, Connects, EdgeOf, ChangeOf, Assigns, AssignsByWord, Chooses, UniqueCase, CaseOf, Conditional, NoArms, Arm, DefaultArm}
 use Rattle.vast_rows.specs.declared.action.Listed.{Listed}
 use Rattle.vast_rows.specs.declared.action.Listed.TheVariants as listed
 
@@ -260,12 +260,14 @@ make (NoMore what) vs = Some (make_none what ∷ vs)
 make (OneMore what) vs = make_more what vs
 make ModuleItem vs = of_four as_name as_parameters as_ports as_members (λ n p q m. SeenItem (ModulePart (record { name = n; parameters = p; ports = q; members = m }))) vs
 make IncludeItem vs = of_two as_name as_path (λ macro p. SeenItem (IncludePart p)) vs
+make ImportItem vs = of_one as_name (λ p. SeenItem (FileImportPart p)) vs
 make HeaderParameter vs = of_two as_declaration as_expression (λ d x. SeenParameter (record { declaration = d; value = x })) vs
 make (PortOf k) vs = of_one as_declaration (λ d. SeenPort (record { direction = k; declaration = d })) vs
 make DeclarationMember vs = of_one as_declaration (λ d. SeenMember (DeclarationPart d)) vs
 make AssignMember vs = of_two as_expression as_expression (λ l r. SeenMember (AssignPart l r)) vs
 make (ParameterMember k) vs = of_two as_declaration as_expression (λ d x. SeenMember (ParameterPart k d x)) vs
 make MacroMember vs = of_three as_name (maybe as_expressions) as_answer (λ m a s. SeenMember (MacroPart m a s)) vs
+make ImportMember vs = of_one as_name (λ p. SeenMember (ImportPart p)) vs
 make InstanceMember vs = of_four as_name as_connections as_name as_connections (λ m p i c. SeenMember (InstancePart m p i c)) vs
 make (AlwaysMember k) vs = of_two as_events as_statements (λ e b. SeenMember (AlwaysPart k e b)) vs
 make ConditionalMember vs = of_one as_arms (λ a. SeenMember (ConditionalPart a)) vs

@@ -3,7 +3,7 @@
 -- out, a sign or a kind before a declaration, and its names, act on what follows them.
 -- `tools/rows` reads this page and writes the flat table of it, with what the check of the table wants to know.
 use Rattle.std.specs.Prelude.{List, [], ◌∷◌}
-use Rattle.vast_rows.specs.Numbers.{LessEqual, Times, IfKey, ElseKey, CaseKey, CasezKey, CasexKey, EndCaseKey, DefaultKey, UniqueKey, BeginKey, EndKey, AssignKey, WireKey, RegKey, LogicKey, IntegerKey, IntKey, GenvarKey, SignedKey, UnsignedKey, ModuleKey, EndModuleKey, ParameterKey, LocalparamKey, AlwaysCombKey, AlwaysFFKey, AlwaysKey, PosedgeKey, NegedgeKey, OrKey, FunctionKey, AutomaticKey, EndFunctionKey, InputKey, OutputKey, InOutKey, ForKey, AlwaysLatchKey, InitialKey}
+use Rattle.vast_rows.specs.Numbers.{LessEqual, Times, IfKey, ElseKey, CaseKey, CasezKey, CasexKey, EndCaseKey, DefaultKey, UniqueKey, BeginKey, EndKey, AssignKey, WireKey, RegKey, LogicKey, IntegerKey, IntKey, GenvarKey, SignedKey, UnsignedKey, ModuleKey, EndModuleKey, ParameterKey, LocalparamKey, AlwaysCombKey, AlwaysFFKey, AlwaysKey, PosedgeKey, NegedgeKey, OrKey, FunctionKey, AutomaticKey, EndFunctionKey, InputKey, OutputKey, InOutKey, ForKey, AlwaysLatchKey, InitialKey, ImportKey}
 use Rattle.vast_rows.specs.Numbers.{OpenParen, CloseParen, OpenBracket, CloseBracket, Comma, Colon, Semicolon, Dot, Hash, At, DoubleColon, Assign}
 use Rattle.vast_literal.specs.declared.kind.AlwaysKind.TheVariants.{AlwaysFF as AlwaysFFWord, AlwaysAt as AlwaysAtWord, AlwaysComb as AlwaysCombWord, AlwaysStar as AlwaysStarWord, AlwaysLatch as AlwaysLatchWord, Initial as InitialWord}
 use Rattle.vast_rows.specs.declared.grammar.Item.{Item}
@@ -11,7 +11,7 @@ use Rattle.vast_rows.specs.declared.grammar.Item.TheVariants.{Phrase}
 use Rattle.vast_rows.specs.declared.grammar.Phrase.TheVariants.{Expression, Target, LoopHead, Path}
 use Rattle.vast_rows.specs.Rows.{Row}
 use Rattle.vast_rows.specs.Symbols.{key, mark, op, word, macro_word, include_word, rule, ◌⟶◌, ◌⟹◌}
-use Rattle.vast_rows.specs.declared.action.Action.TheVariants.{Nothing, Yes, No, NoMore, OneMore, ModuleItem, IncludeItem, HeaderParameter, PortOf, DeclarationMember, AssignMember, ParameterMember, MacroMember, InstanceMember, AlwaysMember, ConditionalMember, FunctionMember, LoopMember, KindOf, SignOf, NameBefore, Packaged, Declares, GroupOf, Connects, EdgeOf, ChangeOf, Assigns, AssignsByWord, Chooses, UniqueCase, CaseOf, Conditional, NoArms, Arm, DefaultArm}
+use Rattle.vast_rows.specs.declared.action.Action.TheVariants.{Nothing, Yes, No, NoMore, OneMore, ModuleItem, IncludeItem, ImportItem, HeaderParameter, PortOf, DeclarationMember, AssignMember, ParameterMember, ImportMember, MacroMember, InstanceMember, AlwaysMember, ConditionalMember, FunctionMember, LoopMember, KindOf, SignOf, NameBefore, Packaged, Declares, GroupOf, Connects, EdgeOf, ChangeOf, Assigns, AssignsByWord, Chooses, UniqueCase, CaseOf, Conditional, NoArms, Arm, DefaultArm}
 use Rattle.vast_rows.specs.declared.action.Listed.TheVariants as listed
 use Rattle.vast_rows.specs.declared.rule.Rule.TheVariants.{File, FileItem, Parameters, MoreParameters, Parameter, Ports, MorePorts, Port, Direction, ModuleMembers, LoopMembers, Declaration, KindWord, Declarator, SignWord, AfterWord, OwnType, SignedName, GroupedName, AfterGroups, FirstGroups, Groups, BracketGroup, GroupEnd, Member, NetKind, NoWait, Awaited, AnyMacro, MacroArguments, Expressions, MoreExpressions, LastSemicolon, GivenList, Given, MoreGiven, Connections, Connection, Connected, MoreConnections, Events, OneEvent, MoreEvents, Inputs, Input, MoreInputs, Locals, Local, LocalKind, FunctionBody, LoneCase, NoEnd, LoopLabel, Statements, Statement, AfterTarget, Assignment, Arrow, Choice, Else, Branch, Unique, CaseKind, CaseArms, BareArms, ArmBody}
 
@@ -29,6 +29,7 @@ page =
     ∷ (File ⟶ rule FileItem ∷ rule File ∷ [] ⟹ OneMore listed.Item)
     ∷ (FileItem ⟶ key ModuleKey ∷ word ∷ rule Parameters ∷ rule Ports ∷ mark Semicolon ∷ rule ModuleMembers ∷ [] ⟹ ModuleItem)
     ∷ (FileItem ⟶ include_word ∷ Phrase Path ∷ [] ⟹ IncludeItem)
+    ∷ (FileItem ⟶ key ImportKey ∷ word ∷ mark DoubleColon ∷ op Times ∷ mark Semicolon ∷ [] ⟹ ImportItem)
     ∷ (Parameters ⟶ [] ⟹ NoMore listed.Parameter)
     ∷ (Parameters ⟶ mark Hash ∷ mark OpenParen ∷ rule Parameter ∷ rule MoreParameters ∷ mark CloseParen ∷ [] ⟹ OneMore listed.Parameter)
     ∷ (MoreParameters ⟶ [] ⟹ NoMore listed.Parameter)
@@ -90,6 +91,7 @@ page =
     ∷ (Member ⟶ rule Choice ∷ [] ⟹ ConditionalMember)
     ∷ (Member ⟶ key FunctionKey ∷ key AutomaticKey ∷ rule Declaration ∷ mark OpenParen ∷ rule Inputs ∷ mark CloseParen ∷ mark Semicolon ∷ rule Locals ∷ rule FunctionBody ∷ key EndFunctionKey ∷ [] ⟹ FunctionMember)
     ∷ (Member ⟶ key ForKey ∷ Phrase LoopHead ∷ key BeginKey ∷ rule LoopLabel ∷ rule LoopMembers ∷ [] ⟹ LoopMember)
+    ∷ (Member ⟶ key ImportKey ∷ word ∷ mark DoubleColon ∷ op Times ∷ mark Semicolon ∷ [] ⟹ ImportMember)
     ∷ (NetKind ⟶ key WireKey ∷ [] ⟹ KindOf WireKey)
     ∷ (NetKind ⟶ key RegKey ∷ [] ⟹ KindOf RegKey)
     ∷ (NetKind ⟶ key LogicKey ∷ [] ⟹ KindOf LogicKey)

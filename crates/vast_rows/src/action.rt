@@ -47,6 +47,8 @@ pub enum Action {
     ModuleItem,
     /// An include of its path, after the macro's name.
     IncludeItem,
+    /// The import of a package by its name, as an item of a file.
+    ImportItem,
     /// A parameter of a header, of its declaration and value.
     HeaderParameter,
     /// A port of that direction, of its declaration.
@@ -57,6 +59,8 @@ pub enum Action {
     AssignMember,
     /// A parameter by that word, of its declaration and value.
     ParameterMember(Key),
+    /// The import of a package by its name, as a member.
+    ImportMember,
     /// A macro of its name, its arguments where it has any, and whether there is a semicolon.
     MacroMember,
     /// An instance of its module's name, what is given to parameters, its name, and its ports.
@@ -142,6 +146,8 @@ impl Action {
             Action::NoArms => 24,
             Action::Arm => 25,
             Action::DefaultArm => 26,
+            Action::ImportItem => 27,
+            Action::ImportMember => 28,
             Action::NoMore(what) => 40 + what as u16,
             Action::OneMore(what) => 50 + what as u16,
             Action::PortOf(key) => 60 + key as u16,

@@ -1,6 +1,6 @@
 -- What calls that make other expressions keep.
 use Rattle.std.specs.Prelude.{ℕ, ℤ, pos, int_le, ◌&&◌, List, Some, None, codes, string_bytes}
-use Rattle.vast_literal.specs.Tree.{ExprTree, NameTree, LiteralTree, Untyped, CallTree, ConcatTree, IndexTree, MacroTree, NegEdgeTree, NoExpr, PartSelectTree, PatternTree, PosEdgeTree, SliceTree, SomeArguments, SomeExpr, TernaryTree, TypeCastTree, WidthCastTree}
+use Rattle.vast_literal.specs.Tree.{ExprTree, NameTree, LiteralTree, Untyped, CallTree, ConcatTree, IndexTree, MacroTree, MemberOfTree, NegEdgeTree, NoExpr, PartSelectTree, PatternTree, PosEdgeTree, SliceTree, SomeArguments, SomeExpr, TernaryTree, TypeCastTree, WidthCastTree}
 use Rattle.vast_literal.specs.Pattern.{pattern}
 use Rattle.vast_core.specs.Types.{is_castable}
 use Rattle.vast_core.specs.Bench.{type_of, tree_of, trees_of}
@@ -8,7 +8,7 @@ use Rattle.vast_core.specs.Growth.{next_expr, with_expr, decimal_literal, next_n
 use Rattle.xlsynth_vast.specs.Literals.{literal_in, pattern_literal, string_literal, selector_text}
 use Rattle.vast_script.specs.declared.answer.Answer.TheVariants.{Expr, IndexableExpr, Slice, Index, MacroRef}
 use Rattle.vast_script.specs.declared.step.ExpressionStep.{ExpressionStep}
-use Rattle.vast_script.specs.declared.step.ExpressionStep.TheVariants.{MakeLiteral, MakeBinaryPattern, MakeUnsizedDecimalLiteral, MakeStringLiteral, MakeUnsizedOneLiteral, MakeUnsizedZeroLiteral, MakeUnsizedXLiteral, MakeName, MakeIndexableExpression, MakeSlice, MakeIndex, MakeSliceExpr, MakeIndexExpr, MakeIndexedPartSelect, MakeFunctionCall, MakeConcat, MakeReplicatedConcat, MakeReplicatedConcatI64, MakeArrayAssignmentPattern, MakeTernary, MakeWidthCast, MakeTypeCast, MakePosEdge, MakeNegEdge, MakeMacroRef, MakeMacroRefWithArgs}
+use Rattle.vast_script.specs.declared.step.ExpressionStep.TheVariants.{MakeLiteral, MakeBinaryPattern, MakeUnsizedDecimalLiteral, MakeStringLiteral, MakeUnsizedOneLiteral, MakeUnsizedZeroLiteral, MakeUnsizedXLiteral, MakeName, MakeIndexableExpression, MakeSlice, MakeIndex, MakeSliceExpr, MakeIndexExpr, MakeIndexedPartSelect, MakeFunctionCall, MakeConcat, MakeReplicatedConcat, MakeReplicatedConcatI64, MakeArrayAssignmentPattern, MakeTernary, MakeWidthCast, MakeTypeCast, MakePosEdge, MakeNegEdge, MakeMacroRef, MakeMacroRefWithArgs, MakeMember}
 use Rattle.vast_script.specs.Outcome.{Made, provided}
 use Rattle.vast_script.specs.Kinds.{an_expr, an_indexable, a_type}
 use Rattle.vast_script.specs.Arguments.{one, two, three, many, one_and_many}
@@ -69,3 +69,4 @@ expression-keeps (MakePosEdge e) = λ b answers. given-keeps b (one an_expr b an
 expression-keeps (MakeNegEdge e) = λ b answers. given-keeps b (one an_expr b answers e) (λ e. Made (Expr (next_expr b)) (with_expr (NegEdgeTree (tree_of b e)) b)) (λ e. keeps-root b _)
 expression-keeps (MakeMacroRef name) = λ b answers. keeps-root b _
 expression-keeps (MakeMacroRefWithArgs name arguments) = make_macro_ref_with_args-keeps (string_bytes name) arguments.items
+expression-keeps (MakeMember value field) = λ b answers. given-keeps b (one an_expr b answers value) (λ value. Made (Expr (next_expr b)) (with_expr (MemberOfTree (tree_of b value) (string_bytes field)) b)) (λ value. keeps-root b _)

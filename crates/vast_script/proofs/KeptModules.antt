@@ -7,9 +7,10 @@ use Rattle.vast_literal.specs.declared.kind.DataKind.TheVariants.{Wire, Reg, Log
 use Rattle.vast_core.specs.declared.ast.scope.Scope.TheVariants.{Module as ScopeModule}
 use Rattle.vast_core.specs.declared.node.ParameterForm.TheVariants.{Plain as PlainForm, Int as IntForm, Defined as DefinedForm}
 use Rattle.vast_core.specs.Scopes.{with_scope_parameter}
+use Rattle.vast_core.specs.declared.node.Member.TheVariants.{Import as ImportEntry}
 use Rattle.vast_core.specs.declared.node.FileItem.{FileItem}
-use Rattle.vast_core.specs.declared.node.FileItem.TheVariants.{Include as IncludeEntry, BlankLine as FileBlankEntry, Comment as FileCommentEntry}
-use Rattle.vast_core.specs.Growth.{next_node, with_item, next_logic_ref, with_port, with_declaration}
+use Rattle.vast_core.specs.declared.node.FileItem.TheVariants.{Include as IncludeEntry, Import as FileImportEntry, BlankLine as FileBlankEntry, Comment as FileCommentEntry}
+use Rattle.vast_core.specs.Growth.{next_node, with_item, with_member, next_logic_ref, with_port, with_declaration}
 use Rattle.vast_core.specs.Parameters.{with_parameter_port}
 use Rattle.vast_core.specs.Hoisting.{with_hoisted}
 use Rattle.xlsynth_vast.specs.Conditions.{is_free}
@@ -17,12 +18,12 @@ use Rattle.xlsynth_vast.specs.Declarations.{names_in, unless_taken}
 use Rattle.xlsynth_vast.specs.Inspections.{members_in}
 use Rattle.vast_script.specs.declared.answer.Answer.TheVariants.{LogicRef, ParameterRef, LocalparamRef, Nothing}
 use Rattle.vast_script.specs.declared.step.ModuleStep.{ModuleStep}
-use Rattle.vast_script.specs.declared.step.ModuleStep.TheVariants.{AddInclude, AddBlankLine, AddCommentText, AddModule, AddInput, AddOutput, AddInout, AddLogicInput, AddLogicOutput, AddWire, AddReg, AddLogic, AddParameterPort, AddTypedParameterPort, AddParameter, AddParameterWithDef, AddLocalparam, AddIntLocalparam, AddTypedLocalparam, HoistModuleDeclarations}
+use Rattle.vast_script.specs.declared.step.ModuleStep.TheVariants.{AddInclude, AddBlankLine, AddCommentText, AddModule, AddInput, AddOutput, AddInout, AddLogicInput, AddLogicOutput, AddWire, AddReg, AddLogic, AddParameterPort, AddTypedParameterPort, AddParameter, AddParameterWithDef, AddLocalparam, AddIntLocalparam, AddTypedLocalparam, HoistModuleDeclarations, AddImport, AddFileImport}
 use Rattle.vast_script.specs.Outcome.{Made, provided, allowed}
 use Rattle.vast_script.specs.Kinds.{a_module, a_type, an_expr, a_definition, a_blank_line}
 use Rattle.vast_script.specs.Arguments.{one, two, three}
 use Rattle.vast_script.proofs.KeptOutcomes.{CallKeeps, given-keeps, provided-keeps, allowed-keeps}
-use Rattle.xlsynth_vast.proofs.KeptWords.{declaration-kept, hoisted-kept, item-kept, module-kept, parameter_port-kept, port-kept, scope_parameter-kept}
+use Rattle.xlsynth_vast.proofs.KeptWords.{declaration-kept, hoisted-kept, item-kept, member-kept, module-kept, parameter_port-kept, port-kept, scope_parameter-kept}
 use Rattle.vast_script.specs.Modules.{add_item, add_module, add_port, add_wire, add_variable, module_call}
 
 add_item-keeps : (entry : FileItem) → CallKeeps (add_item entry)
@@ -42,6 +43,8 @@ add_variable-keeps kind word owner name type b answers = given-keeps b (two a_mo
 
 pub module-keeps : (step : ModuleStep) → CallKeeps (module_call step)
 module-keeps (AddInclude path) = add_item-keeps (IncludeEntry (string_bytes path))
+module-keeps (AddImport owner package_name) = λ b answers. given-keeps b (one a_module b answers owner) (λ owner. Made Nothing (with_member owner (ImportEntry (string_bytes package_name)) b)) (λ owner. member-kept owner (ImportEntry (string_bytes package_name)) b)
+module-keeps (AddFileImport package_name) = add_item-keeps (FileImportEntry (string_bytes package_name))
 module-keeps (AddBlankLine blank) = λ b answers. given-keeps b (one a_blank_line b answers blank) (λ blank. Made Nothing (with_item FileBlankEntry b)) (λ blank. item-kept FileBlankEntry b)
 module-keeps (AddCommentText text) = add_item-keeps (FileCommentEntry (string_bytes text))
 module-keeps (AddModule name) = add_module-keeps (string_bytes name)

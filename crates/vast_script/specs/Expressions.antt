@@ -1,6 +1,6 @@
 -- What becomes of a call that makes any other expression.
 use Rattle.std.specs.Prelude.{ℕ, ℤ, pos, int_le, ◌&&◌, List, Some, None, codes, string_bytes}
-use Rattle.vast_literal.specs.Tree.{ExprTree, NameTree, LiteralTree, Untyped, CallTree, ConcatTree, IndexTree, MacroTree, NegEdgeTree, NoArguments, NoExpr, PartSelectTree, PatternTree, PosEdgeTree, SliceTree, SomeArguments, SomeExpr, TernaryTree, TypeCastTree, WidthCastTree}
+use Rattle.vast_literal.specs.Tree.{ExprTree, NameTree, LiteralTree, Untyped, CallTree, ConcatTree, IndexTree, MacroTree, MemberOfTree, NegEdgeTree, NoArguments, NoExpr, PartSelectTree, PatternTree, PosEdgeTree, SliceTree, SomeArguments, SomeExpr, TernaryTree, TypeCastTree, WidthCastTree}
 use Rattle.vast_literal.specs.Pattern.{pattern}
 use Rattle.vast_core.specs.Types.{is_castable}
 use Rattle.vast_core.specs.Bench.{type_of, tree_of, trees_of}
@@ -8,7 +8,7 @@ use Rattle.vast_core.specs.Growth.{next_expr, with_expr, decimal_literal, next_n
 use Rattle.xlsynth_vast.specs.Literals.{literal_in, pattern_literal, string_literal, selector_text}
 use Rattle.vast_script.specs.declared.answer.Answer.TheVariants.{Expr, IndexableExpr, Slice, Index, MacroRef}
 use Rattle.vast_script.specs.declared.step.ExpressionStep.{ExpressionStep}
-use Rattle.vast_script.specs.declared.step.ExpressionStep.TheVariants.{MakeLiteral, MakeBinaryPattern, MakeUnsizedDecimalLiteral, MakeStringLiteral, MakeUnsizedOneLiteral, MakeUnsizedZeroLiteral, MakeUnsizedXLiteral, MakeName, MakeIndexableExpression, MakeSlice, MakeIndex, MakeSliceExpr, MakeIndexExpr, MakeIndexedPartSelect, MakeFunctionCall, MakeConcat, MakeReplicatedConcat, MakeReplicatedConcatI64, MakeArrayAssignmentPattern, MakeTernary, MakeWidthCast, MakeTypeCast, MakePosEdge, MakeNegEdge, MakeMacroRef, MakeMacroRefWithArgs}
+use Rattle.vast_script.specs.declared.step.ExpressionStep.TheVariants.{MakeLiteral, MakeBinaryPattern, MakeUnsizedDecimalLiteral, MakeStringLiteral, MakeUnsizedOneLiteral, MakeUnsizedZeroLiteral, MakeUnsizedXLiteral, MakeName, MakeIndexableExpression, MakeSlice, MakeIndex, MakeSliceExpr, MakeIndexExpr, MakeIndexedPartSelect, MakeFunctionCall, MakeConcat, MakeReplicatedConcat, MakeReplicatedConcatI64, MakeArrayAssignmentPattern, MakeTernary, MakeWidthCast, MakeTypeCast, MakePosEdge, MakeNegEdge, MakeMacroRef, MakeMacroRefWithArgs, MakeMember}
 use Rattle.vast_script.specs.Outcome.{Call, Made, provided, allowed, makes}
 use Rattle.vast_script.specs.Kinds.{an_expr, an_indexable, a_type}
 use Rattle.vast_script.specs.Arguments.{takes_one, takes_two, takes_three, takes_many, takes_one_and_many}
@@ -73,3 +73,4 @@ expression_call (MakePosEdge e) = takes_one an_expr e (λ e. makes Expr next_exp
 expression_call (MakeNegEdge e) = takes_one an_expr e (λ e. makes Expr next_expr (λ b. with_expr (NegEdgeTree (tree_of b e)) b))
 expression_call (MakeMacroRef name) = λ b answers. Made (MacroRef (record { id = next_node b })) (with_expr (MacroTree (string_bytes name) NoArguments) b)
 expression_call (MakeMacroRefWithArgs name arguments) = make_macro_ref_with_args (string_bytes name) arguments.items
+expression_call (MakeMember value field) = takes_one an_expr value (λ value. makes Expr next_expr (λ b. with_expr (MemberOfTree (tree_of b value) (string_bytes field)) b))

@@ -7,9 +7,10 @@ use Rattle.vast_literal.specs.declared.kind.DataKind.TheVariants.{Wire, Reg, Log
 use Rattle.vast_core.specs.declared.ast.scope.Scope.TheVariants.{Module as ScopeModule}
 use Rattle.vast_core.specs.declared.node.ParameterForm.TheVariants.{Plain as PlainForm, Int as IntForm, Defined as DefinedForm}
 use Rattle.vast_core.specs.Scopes.{with_scope_parameter}
+use Rattle.vast_core.specs.declared.node.Member.TheVariants.{Import as ImportEntry}
 use Rattle.vast_core.specs.declared.node.FileItem.{FileItem}
-use Rattle.vast_core.specs.declared.node.FileItem.TheVariants.{Include as IncludeEntry, BlankLine as FileBlankEntry, Comment as FileCommentEntry}
-use Rattle.vast_core.specs.Growth.{next_node, next_module, with_module, with_item, next_logic_ref, with_port, with_declaration}
+use Rattle.vast_core.specs.declared.node.FileItem.TheVariants.{Include as IncludeEntry, Import as FileImportEntry, BlankLine as FileBlankEntry, Comment as FileCommentEntry}
+use Rattle.vast_core.specs.Growth.{next_node, next_module, with_module, with_item, with_member, next_logic_ref, with_port, with_declaration}
 use Rattle.vast_core.specs.Parameters.{with_parameter_port}
 use Rattle.vast_core.specs.Hoisting.{with_hoisted}
 use Rattle.xlsynth_vast.specs.Conditions.{is_free}
@@ -17,7 +18,7 @@ use Rattle.xlsynth_vast.specs.Declarations.{names_in, unless_taken}
 use Rattle.xlsynth_vast.specs.Inspections.{members_in}
 use Rattle.vast_script.specs.declared.answer.Answer.TheVariants.{VastModule, LogicRef, ParameterRef, LocalparamRef, Nothing}
 use Rattle.vast_script.specs.declared.step.ModuleStep.{ModuleStep}
-use Rattle.vast_script.specs.declared.step.ModuleStep.TheVariants.{AddInclude, AddBlankLine, AddCommentText, AddModule, AddInput, AddOutput, AddInout, AddLogicInput, AddLogicOutput, AddWire, AddReg, AddLogic, AddParameterPort, AddTypedParameterPort, AddParameter, AddParameterWithDef, AddLocalparam, AddIntLocalparam, AddTypedLocalparam, HoistModuleDeclarations}
+use Rattle.vast_script.specs.declared.step.ModuleStep.TheVariants.{AddInclude, AddBlankLine, AddCommentText, AddModule, AddInput, AddOutput, AddInout, AddLogicInput, AddLogicOutput, AddWire, AddReg, AddLogic, AddParameterPort, AddTypedParameterPort, AddParameter, AddParameterWithDef, AddLocalparam, AddIntLocalparam, AddTypedLocalparam, HoistModuleDeclarations, AddImport, AddFileImport}
 use Rattle.vast_script.specs.Outcome.{Call, Made, provided, allowed, makes}
 use Rattle.vast_script.specs.Kinds.{a_module, a_type, an_expr, a_definition, a_blank_line}
 use Rattle.vast_script.specs.Arguments.{takes_one, takes_two, takes_three}
@@ -44,6 +45,8 @@ add_variable kind word owner name type =
 -- What becomes of a step of an item, a module or what it declares, one clause each.
 abbrev pub module_call : ModuleStep → Call
 module_call (AddInclude path) = add_item (IncludeEntry (string_bytes path))
+module_call (AddImport owner package_name) = takes_one a_module owner (λ owner b. Made Nothing (with_member owner (ImportEntry (string_bytes package_name)) b))
+module_call (AddFileImport package_name) = add_item (FileImportEntry (string_bytes package_name))
 module_call (AddBlankLine blank) = takes_one a_blank_line blank (λ blank b. Made Nothing (with_item FileBlankEntry b))
 module_call (AddCommentText text) = add_item (FileCommentEntry (string_bytes text))
 module_call (AddModule name) = add_module (string_bytes name)

@@ -167,5 +167,9 @@ pub(crate) fn replay_expression(
         ExpressionStep::MakeMacroRefWithArgs(name, arguments) => {
             macro_ref_with_args(file, answers, name, arguments)
         }
+        ExpressionStep::MakeMember(value, field) => {
+            let value: Expr = one(file, answers, *value)?;
+            expression(file.make_member(&value, field))
+        }
     }
 }

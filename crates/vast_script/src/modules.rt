@@ -140,6 +140,11 @@ pub(crate) fn replay_module(
 {
     match step {
         ModuleStep::AddInclude(path) => nothing(file.add_include(path)),
+        ModuleStep::AddImport(owner, package) => {
+            let owner: VastModule = one(file, answers, *owner)?;
+            nothing(file.add_import(owner, package))
+        }
+        ModuleStep::AddFileImport(package) => nothing(file.add_file_import(package)),
         ModuleStep::AddBlankLine(blank) => {
             let blank: BlankLine = one(file, answers, *blank)?;
             nothing(file.add_blank_line(blank))

@@ -87,6 +87,7 @@ pub enum ExpressionStep {
     MakeNegEdge(usize),
     MakeMacroRef(String),
     MakeMacroRefWithArgs(String, Vec<usize>),
+    MakeMember(usize, String),
 }
 
 /// Calls that make a type.
@@ -128,6 +129,8 @@ pub enum ModuleStep {
     AddIntLocalparam(usize, String, usize),
     AddTypedLocalparam(usize, usize, usize),
     HoistModuleDeclarations(usize, usize),
+    AddImport(usize, String),
+    AddFileImport(String),
 }
 
 /// Calls of generate loops and their members.

@@ -6,11 +6,11 @@ use Rattle.vast_core.specs.declared.handle.VastStatementBlock.{VastStatementBloc
 use Rattle.vast_core.specs.declared.node.Assignment.{Assignment}
 use Rattle.vast_core.specs.Records.{ModuleRecord, InstanceRecord}
 use Rattle.vast_core.specs.declared.node.FileItem.{FileItem}
-use Rattle.vast_core.specs.declared.node.FileItem.TheVariants.{Module as ModuleEntry, Include as IncludeEntry, Comment as FileCommentEntry, BlankLine as FileBlankEntry}
+use Rattle.vast_core.specs.declared.node.FileItem.TheVariants.{Module as ModuleEntry, Include as IncludeEntry, Import as FileImportEntry, Comment as FileCommentEntry, BlankLine as FileBlankEntry}
 use Rattle.vast_core.specs.declared.node.Artifact.{Artifact}
 use Rattle.vast_core.specs.declared.node.Artifact.TheVariants.{BlankLine as BlankArtifact, Comment as CommentArtifact, Inline as InlineArtifact, MacroStatement as MacroArtifact}
 use Rattle.vast_core.specs.declared.node.Member.{Member}
-use Rattle.vast_core.specs.declared.node.Member.TheVariants.{Declaration as DeclarationEntry, ContinuousAssignment as AssignmentEntry, Parameter as ParameterEntry, BlankLine as BlankEntry, Comment as CommentEntry, Inline as InlineEntry, Macro as MacroEntry, Instantiation as InstanceEntry, Function as FunctionEntry, Always as AlwaysEntry, Conditional as ConditionalEntry, Loop as LoopEntry}
+use Rattle.vast_core.specs.declared.node.Member.TheVariants.{Declaration as DeclarationEntry, ContinuousAssignment as AssignmentEntry, Parameter as ParameterEntry, BlankLine as BlankEntry, Comment as CommentEntry, Import as ImportEntry, Inline as InlineEntry, Macro as MacroEntry, Instantiation as InstanceEntry, Function as FunctionEntry, Always as AlwaysEntry, Conditional as ConditionalEntry, Loop as LoopEntry}
 use Rattle.vast_core.specs.declared.node.ParameterForm.TheVariants.{Plain as PlainForm, Int as IntForm, Defined as DefinedForm}
 use Rattle.vast_core.specs.Nests.{NestRecord, BlockRecord, ConditionalNestRecord, CaseNestRecord, LoopNestRecord, FunctionRecord, AlwaysRecord}
 use Rattle.vast_core.specs.declared.node.Statement.{Statement}
@@ -131,6 +131,7 @@ module _ (b : Bench) (s : NestsSound b 0 b.nests) where
   definition_is_there (ParameterEntry local (DefinedForm d) value) h = found b.definitions d.id.index (slice_get b.definitions d.id.index) h.0.of_kind refl
   definition_is_there BlankEntry h = tt
   definition_is_there (CommentEntry a) h = tt
+  definition_is_there (ImportEntry package_name) h = tt
   definition_is_there (InlineEntry a) h = tt
   definition_is_there (MacroEntry a) h = tt
   definition_is_there (InstanceEntry i) h = tt
@@ -145,6 +146,7 @@ module _ (b : Bench) (s : NestsSound b 0 b.nests) where
   member_shows (ParameterEntry local form value) h e = cc
   member_shows BlankEntry h e = refl
   member_shows (CommentEntry a) h e = absurd (commented b (slice_get b.artifacts a.id.index) h.of_kind e)
+  member_shows (ImportEntry package_name) h e = cc
   member_shows (InlineEntry a) h e = absurd (inlined b (slice_get b.artifacts a.id.index) h.of_kind e)
   member_shows (MacroEntry a) h e = absurd (called b (slice_get b.artifacts a.id.index) h.of_kind e)
   member_shows (InstanceEntry i) h e = absurd (instanced b (slice_get b.instances i.id.index) (present b.instances i.id.index h.of_kind) e)
@@ -193,6 +195,7 @@ module _ (b : Bench) (s : NestsSound b 0 b.nests) where
   item_is_there : (entry : FileItem) → EntrySound b entry → ItemIsThere b entry
   item_is_there (ModuleEntry m) h e = absurd (maybe_module (slice_get b.modules m.id.index) (present b.modules m.id.index h.of_kind) e)
   item_is_there (IncludeEntry path) h e = cc
+  item_is_there (FileImportEntry package_name) h e = cc
   item_is_there (FileCommentEntry text) h e = cc
   item_is_there FileBlankEntry h e = refl
 

@@ -23,7 +23,7 @@ use Rattle.vast_core.specs.declared.node.Connection.{Connection}
 use Rattle.vast_core.specs.declared.node.Port.{Port}
 use Rattle.vast_core.specs.declared.node.ParameterForm.{ParameterForm}
 use Rattle.vast_core.specs.declared.node.Member.{Member}
-use Rattle.vast_core.specs.declared.node.Member.TheVariants.{Declaration as DeclarationEntry, ContinuousAssignment as AssignmentEntry, Parameter as ParameterEntry, BlankLine as BlankEntry, Comment as CommentEntry, Inline as InlineEntry, Macro as MacroEntry, Instantiation as InstanceEntry, Function as FunctionEntry, Always as AlwaysEntry, Conditional as ConditionalEntry, Loop as LoopEntry}
+use Rattle.vast_core.specs.declared.node.Member.TheVariants.{Declaration as DeclarationEntry, ContinuousAssignment as AssignmentEntry, Parameter as ParameterEntry, BlankLine as BlankEntry, Comment as CommentEntry, Import as ImportEntry, Inline as InlineEntry, Macro as MacroEntry, Instantiation as InstanceEntry, Function as FunctionEntry, Always as AlwaysEntry, Conditional as ConditionalEntry, Loop as LoopEntry}
 use Rattle.vast_core.specs.declared.node.ParameterForm.TheVariants.{Plain as PlainForm, Int as IntForm, Defined as DefinedForm}
 use Rattle.vast_core.specs.Nests.{NestRecord, BlockRecord, ConditionalNestRecord, CaseNestRecord, LoopNestRecord, FunctionRecord, AlwaysRecord}
 use Rattle.vast_core.specs.declared.node.Statement.{Statement}
@@ -240,6 +240,7 @@ member-alike b c a f g from q (AssignmentEntry x) h k =
 member-alike b c a f g from q (ParameterEntry local form value) h k = rw (form-alike b c a form, expr-alike b c a value h.1) refl
 member-alike b c a f g from q BlankEntry h k = refl
 member-alike b c a f g from q (CommentEntry x) h k = artifact-at b c a x.id.index
+member-alike b c a f g from q (ImportEntry package_name) h k = refl
 member-alike b c a f g from q (InlineEntry x) h k = artifact-at b c a x.id.index
 member-alike b c a f g from q (MacroEntry x) h k = artifact-at b c a x.id.index
 member-alike b c a f g from q (InstanceEntry x) h k = instance-at b c a x.id.index

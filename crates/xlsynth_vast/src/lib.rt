@@ -17,6 +17,7 @@ mod generate_loops;
 mod growth;
 pub mod helpers;
 mod hoisting;
+mod imports;
 mod inspect;
 mod instances;
 mod items;

@@ -290,6 +290,11 @@ pub fn make(file: &mut VastFile, answers: &Answers, line: &Line) -> Result<Answe
                 file.make_macro_ref_with_args(name, &arguments),
             ))
         }
+        "MakeMember" => {
+            let value = answers.handle(&words[0])?;
+            let field = words[1].text();
+            Ok(Answer::Expr(file.make_member(&value, field)))
+        }
         "MakeScalarType" => Ok(Answer::VastDataType(file.make_scalar_type())),
         "MakeIntegerType" => {
             let signed = words[0].truth();
@@ -488,6 +493,17 @@ pub fn make(file: &mut VastFile, answers: &Answers, line: &Line) -> Result<Answe
             let owner = answers.handle(&words[0])?;
             let start = words[1].number();
             file.hoist_module_declarations(owner, start);
+            Ok(Answer::Nothing)
+        }
+        "AddImport" => {
+            let owner = answers.handle(&words[0])?;
+            let package = words[1].text();
+            file.add_import(owner, package);
+            Ok(Answer::Nothing)
+        }
+        "AddFileImport" => {
+            let package = words[0].text();
+            file.add_file_import(package);
             Ok(Answer::Nothing)
         }
         "AddGenerateLoop" => {

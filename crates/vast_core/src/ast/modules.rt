@@ -1,7 +1,7 @@
 //! Modules, and the items of the file.
 
 ghost use Rattle.std.specs.Prelude.{◌≡◌, ◌↔◌, IsTrue, All, length, slice_get};
-ghost use Rattle.vast_core.specs.Records.{module_record, IsFree, IncludeEntry, FileCommentEntry, FileBlankEntry};
+ghost use Rattle.vast_core.specs.Records.{module_record, IsFree, IncludeEntry, FileImportEntry, FileCommentEntry, FileBlankEntry};
 ghost use Rattle.vast_core.specs.Bench.{OwnsModule, OwnsPort};
 ghost use Rattle.vast_core.specs.Sound.{MemberSound, ParameterPortSound, EntrySound};
 ghost use Rattle.vast_core.specs.Growth.{Grows, GrowsBy, next_module, with_module, with_item};
@@ -69,6 +69,17 @@ impl Ast {
     {
         let path = Text::new(self.alloc, path)?;
         self.push_item(FileItem::Include(path))
+    }
+
+    /// Adds the import of a package as the last item.
+    ///
+    /// # Errors
+    /// `AllocError` where a growth was refused; nothing changed.
+    pub fn append_file_import(&mut self, package: &str) -> Result<(), AllocError>
+        ensures { GrowsBy self.old self.new result (with_item (FileImportEntry «package».now)) }
+    {
+        let package = Text::new(self.alloc, package)?;
+        self.push_item(FileItem::Import(package))
     }
 
     /// Adds a comment as the last item of the file.

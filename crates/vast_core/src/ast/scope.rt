@@ -61,8 +61,8 @@ impl Ast {
         self.grow(Place::in_scope(scope, member), terms, node, block)
     }
 
-    /// Appends a member to the scope's: an assignment, a parameter, a blank line, a comment, a text, a use of a macro or
-    /// an instantiation. The same may be appended again, anywhere.
+    /// Appends a member to the scope's: an assignment, a parameter, a blank line, a comment, an import, a text, a use of a
+    /// macro or an instantiation. The same may be appended again, anywhere.
     ///
     /// # Errors
     /// `AllocError` where a growth was refused; nothing changed.

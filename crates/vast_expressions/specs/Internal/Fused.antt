@@ -1,9 +1,9 @@
 -- Rows in one: what an item becomes by several rows at once, where these are to be read after it.
 use Rattle.std.specs.Prelude.{ℕ, List, ◌∷◌, Bool, true, false, nat_eq, nat_lt}
 use Rattle.vast_literal.specs.Tokens.{level, Token, Word, MacroWord, Number, Based, Quoted, Operator, Mark}
-use Rattle.vast_expressions.specs.Signs.{Op, Punct, OpenParen, CloseParen, OpenBracket, CloseBracket, OpenBrace, CloseBrace, Comma, Colon, Question, DoubleColon, Apostrophe}
-use Rattle.vast_expressions.specs.Events.{BinaryT, TernaryT, IndexT, SliceT, NoneT, OneT, PushT, ConcatT, CastT, NameE, LiteralE, TextE, MacroE, Made}
-use Rattle.vast_expressions.specs.Rows.{Item, Take, Emit, Expression, Target, Rest, Right, Operand, Selects, SelectEnd, Arguments, More, Braces, BraceNext, Row, Stuck, Goes, Tells, code, only_if, or_else, operand_row, select_end_row, word_row, macro_row, primary_row, brace_next_row, row}
+use Rattle.vast_expressions.specs.Signs.{Op, Punct, OpenParen, CloseParen, OpenBracket, CloseBracket, OpenBrace, CloseBrace, Comma, Colon, Dot, Question, DoubleColon, Apostrophe}
+use Rattle.vast_expressions.specs.Events.{BinaryT, TernaryT, IndexT, SliceT, NoneT, OneT, PushT, ConcatT, CastT, NameE, LiteralE, TextE, MacroE, MemberOfE, Made}
+use Rattle.vast_expressions.specs.Rows.{Item, Take, Emit, Expression, Target, Rest, Right, Operand, Selects, SelectEnd, MemberName, Arguments, More, Braces, BraceNext, Row, Stuck, Goes, Tells, code, only_if, or_else, operand_row, select_end_row, word_row, macro_row, primary_row, brace_next_row, row}
 use Rattle.vast_expressions.specs.Internal.Steps.{onto}
 
 -- Whether what stands next goes on with no expression, however it began.
@@ -11,6 +11,7 @@ unfoldable pub ends : List Token → Bool
 ends (Operator o ∷ ts) = false
 ends (Mark OpenParen ∷ ts) = false
 ends (Mark OpenBracket ∷ ts) = false
+ends (Mark Dot ∷ ts) = false
 ends (Mark Question ∷ ts) = false
 ends (Mark DoubleColon ∷ ts) = false
 ends (Mark Apostrophe ∷ ts) = false
@@ -19,11 +20,13 @@ ends _ = true
 -- Selects, after what this row read; perhaps a cast by it, and then selects.
 unfoldable pub selects_front : (List Item → List Token → Row) → List Token → List Item → Row
 selects_front row (Mark OpenBracket ∷ ts) k = row (Expression ∷ (SelectEnd ∷ k)) ts
+selects_front row (Mark Dot ∷ ts) k = row (MemberName ∷ k) ts
 selects_front row ts k = row k ts
 
 unfoldable pub cast_front : (List Item → List Token → Row) → List Token → List Item → Row
 cast_front row (Mark Apostrophe ∷ ts) k = row (Take OpenParen ∷ (Expression ∷ (Take CloseParen ∷ (Emit CastT ∷ (Selects ∷ k))))) ts
 cast_front row (Mark OpenBracket ∷ ts) k = row (Expression ∷ (SelectEnd ∷ k)) ts
+cast_front row (Mark Dot ∷ ts) k = row (MemberName ∷ k) ts
 cast_front row ts k = row k ts
 
 -- What a name begins, and a macro's.
@@ -70,6 +73,10 @@ select_end_front (Mark CloseBracket ∷ ts) k = selects_front (Tells (Made Index
 select_end_front (Mark Colon ∷ ts) k = expression_front ts (Take CloseBracket ∷ (Emit SliceT ∷ (Selects ∷ k)))
 select_end_front ts k = onto (select_end_row ts) k
 
+unfoldable pub member_name_front : List Token → List Item → Row
+member_name_front (Word m ∷ ts) k = selects_front (Tells (MemberOfE m)) ts k
+member_name_front _ k = Stuck
+
 -- Lists.
 unfoldable pub arguments_front : Punct → List Token → List Item → Row
 arguments_front q (Mark p ∷ ts) k = or_else (nat_eq (code p) (code q)) (Tells (Made NoneT) k ts) (expression_front (Mark p ∷ ts) (Emit OneT ∷ (More q ∷ k)))
@@ -94,6 +101,7 @@ front Target ts k = target_front ts k
 front Operand ts k = operand_front ts k
 front Selects ts k = selects_front Goes ts k
 front SelectEnd ts k = select_end_front ts k
+front MemberName ts k = member_name_front ts k
 front Rest ts k = rest_front ts k
 front (Right p) ts k = right_front p ts k
 front (Arguments q) ts k = arguments_front q ts k

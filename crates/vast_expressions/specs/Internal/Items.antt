@@ -1,7 +1,7 @@
 -- Which item of the grammar each item of the code is.
 use Rattle.vast_expressions.specs.Signs as sign
 use Rattle.vast_expressions.specs.Events.{UnaryT, TernaryT, IndexT, SliceT, NoneT, OneT, PushT, ConcatT, PatternT, ReplicatedT, CallT, MacroCallT, CastT, PackageCastT, WordCastT}
-use Rattle.vast_expressions.specs.Rows.{Item, Take, Emit, Expression, Target, Rest, Right, Operand, Selects, SelectEnd, MaybeCast, TypeName, Arguments, More, Braces, BraceNext}
+use Rattle.vast_expressions.specs.Rows.{Item, Take, Emit, Expression, Target, Rest, Right, Operand, Selects, SelectEnd, MemberName, MaybeCast, TypeName, Arguments, More, Braces, BraceNext}
 use Rattle.vast_expressions.specs.declared.item.Item.{Item as Code}
 use Rattle.vast_expressions.specs.declared.item.Item.TheVariants as item
 use Rattle.vast_literal.specs.declared.token.Key.TheVariants as key
@@ -12,6 +12,7 @@ item_view item.Target = Target
 item_view item.Operand = Operand
 item_view item.Selects = Selects
 item_view item.SelectEnd = SelectEnd
+item_view item.MemberName = MemberName
 item_view item.MaybeCast = MaybeCast
 item_view item.TypeName = TypeName
 item_view item.Braces = Braces

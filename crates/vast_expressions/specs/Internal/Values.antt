@@ -1,7 +1,7 @@
 -- What is made of what is told: trees, lists of them and names, the last one first.
 use Rattle.std.specs.Prelude.{◌≡◌, ℕ, List, ◌∷◌, Option, Some, None}
-use Rattle.vast_literal.specs.NormalExpr.{NormalExpr, Name, Literal, Text, MacroAlone, Unary, Binary, Ternary, Index, Slice, PartSelect, Concat, Pattern, Replicated, Call, MacroCall, Cast, PackageCast, WordCast, NormalExprs, NoNormals, MoreNormals}
-use Rattle.vast_expressions.specs.Events.{Told, UnaryT, BinaryT, TernaryT, IndexT, SliceT, NoneT, OneT, PushT, ConcatT, PatternT, ReplicatedT, CallT, MacroCallT, CastT, PackageCastT, WordCastT, Event, NameE, LiteralE, TextE, MacroE, WordE, PartSelectE, Made}
+use Rattle.vast_literal.specs.NormalExpr.{NormalExpr, Name, Literal, Text, MacroAlone, Unary, Binary, Ternary, Index, Slice, PartSelect, MemberOf, Concat, Pattern, Replicated, Call, MacroCall, Cast, PackageCast, WordCast, NormalExprs, NoNormals, MoreNormals}
+use Rattle.vast_expressions.specs.Events.{Told, UnaryT, BinaryT, TernaryT, IndexT, SliceT, NoneT, OneT, PushT, ConcatT, PatternT, ReplicatedT, CallT, MacroCallT, CastT, PackageCastT, WordCastT, Event, NameE, LiteralE, TextE, MacroE, WordE, PartSelectE, MemberOfE, Made}
 
 -- One value.
 pub data Value : Type 0 where
@@ -97,4 +97,5 @@ grown (TextE w) vs = Some (Tree (Text w) ∷ vs)
 grown (MacroE w) vs = Some (Tree (MacroAlone w) ∷ vs)
 grown (WordE w) vs = Some (Bytes w ∷ vs)
 grown (PartSelectE n) vs = grown_part n vs
+grown (MemberOfE m) vs = grown_one (λ s. MemberOf s m) vs
 grown (Made t) vs = grown_made t vs

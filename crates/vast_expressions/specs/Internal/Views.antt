@@ -30,4 +30,5 @@ event_view (event.Text w) = told.TextE w.now
 event_view (event.MacroAlone w) = told.MacroE w.now
 event_view (event.Word w) = told.WordE w.now
 event_view (event.PartSelect w) = told.PartSelectE w.now
+event_view (event.MemberOf w) = told.MemberOfE w.now
 event_view (event.Made t) = told.Made t

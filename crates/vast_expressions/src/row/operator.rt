@@ -29,6 +29,7 @@ pub(crate) fn is_end<'t, R: Source<'t>>(source: &R) -> bool
             match mark {
                 Mark::OpenParen
                 | Mark::OpenBracket
+                | Mark::Dot
                 | Mark::Question
                 | Mark::DoubleColon
                 | Mark::Apostrophe => false,

@@ -1,7 +1,7 @@
 //! Selects and casts after what was read.
 
 ghost use Rattle.std.specs.Prelude.{IfOk};
-ghost use Rattle.vast_expressions.specs.Internal.Fused.{cast_front, selects_front, select_end_front};
+ghost use Rattle.vast_expressions.specs.Internal.Fused.{cast_front, member_name_front, selects_front, select_end_front};
 ghost use Rattle.vast_expressions.specs.Rows.{Goes, Tells};
 ghost use Rattle.vast_expressions.specs.Internal.Steps.{DoesAll};
 ghost use Rattle.vast_expressions.specs.Internal.Views.{event_view};
@@ -27,9 +27,16 @@ pub(crate) fn selects_after<'t, R: Source<'t>, S: Sink<'t>>(
     ensures { IfOk result (λ b. DoesAll S.hears (selects_front (Tells (event_view event.entry))) b (R.left source.old)
         stack.old stack.new (R.left source.new) sink.old sink.new) }
 {
-    if let Some(Token::Mark(Mark::OpenBracket)) = source.peek() {
-        source.skip();
-        stack.push_all(&[Item::SelectEnd, Item::Expression])?;
+    match source.peek() {
+        Some(Token::Mark(Mark::OpenBracket)) => {
+            source.skip();
+            stack.push_all(&[Item::SelectEnd, Item::Expression])?;
+        }
+        Some(Token::Mark(Mark::Dot)) => {
+            source.skip();
+            stack.push(Item::MemberName)?;
+        }
+        _ => {}
     }
     sink.tell(event)?;
     Ok(true)
@@ -61,6 +68,10 @@ pub(crate) fn cast_after<'t, R: Source<'t>, S: Sink<'t>>(
             source.skip();
             stack.push_all(&[Item::SelectEnd, Item::Expression])?;
         }
+        Some(Token::Mark(Mark::Dot)) => {
+            source.skip();
+            stack.push(Item::MemberName)?;
+        }
         _ => {}
     }
     sink.tell(event)?;
@@ -77,9 +88,16 @@ pub(crate) fn selects<'t, R: Source<'t>, S: Sink<'t>>(
     ensures { IfOk result (λ b. DoesAll S.hears (selects_front Goes) b (R.left source.old)
         stack.old stack.new (R.left source.new) sink.old sink.new) }
 {
-    if let Some(Token::Mark(Mark::OpenBracket)) = source.peek() {
-        source.skip();
-        stack.push_all(&[Item::SelectEnd, Item::Expression])?;
+    match source.peek() {
+        Some(Token::Mark(Mark::OpenBracket)) => {
+            source.skip();
+            stack.push_all(&[Item::SelectEnd, Item::Expression])?;
+        }
+        Some(Token::Mark(Mark::Dot)) => {
+            source.skip();
+            stack.push(Item::MemberName)?;
+        }
+        _ => {}
     }
     Ok(true)
 }
@@ -115,6 +133,25 @@ pub(crate) fn select_end<'t, R: Source<'t>, S: Sink<'t>>(
                 }
                 _ => Ok(false),
             }
+        }
+        _ => Ok(false),
+    }
+}
+
+/// The name of a member, and the selects after it.
+#[tactic(auto, unfolding(crate::specs::Internal::Fused::member_name_front, crate::specs::Internal::Fused::selects_front))]
+pub(crate) fn member_name<'t, R: Source<'t>, S: Sink<'t>>(
+    source: &mut R,
+    stack: &mut Stack<Item>,
+    sink: &mut S,
+) -> Result<bool, AllocError>
+    ensures { IfOk result (λ b. DoesAll S.hears member_name_front b (R.left source.old)
+        stack.old stack.new (R.left source.new) sink.old sink.new) }
+{
+    match source.peek() {
+        Some(Token::Word(name)) => {
+            source.skip();
+            selects_after(Event::MemberOf(name), source, stack, sink)
         }
         _ => Ok(false),
     }

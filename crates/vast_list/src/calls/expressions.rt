@@ -49,6 +49,7 @@ pub(super) fn expression_step(
         23 => arguments.one(ExpressionStep::MakeNegEdge),
         24 => arguments.one(ExpressionStep::MakeMacroRef),
         25 => arguments.two(ExpressionStep::MakeMacroRefWithArgs),
+        26 => arguments.two(ExpressionStep::MakeMember),
         _ => Err(arguments.misfit(Problem::UnknownCall)),
     }
 }

@@ -43,6 +43,8 @@ pub(super) fn module_step(place: usize, arguments: &mut Arguments<'_>) -> Result
         19 => arguments.two(|module, Count(start)| {
             ModuleStep::HoistModuleDeclarations(module, start)
         }),
+        20 => arguments.two(ModuleStep::AddImport),
+        21 => arguments.one(ModuleStep::AddFileImport),
         _ => Err(arguments.misfit(Problem::UnknownCall)),
     }
 }

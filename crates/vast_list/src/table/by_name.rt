@@ -59,6 +59,8 @@ pub(super) const EXPRESSION: Parameter = Parameter("expression", kinds::EXPRESSI
 
 pub(super) const EXPRESSIONS: Parameter = Parameter("expressions", kinds::EXPRESSIONS);
 
+pub(super) const FIELD: Parameter = Parameter("field", kinds::TEXT);
+
 pub(super) const FORMAT: Parameter = Parameter("format", kinds::FORMAT);
 
 pub(super) const FUNCTION: Parameter = Parameter("function", kinds::FUNCTION);
@@ -106,6 +108,8 @@ pub(super) const MODULE_NAME: Parameter = Parameter("module_name", kinds::TEXT);
 pub(super) const NAME: Parameter = Parameter("name", kinds::TEXT);
 
 pub(super) const OWNER: Parameter = Parameter("owner", kinds::MODULE);
+
+pub(super) const PACKAGE: Parameter = Parameter("package", kinds::TEXT);
 
 pub(super) const PACKAGE_NAME: Parameter = Parameter("package_name", kinds::TEXT);
 

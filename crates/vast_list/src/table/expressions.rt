@@ -2,13 +2,14 @@
 
 use super::by_name::{
     ALTERNATE, ARGUMENTS, BITS_MSB, CONDITION, CONSEQUENT, DATA_TYPE, ELEMENTS, EXPRESSION,
-    EXPRESSIONS, FORMAT, HI, HI_NUMBER, INDEX, INDEX_NUMBER, LO, LO_NUMBER, NAME, REPLICATION,
-    REPLICATION_NUMBER, START, SUBJECT, TEXT, VALUE, VALUE_NUMBER, VALUE_TEXT, WIDTH, WIDTH_NUMBER,
+    EXPRESSIONS, FIELD, FORMAT, HI, HI_NUMBER, INDEX, INDEX_NUMBER, LO, LO_NUMBER, NAME,
+    REPLICATION, REPLICATION_NUMBER, START, SUBJECT, TEXT, VALUE, VALUE_NUMBER, VALUE_TEXT, WIDTH,
+    WIDTH_NUMBER,
 };
 use super::{CallRow, kinds};
 
 /// Calls that make any other expression.
-pub(crate) static CALLS: [CallRow; 26] = [
+pub(crate) static CALLS: [CallRow; 27] = [
     CallRow("MakeLiteral", &[TEXT, FORMAT], kinds::EXPRESSION),
     CallRow("MakeBinaryPattern", &[BITS_MSB], kinds::EXPRESSION),
     CallRow(
@@ -55,4 +56,5 @@ pub(crate) static CALLS: [CallRow; 26] = [
     CallRow("MakeNegEdge", &[EXPRESSION], kinds::EXPRESSION),
     CallRow("MakeMacroRef", &[NAME], kinds::MACRO),
     CallRow("MakeMacroRefWithArgs", &[NAME, ARGUMENTS], kinds::MACRO),
+    CallRow("MakeMember", &[VALUE, FIELD], kinds::EXPRESSION),
 ];

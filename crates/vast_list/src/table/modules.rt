@@ -1,12 +1,13 @@
 //! Calls of the file's items, and of modules with their ports, declarations and parameters.
 
 use super::by_name::{
-    BLANK_LINE, DATA_TYPE, DEFINITION, INCLUDE, NAME, OWNER, RHS, START_NUMBER, TEXT, VALUE,
+    BLANK_LINE, DATA_TYPE, DEFINITION, INCLUDE, NAME, OWNER, PACKAGE, RHS, START_NUMBER, TEXT,
+    VALUE,
 };
 use super::{CallRow, kinds};
 
 /// Calls of the file's items, and of modules with their ports, declarations and parameters.
-pub(crate) static CALLS: [CallRow; 20] = [
+pub(crate) static CALLS: [CallRow; 22] = [
     CallRow("AddInclude", &[INCLUDE], kinds::NOTHING),
     CallRow("AddBlankLine", &[BLANK_LINE], kinds::NOTHING),
     CallRow("AddCommentText", &[TEXT], kinds::NOTHING),
@@ -43,4 +44,6 @@ pub(crate) static CALLS: [CallRow; 20] = [
         &[OWNER, START_NUMBER],
         kinds::NOTHING,
     ),
+    CallRow("AddImport", &[OWNER, PACKAGE], kinds::NOTHING),
+    CallRow("AddFileImport", &[PACKAGE], kinds::NOTHING),
 ];

@@ -1,7 +1,7 @@
 -- Expressions that wait to be looked at.
 use Rattle.std.specs.Prelude.{◌≡◌, ℕ, ◌+◌, ◌<◌, Bool, ◌&&◌, List, All, Result, Ok, Err}
 use Rattle.std.specs.declared.alloc.AllocError.{AllocError}
-use Rattle.vast_literal.specs.Tree.{ExprTree, UnaryTree, BinaryTree, TernaryTree, IndexTree, SliceTree, PartSelectTree, ConcatTree, PatternTree, WidthCastTree, TypeCastTree, PosEdgeTree, NegEdgeTree, MacroTree, CallTree}
+use Rattle.vast_literal.specs.Tree.{ExprTree, UnaryTree, BinaryTree, TernaryTree, IndexTree, SliceTree, PartSelectTree, MemberOfTree, ConcatTree, PatternTree, WidthCastTree, TypeCastTree, PosEdgeTree, NegEdgeTree, MacroTree, CallTree}
 use Rattle.vast_literal.specs.Tree.{TypeTree, VectorTree, PackedTree, UnpackedTree}
 use Rattle.vast_literal.specs.Tree.{MaybeExpr, NoExpr, SomeExpr, Exprs, NoExprs, MoreExprs, MaybeExprs, NoArguments, SomeArguments}
 use Rattle.vast_literal.specs.Plain.{is_plain, are_plain}
@@ -22,6 +22,7 @@ abbrev mutual
   expr_weight (IndexTree subject index) = expr_weight subject + expr_weight index + 1
   expr_weight (SliceTree subject high low) = expr_weight subject + expr_weight high + expr_weight low + 1
   expr_weight (PartSelectTree subject start width) = expr_weight subject + expr_weight start + 1
+  expr_weight (MemberOfTree subject name) = expr_weight subject + 1
   expr_weight (ConcatTree count parts) = maybe_weight count + exprs_weight parts + 1
   expr_weight (PatternTree parts) = exprs_weight parts + 1
   expr_weight (WidthCastTree width operand) = expr_weight width + expr_weight operand + 1

@@ -1,7 +1,7 @@
 -- Pieces of a text that are still to write.
 use Rattle.std.specs.Prelude.{◌≡◌, ◌<◌, ℕ, ◌+◌, List, [], ◌∷◌, Result, Ok, Err}
 use Rattle.std.specs.Fmt.{signed_decimal}
-use Rattle.vast_literal.specs.Tree.{ExprTree, UnaryTree, BinaryTree, TernaryTree, IndexTree, SliceTree, PartSelectTree, ConcatTree, PatternTree, WidthCastTree, TypeCastTree, PosEdgeTree, NegEdgeTree, MacroTree, CallTree}
+use Rattle.vast_literal.specs.Tree.{ExprTree, UnaryTree, BinaryTree, TernaryTree, IndexTree, SliceTree, PartSelectTree, MemberOfTree, ConcatTree, PatternTree, WidthCastTree, TypeCastTree, PosEdgeTree, NegEdgeTree, MacroTree, CallTree}
 use Rattle.vast_literal.specs.Tree.{TypeTree, VectorTree}
 use Rattle.vast_literal.specs.Tree.{MaybeExpr, NoExpr, SomeExpr, Exprs, NoExprs, MoreExprs, MaybeExprs, NoArguments, SomeArguments}
 use Rattle.vast_core.specs.Bench.{Bench, OwnsExpr, tree_of}
@@ -24,6 +24,7 @@ abbrev mutual
   expr_weight (IndexTree s i) = expr_weight s + expr_weight i + 5
   expr_weight (SliceTree s h l) = expr_weight s + expr_weight h + expr_weight l + 7
   expr_weight (PartSelectTree s i w) = expr_weight s + expr_weight i + 7
+  expr_weight (MemberOfTree s n) = expr_weight s + 4
   expr_weight (ConcatTree n es) = count_weight n + exprs_weight es + 4
   expr_weight (PatternTree es) = exprs_weight es + 2
   expr_weight (WidthCastTree w e) = expr_weight w + expr_weight e + 5

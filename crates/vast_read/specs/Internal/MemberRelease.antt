@@ -9,6 +9,7 @@ abbrev pub member_step : NormalMember-F Rounds → Rounds
 member_step (NormalMember-F.Declaration d) = of_nothing
 member_step (NormalMember-F.Assign l r) = of_nothing
 member_step (NormalMember-F.Parameter word d x) = of_nothing
+member_step (NormalMember-F.Import package_name) = of_nothing
 member_step (NormalMember-F.Macro m) = of_nothing
 member_step (NormalMember-F.Instance i) = of_nothing
 member_step (NormalMember-F.Always a) = of_nothing

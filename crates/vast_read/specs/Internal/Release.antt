@@ -54,6 +54,7 @@ rounds_level (NormalExpr-F.Ternary x y z) = of_three x.value y.value z.value
 rounds_level (NormalExpr-F.Index x y) = of_two x.value y.value
 rounds_level (NormalExpr-F.Slice x y z) = of_three x.value y.value z.value
 rounds_level (NormalExpr-F.PartSelect x y w) = of_two x.value y.value
+rounds_level (NormalExpr-F.MemberOf x w) = of_one x.value
 rounds_level (NormalExpr-F.Concat xs) = of_list xs
 rounds_level (NormalExpr-F.Replicated x xs) = of_counted x.value xs
 rounds_level (NormalExpr-F.Pattern xs) = of_list xs

@@ -1,7 +1,7 @@
 -- What a transcript tells.
 use Rattle.std.specs.Prelude.{ℕ, List, [], ◌∷◌}
 use Rattle.vast_literal.specs.NormalExpr.{NormalExpr, Name}
-use Rattle.vast_expressions.specs.Events.{NameE, LiteralE, TextE, MacroE, WordE, PartSelectE, Made}
+use Rattle.vast_expressions.specs.Events.{NameE, LiteralE, TextE, MacroE, WordE, PartSelectE, MemberOfE, Made}
 use Rattle.vast_expressions.specs.Events as expression
 use Rattle.vast_expressions.specs.Internal.Values.{Value, Tree, grown}
 use Rattle.vast_rows.specs.Events.{Event, Makes, Reads, Names}
@@ -41,6 +41,7 @@ told_by (Says role.Text w ∷ es) vs = told_by es (made_by (TextE w) vs)
 told_by (Says role.MacroAlone w ∷ es) vs = told_by es (made_by (MacroE w) vs)
 told_by (Says role.Word w ∷ es) vs = told_by es (made_by (WordE w) vs)
 told_by (Says role.Width w ∷ es) vs = told_by es (made_by (PartSelectE w) vs)
+told_by (Says role.Member w ∷ es) vs = told_by es (made_by (MemberOfE w) vs)
 told_by (Says role.Named w ∷ es) vs = before vs (Names w ∷ told_by es [])
 told_by (Says role.Path w ∷ es) vs = before vs (Reads (IsPath w) ∷ told_by es [])
 told_by (Says role.Variable i ∷ es) (Tree e ∷ (Tree x ∷ vs)) = before vs (Reads (IsLoop i x e) ∷ told_by es [])

@@ -5,7 +5,7 @@ use Rattle.std.specs.Borrow.{Bor}
 use Rattle.vast_literal.specs.NormalExpr.{NormalExpr}
 use Rattle.vast_expressions.specs.Events as expression
 use Rattle.vast_expressions.specs.declared.event.Told.{Told}
-use Rattle.vast_expressions.specs.Events.{NameE, LiteralE, TextE, MacroE, WordE, PartSelectE, Made}
+use Rattle.vast_expressions.specs.Events.{NameE, LiteralE, TextE, MacroE, WordE, PartSelectE, MemberOfE, Made}
 use Rattle.vast_rows.specs.Events.{Event, Makes, Reads, Names}
 use Rattle.vast_rows.specs.Phrases.{IsExpression, IsLoop, IsPath}
 use Rattle.vast_rows.specs.declared.action.Action.{Action}
@@ -31,6 +31,7 @@ entry_of (TextE w) = Says role.Text w
 entry_of (MacroE w) = Says role.MacroAlone w
 entry_of (WordE w) = Says role.Word w
 entry_of (PartSelectE w) = Says role.Width w
+entry_of (MemberOfE w) = Says role.Member w
 entry_of (Made t) = Tells t
 
 abbrev pub entries_of : NormalExpr → List Entry

@@ -46,6 +46,7 @@ impl<'t> Sink<'t> for Transcript<'t> {
             Event::MacroAlone(text) => self.say(Role::MacroAlone, text),
             Event::Word(text) => self.say(Role::Word, text),
             Event::PartSelect(text) => self.say(Role::Width, text),
+            Event::MemberOf(text) => self.say(Role::Member, text),
             Event::Made(told) => self.add(Piece {
                 notes: &[Note::Tells(told)],
                 texts: &[],

@@ -4,7 +4,7 @@
 ghost use Rattle.std.specs.Prelude.{◌≡◌, ◌∷◌, IfOk};
 ghost use Rattle.vast_expressions.specs.Internal.Values.{Grown, Tree, grown, grown_first, grown_list, grown_made, grown_named, grown_one, grown_package, grown_part, grown_push, grown_replicated, grown_three, grown_two};
 ghost use Rattle.vast_expressions.specs.Internal.Views.{event_view};
-ghost use Rattle.vast_literal.specs.NormalExpr.{Binary, Call, Cast, Concat, Index, MacroCall, Pattern, Slice, Ternary, Unary, WordCast};
+ghost use Rattle.vast_literal.specs.NormalExpr.{Binary, Call, Cast, Concat, Index, MacroCall, MemberOf, Pattern, Slice, Ternary, Unary, WordCast};
 ghost use Rattle.vast_read.specs.Internal.Values.{denoted};
 ghost use Rattle.vast_read.specs.View.{view};
 
@@ -84,6 +84,16 @@ fn make_part_select(alloc: Global, width: &str, values: &mut Values<'_>) -> Resu
     let start = wanted!(pop_tree(values));
     let subject = wanted!(pop_tree(values));
     let made = NormalExpr::PartSelect(subject, start, Word::new(alloc, width)?);
+    put_tree(alloc, made, values)
+}
+
+/// The member of this name.
+fn make_member(alloc: Global, name: &str, values: &mut Values<'_>) -> Result<(), AllocError>
+    ensures { IfOk result (λ _. Grown (grown_one (λ s. MemberOf s name.now) (denoted values.old))
+        (denoted values.new)) }
+{
+    let subject = wanted!(pop_tree(values));
+    let made = NormalExpr::MemberOf(subject, Word::new(alloc, name)?);
     put_tree(alloc, made, values)
 }
 
@@ -242,6 +252,7 @@ pub(crate) fn hear<'t>(
         }
         Event::Word(text) => values.push(Value::Bytes(text)),
         Event::PartSelect(width) => make_part_select(alloc, width, values),
+        Event::MemberOf(name) => make_member(alloc, name, values),
         Event::Made(told) => make(alloc, told, values),
     }
 }

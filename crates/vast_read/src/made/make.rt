@@ -9,8 +9,8 @@ use crate::made::declarations::{declares, group_of, kind_of, name_before, packag
 use crate::made::lists::{none_of, one_more};
 use crate::made::members::{
     always_member, assign_member, change_of, conditional_member, connects, declaration_member,
-    edge_of, function_member, header_parameter, include_item, instance_member, loop_member,
-    macro_member, module_item, parameter_member, port_of,
+    edge_of, function_member, header_parameter, import_item, import_member, include_item,
+    instance_member, loop_member, macro_member, module_item, parameter_member, port_of,
 };
 use crate::made::statements::{
     arm, assigns, assigns_by_word, case_of, chooses, conditional, default_arm, unique_case,
@@ -35,11 +35,13 @@ pub(crate) fn make(alloc: Global, action: Action, values: &mut Values<'_>) -> Re
         Action::OneMore(what) => one_more(what, values),
         Action::ModuleItem => module_item(alloc, values),
         Action::IncludeItem => include_item(alloc, values),
+        Action::ImportItem => import_item(alloc, values),
         Action::HeaderParameter => header_parameter(alloc, values),
         Action::PortOf(key) => port_of(alloc, key, values),
         Action::DeclarationMember => declaration_member(alloc, values),
         Action::AssignMember => assign_member(values),
         Action::ParameterMember(key) => parameter_member(alloc, key, values),
+        Action::ImportMember => import_member(alloc, values),
         Action::MacroMember => macro_member(alloc, values),
         Action::InstanceMember => instance_member(alloc, values),
         Action::AlwaysMember(kind) => always_member(alloc, kind, values),

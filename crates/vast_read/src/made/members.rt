@@ -54,6 +54,15 @@ pub(crate) fn parameter_member(
     values.push(Value::Member(NormalMember::Parameter(word, declared, value)))
 }
 
+/// The import of a package by its name.
+pub(crate) fn import_member(alloc: Global, values: &mut Values<'_>) -> Result<(), AllocError>
+    ensures { IfOk result (λ _. Grown (make action.ImportMember (denoted values.old)) values.new) }
+{
+    let package = wanted!(first::<&str>(values));
+    let package = Word::new(alloc, package)?;
+    values.push(Value::Member(NormalMember::Import(package)))
+}
+
 /// A macro of its name, its arguments where it has any, and whether there is a semicolon.
 pub(crate) fn macro_member(alloc: Global, values: &mut Values<'_>) -> Result<(), AllocError>
     ensures { IfOk result (λ _. Grown (make action.MacroMember (denoted values.old)) values.new) }
@@ -235,4 +244,13 @@ pub(crate) fn include_item(alloc: Global, values: &mut Values<'_>) -> Result<(),
     let path = wanted!(first::<Path<'_>>(values));
     let path = Word::new(alloc, path.text)?;
     values.push(Value::Item(NormalItem::Include(path)))
+}
+
+/// The import of a package by its name, as an item of a file.
+pub(crate) fn import_item(alloc: Global, values: &mut Values<'_>) -> Result<(), AllocError>
+    ensures { IfOk result (λ _. Grown (make action.ImportItem (denoted values.old)) values.new) }
+{
+    let package = wanted!(first::<&str>(values));
+    let package = Word::new(alloc, package)?;
+    values.push(Value::Item(NormalItem::Import(package)))
 }

@@ -21,6 +21,8 @@ pub(crate) enum Role {
     Word,
     /// The width of a part select.
     Width,
+    /// The name of a member.
+    Member,
     /// A name above expressions.
     Named,
     /// The path of an include.

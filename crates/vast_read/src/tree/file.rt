@@ -42,6 +42,8 @@ pub struct NormalModule {
 pub enum NormalItem {
     /// The path of an include, without its quotes.
     Include(Word),
+    /// The package of an import (IEEE Std 1800-2017, clause 26.3).
+    Import(Word),
     /// A module.
     Module(NormalModule),
 }
@@ -49,6 +51,6 @@ pub enum NormalItem {
 /// A file: its items, in their order.
 #[derive(PartialEq, Drop)]
 pub struct NormalFile {
-    /// Its includes and modules.
+    /// Its includes, imports and modules.
     pub items: Children<NormalItem>,
 }

@@ -42,6 +42,8 @@ pub enum NormalMember {
     Assign(Box<NormalExpr>, Box<NormalExpr>),
     /// `parameter` or `localparam`, what it declares, and its value.
     Parameter(Word, Box<NormalDeclaration>, Box<NormalExpr>),
+    /// The package of an import (IEEE Std 1800-2017, clause 26.3).
+    Import(Word),
     /// The use of a macro.
     Macro(Box<MacroUse>),
     /// An instantiation.
@@ -118,6 +120,7 @@ impl NormalMember {
             NormalMember::Assign(_left, _right) => next_of(waiting),
             NormalMember::Parameter(_, _declared, _value) => next_of(waiting),
             NormalMember::Conditional(_choice) => next_of(waiting),
+            NormalMember::Import(_package) => next_of(waiting),
             NormalMember::Macro(_macro) => next_of(waiting),
             NormalMember::Instance(_instance) => next_of(waiting),
             NormalMember::Always(_always) => next_of(waiting),

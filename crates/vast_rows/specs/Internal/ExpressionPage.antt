@@ -3,7 +3,7 @@
 -- `tools/rows` reads this page as it reads that of files.
 use Rattle.std.specs.Prelude.{ℕ, List, [], ◌∷◌, None}
 use Rattle.vast_rows.specs.Numbers.{LogicOr, LogicAnd, BitOr, BitXor, BitAnd, NotEqual, CaseNotEqual, Equal, CaseEqual, GreaterEqual, Greater, LessEqual, Less, ShiftLeft, ShiftRightSigned, ShiftRight, Plus, Minus, Times, Divide, Modulo, Power, BitNot, LogicNot}
-use Rattle.vast_rows.specs.Numbers.{OpenParen, CloseParen, OpenBracket, CloseBracket, OpenBrace, CloseBrace, Comma, Colon, Question, DoubleColon, PlusColon, Apostrophe, LogicKey, SignedKey, UnsignedKey, IntegerKey, IntKey}
+use Rattle.vast_rows.specs.Numbers.{OpenParen, CloseParen, OpenBracket, CloseBracket, OpenBrace, CloseBrace, Comma, Colon, Dot, Question, DoubleColon, PlusColon, Apostrophe, LogicKey, SignedKey, UnsignedKey, IntegerKey, IntKey}
 use Rattle.vast_rows.specs.declared.grammar.Item.{Item}
 use Rattle.vast_rows.specs.declared.grammar.Item.TheVariants.{Rule}
 use Rattle.vast_rows.specs.Internal.PhraseKinds.{system_word, number_word, based, quoted}
@@ -84,6 +84,7 @@ expression_page =
     ∷ (Infix ⟶ op Power ∷ [])
     ∷ (Selects ⟶ [])
     ∷ (Selects ⟶ mark OpenBracket ∷ rule Expression ∷ rule SelectEnd ∷ rule Selects ∷ [])
+    ∷ (Selects ⟶ mark Dot ∷ word ∷ rule Selects ∷ [])
     ∷ (SelectEnd ⟶ mark CloseBracket ∷ [])
     ∷ (SelectEnd ⟶ mark Colon ∷ rule Expression ∷ mark CloseBracket ∷ [])
     ∷ (SelectEnd ⟶ mark PlusColon ∷ number_word ∷ mark CloseBracket ∷ [])

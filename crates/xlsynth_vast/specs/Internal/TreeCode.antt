@@ -4,7 +4,7 @@ use Rattle.std.proofs.Common.{◌≡◌, ℕ, ℤ, Bool, List, [], ◌∷◌, Op
 use Rattle.std.specs.Coded.{Coded, code_by, coded_list, codes}
 use Rattle.vast_literal.specs.declared.operator.UnaryOperator.{UnaryOperator}
 use Rattle.vast_literal.specs.declared.operator.BinaryOperator.{BinaryOperator}
-use Rattle.vast_literal.specs.Tree.{ExprTree, TypeTree, MaybeType, MaybeExpr, Exprs, MaybeExprs, NameTree, LiteralTree, StringTree, UnaryTree, BinaryTree, TernaryTree, IndexTree, SliceTree, PartSelectTree, ConcatTree, PatternTree, WidthCastTree, TypeCastTree, PosEdgeTree, NegEdgeTree, MacroTree, CallTree, MissingExpr, ScalarTree, VectorTree, IntegerTree, IntTree, ExternalTree, PackageTree, PackedTree, UnpackedTree, MissingType, Untyped, Typed, NoExpr, SomeExpr, NoExprs, MoreExprs, NoArguments, SomeArguments}
+use Rattle.vast_literal.specs.Tree.{ExprTree, TypeTree, MaybeType, MaybeExpr, Exprs, MaybeExprs, NameTree, LiteralTree, StringTree, UnaryTree, BinaryTree, TernaryTree, IndexTree, SliceTree, PartSelectTree, MemberOfTree, ConcatTree, PatternTree, WidthCastTree, TypeCastTree, PosEdgeTree, NegEdgeTree, MacroTree, CallTree, MissingExpr, ScalarTree, VectorTree, IntegerTree, IntTree, ExternalTree, PackageTree, PackedTree, UnpackedTree, MissingType, Untyped, Typed, NoExpr, SomeExpr, NoExprs, MoreExprs, NoArguments, SomeArguments}
 
 -- A node without its parts.
 pub data Letter : Type 0 where
@@ -17,6 +17,7 @@ pub data Letter : Type 0 where
   IndexLetter : Letter
   SliceLetter : Letter
   PartSelectLetter : ℤ → Letter
+  MemberOfLetter : List ℕ → Letter
   ConcatLetter : Letter
   PatternLetter : Letter
   WidthCastLetter : Letter
@@ -65,6 +66,7 @@ abbrev mutual
   spell_expr (IndexTree subject index) ls = spell_expr subject (spell_expr index (IndexLetter ∷ ls))
   spell_expr (SliceTree subject high low) ls = spell_expr subject (spell_expr high (spell_expr low (SliceLetter ∷ ls)))
   spell_expr (PartSelectTree subject start width) ls = spell_expr subject (spell_expr start (PartSelectLetter width ∷ ls))
+  spell_expr (MemberOfTree subject name) ls = spell_expr subject (MemberOfLetter name ∷ ls)
   spell_expr (ConcatTree count parts) ls = spell_maybe_expr count (spell_exprs parts (ConcatLetter ∷ ls))
   spell_expr (PatternTree parts) ls = spell_exprs parts (PatternLetter ∷ ls)
   spell_expr (WidthCastTree width operand) ls = spell_expr width (spell_expr operand (WidthCastLetter ∷ ls))
@@ -113,6 +115,7 @@ take_letter TernaryLetter (AnExpr alternate ∷ AnExpr consequent ∷ AnExpr con
 take_letter IndexLetter (AnExpr index ∷ AnExpr subject ∷ ps) = AnExpr (IndexTree subject index) ∷ ps
 take_letter SliceLetter (AnExpr low ∷ AnExpr high ∷ AnExpr subject ∷ ps) = AnExpr (SliceTree subject high low) ∷ ps
 take_letter (PartSelectLetter width) (AnExpr start ∷ AnExpr subject ∷ ps) = AnExpr (PartSelectTree subject start width) ∷ ps
+take_letter (MemberOfLetter name) (AnExpr subject ∷ ps) = AnExpr (MemberOfTree subject name) ∷ ps
 take_letter ConcatLetter (SomeExprs parts ∷ AMaybeExpr count ∷ ps) = AnExpr (ConcatTree count parts) ∷ ps
 take_letter PatternLetter (SomeExprs parts ∷ ps) = AnExpr (PatternTree parts) ∷ ps
 take_letter WidthCastLetter (AnExpr operand ∷ AnExpr width ∷ ps) = AnExpr (WidthCastTree width operand) ∷ ps
@@ -155,6 +158,7 @@ mutual
   expr-read (IndexTree subject index) ls ps = expr-read subject (spell_expr index (IndexLetter ∷ ls)) ps ∙ expr-read index (IndexLetter ∷ ls) (AnExpr subject ∷ ps)
   expr-read (SliceTree subject high low) ls ps = expr-read subject (spell_expr high (spell_expr low (SliceLetter ∷ ls))) ps ∙ expr-read high (spell_expr low (SliceLetter ∷ ls)) (AnExpr subject ∷ ps) ∙ expr-read low (SliceLetter ∷ ls) (AnExpr high ∷ AnExpr subject ∷ ps)
   expr-read (PartSelectTree subject start width) ls ps = expr-read subject (spell_expr start (PartSelectLetter width ∷ ls)) ps ∙ expr-read start ((PartSelectLetter width) ∷ ls) (AnExpr subject ∷ ps)
+  expr-read (MemberOfTree subject name) ls ps = expr-read subject (MemberOfLetter name ∷ ls) ps
   expr-read (ConcatTree count parts) ls ps = maybe_expr-read count (spell_exprs parts (ConcatLetter ∷ ls)) ps ∙ exprs-read parts (ConcatLetter ∷ ls) (AMaybeExpr count ∷ ps)
   expr-read (PatternTree parts) ls ps = exprs-read parts (PatternLetter ∷ ls) ps
   expr-read (WidthCastTree width operand) ls ps = expr-read width (spell_expr operand (WidthCastLetter ∷ ls)) ps ∙ expr-read operand (WidthCastLetter ∷ ls) (AnExpr width ∷ ps)

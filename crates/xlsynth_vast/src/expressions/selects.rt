@@ -1,9 +1,9 @@
-//! Selects: single bits and ranges of an expression.
+//! Selects: single bits and ranges of an expression, and members.
 
 ghost use Rattle.std.specs.Prelude.{◌≡◌, ◌≤ℤ◌, pos, IfOk, IsTrue, string_bytes};
 ghost use Rattle.vast_literal.specs.LiteralText.{format_text};
 ghost use Rattle.vast_literal.specs.LiteralToken.{is_literal_text};
-ghost use Rattle.vast_literal.specs.Tree.{IndexTree, PartSelectTree, SliceTree};
+ghost use Rattle.vast_literal.specs.Tree.{IndexTree, MemberOfTree, PartSelectTree, SliceTree};
 ghost use Rattle.vast_core.specs.Bench.{OwnsExpr, OwnsIndexable, tree_of};
 ghost use Rattle.vast_core.specs.Growth.{Builds, next_expr, next_node, next_fixed_index, with_fixed_index, next_fixed_slice, with_fixed_slice, with_expr};
 ghost use Rattle.xlsynth_vast.specs.Keeps.{Keeps};
@@ -13,6 +13,7 @@ use crate::file::VastFile;
 use std::alloc::{AllocError, Global};
 use vast_core::{Expr, ExprNode, Index, IndexableExpr, Slice};
 use vast_literal::{Literal, LiteralFormat};
+use vast_names::Word;
 
 impl VastFile {
     /// The same node, as an expression that may be selected from.
@@ -125,6 +126,20 @@ impl VastFile {
         ensures kept { Keeps self.old self.new }
     {
         self.push_expr(ExprNode::PartSelect(subject.to_expr(), *start, width))
+    }
+
+    /// The member `value.field` of a value of a named type, whose name prints as it is. The original crate lacks it.
+    ///
+    /// # Errors
+    /// `AllocError` where a growth was refused; the file is unchanged.
+    pub fn make_member(&mut self, value: &Expr, field: &str) -> Result<Expr, AllocError>
+        requires { OwnsExpr self.old value.now }
+        ensures built { Builds self.old self.new result next_expr
+            (λ b. with_expr (MemberOfTree (tree_of b value.now) field.now) b) }
+        ensures kept { Keeps self.old self.new }
+    {
+        let field = Word::new(self.ast.allocator(), field)?;
+        self.push_expr(ExprNode::MemberOf(*value, field))
     }
 }
 

@@ -99,6 +99,7 @@ fn known_type(ast: &Ast, e: Expr) -> Option<(VastDataType, usize)>
             ExprNode::Ternary(_, _, _) => return None,
             ExprNode::Slice(_, _, _) => return None,
             ExprNode::PartSelect(_, _, _) => return None,
+            ExprNode::MemberOf(_, _) => return None,
             ExprNode::Concat(_, _) => return None,
             ExprNode::Pattern(_) => return None,
             ExprNode::WidthCast(_, _) => return None,

@@ -19,6 +19,7 @@ enum Part {
     Subject,
     Index,
     High,
+    Value,
     First,
     Last,
     Argument,
@@ -75,6 +76,7 @@ fn around(alloc: Global, part: Part, next: NormalExpr) -> Result<NormalExpr, Fai
         Part::Subject => NormalExpr::Index(next, one),
         Part::Index => NormalExpr::Index(one, next),
         Part::High => NormalExpr::Slice(one, next, other),
+        Part::Value => NormalExpr::MemberOf(next, word),
         Part::Count => NormalExpr::Replicated(next, Children::new(alloc)),
         _ => NormalExpr::Unary(word, next),
     })
@@ -184,6 +186,7 @@ fn chains(rt: HostRuntime) -> Result<(), Fail> {
         Part::Subject,
         Part::Index,
         Part::High,
+        Part::Value,
         Part::First,
         Part::Last,
         Part::Argument,

@@ -19,12 +19,16 @@ type Row = (
     &'static [Kind],
 );
 
-const ROWS: [Row; 12] = [
+const ROWS: [Row; 15] = [
     (
         "",
         "",
         true,
-        &[Kind::IncludeWord, Kind::Reserved(Key::Module)],
+        &[
+            Kind::IncludeWord,
+            Kind::Reserved(Key::Import),
+            Kind::Reserved(Key::Module),
+        ],
         &[Kind::Reserved(Key::EndModule)],
     ),
     (
@@ -94,6 +98,13 @@ const ROWS: [Row; 12] = [
         &[Kind::Quoted],
     ),
     (
+        "import p::q;",
+        "import p::",
+        false,
+        &[Kind::Operator(Sign::Times)],
+        &[Kind::Word, SEMICOLON],
+    ),
+    (
         "module m; wire a; é",
         "module m; wire a; ",
         false,
@@ -106,6 +117,20 @@ const ROWS: [Row; 12] = [
         false,
         &[SEMICOLON, Kind::Mark(Mark::Assign)],
         &[CLOSE, Kind::Reserved(Key::End)],
+    ),
+    (
+        "module m; assign a = s.1",
+        "module m; assign a = s.",
+        false,
+        &[Kind::Word],
+        &[Kind::Number, SEMICOLON],
+    ),
+    (
+        "module m; assign s.a b",
+        "module m; assign s.a ",
+        false,
+        &[Kind::Mark(Mark::Dot), Kind::Mark(Mark::Assign)],
+        &[OPEN, SEMICOLON],
     ),
 ];
 
