@@ -68,6 +68,10 @@ pub parted : {p q : Printed} {w : List ℕ} {ts us vs : List Token} → Prints R
 unfolding ◌⊕◌ plain_text
 parted f g h = record { told = λ e. let (x, y) = first_none _ _ e in reads_sep (f.told x) g (h.told y) }
 
+-- the same of q that anything may follow
+pub parted_free : {p q : Printed} {w : List ℕ} {ts us vs : List Token} → Prints Reads p ts → Divides w us → Prints Free q vs → Prints Free (p ⊕ (plain_text w ⊕ q)) (ts ++ (us ++ vs))
+parted_free {p = p} {q = q} {w = w} {ts = ts} {us = us} {vs = vs} f g h = rw (← printed_assoc p (plain_text w) q, ← append_assoc ts us vs) (after_free (ended_by f g) h)
+
 -- p, and q between two words
 pub enclosing : {p q : Printed} {o c : List ℕ} {ts os us cs : List Token} → Prints Reads p ts → Divides o os → Prints Reads q us → Divides c cs → Prints Reads (p ⊕ (plain_text o ⊕ (q ⊕ plain_text c))) (ts ++ (os ++ (us ++ cs)))
 unfolding ◌⊕◌ plain_text
