@@ -126,8 +126,8 @@ pub case_arm-enters :
 case_arm-enters b owner label h k = record { fresh = a-block-comes b (with_block b); listing = (case-place b owner h, (maybe-same b label k, (next_block_owned b, case-place b owner h))); placed = refl }
 
 pub for-enters :
-    (b : Bench) (owner : VastStatementBlock) (index : List ℕ) (start limit : Expr) → OwnsBlock b owner → OwnsExpr b start → OwnsExpr b limit →
-    GrowthSound b (InNest owner.id.index (StatementEnters (ForStatement (record { index = index; start = start; limit = limit; block = next_block b })))) fresh_block
-for-enters b owner index start limit h k l = record { fresh = a-block-comes b (with_block b); listing = (block-place b owner h, ((k, l), (next_block_owned b, block-place b owner h))); placed = refl }
+    (b : Bench) (owner : VastStatementBlock) (index : List ℕ) (start end : Expr) → OwnsBlock b owner → OwnsExpr b start → OwnsExpr b end →
+    GrowthSound b (InNest owner.id.index (StatementEnters (ForStatement (record { index = index; start = start; end = end; block = next_block b })))) fresh_block
+for-enters b owner index start end h k l = record { fresh = a-block-comes b (with_block b); listing = (block-place b owner h, ((k, l), (next_block_owned b, block-place b owner h))); placed = refl }
 
 pub ruleset enters = (statement-enters, case-enters, else_if-enters, else-enters, case_arm-enters, for-enters)

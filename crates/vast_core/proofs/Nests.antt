@@ -24,7 +24,7 @@ pub record Agree (i : ℕ) (f g : ℕ → Family) : Type 0 where
 statement-same : (b : Bench) (f g : ℕ → Family) (i : ℕ) → Agree i f g → (s : Statement) → StatementSound b i s → statement_in b f s ≡ statement_in b g s
 statement-same b f g i q (ConditionalStatement c) h = ap conditional_statement (q.at c.id.index h.1)
 statement-same b f g i q (CasesStatement c) h = ap case_statement (q.at c.id.index h.1)
-statement-same b f g i q (ForStatement l) h = ap (λ x. ForTree l.index (tree_of b l.start) (tree_of b l.limit) (block_in x)) (q.at l.block.id.index h.1.1)
+statement-same b f g i q (ForStatement l) h = ap (λ x. ForTree l.index (tree_of b l.start) (tree_of b l.end) (block_in x)) (q.at l.block.id.index h.1.1)
 statement-same b f g i q _ h = refl
 
 statements-same : (b : Bench) (f g : ℕ → Family) (i : ℕ) → Agree i f g → (ss : List Statement) → Each (StatementSound b i) ss → statements_in b f ss ≡ statements_in b g ss

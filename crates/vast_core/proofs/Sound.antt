@@ -154,7 +154,7 @@ StatementSound-kept b c g i (ContinuousStatement s) h = found-kept b c s.id b.as
 StatementSound-kept b c g i (TaskStatement call) h = HasExpr-kept b.nodes c.nodes g.nodes call h
 StatementSound-kept b c g i (ConditionalStatement x) h = (nest-kept (is_kind ConditionalKind) b c x.id g never h.0, h.1)
 StatementSound-kept b c g i (CasesStatement x) h = (nest-kept (is_kind CaseStatementKind) b c x.id g never h.0, h.1)
-StatementSound-kept b c g i (ForStatement l) h = ((HasExpr-kept b.nodes c.nodes g.nodes l.start h.0.0, HasExpr-kept b.nodes c.nodes g.nodes l.limit h.0.1), block-kept b c g i l.block h.1)
+StatementSound-kept b c g i (ForStatement l) h = ((HasExpr-kept b.nodes c.nodes g.nodes l.start h.0.0, HasExpr-kept b.nodes c.nodes g.nodes l.end h.0.1), block-kept b c g i l.block h.1)
 StatementSound-kept b c g i _ h = tt
 
 pub ElseIfSound-kept : (b c : Bench) → Grows b c → (i : ℕ) (a : ElseIf) → ElseIfSound b i a → ElseIfSound c i a

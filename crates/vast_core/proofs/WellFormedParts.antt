@@ -113,7 +113,7 @@ statement-good b w r f g n (ContinuousStatement s) h = continuous-good b w (slic
 statement-good b w r f g n (TaskStatement call) h = expr-good b w call h
 statement-good b w r f g n (ConditionalStatement c) h = conditional-good (f c.id.index) (g c.id.index)
 statement-good b w r f g n (CasesStatement c) h = case-good (f c.id.index) (g c.id.index)
-statement-good b w r f g n (ForStatement l) h = both_true (both_true (expr-good b w l.start h.0.0) (expr-good b w l.limit h.0.1)) (block-good (f l.block.id.index) (g l.block.id.index))
+statement-good b w r f g n (ForStatement l) h = both_true (both_true (expr-good b w l.start h.0.0) (expr-good b w l.end h.0.1)) (block-good (f l.block.id.index) (g l.block.id.index))
 statement-good b w r f g n _ h = refl
 
 pub statements-good :

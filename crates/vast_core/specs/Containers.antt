@@ -81,8 +81,8 @@ abbrev pub with_case_arm : CaseStatement → Option Expr → Bench → Bench
 with_case_arm owner label b = with_nest_entry owner.id.index (CaseArmEnters (record { label = label; block = next_block b })) (with_block b)
 
 -- A loop more at the end of the block, with an empty block.
-abbrev pub with_for : VastStatementBlock → (index : List ℕ) (start limit : Expr) → Bench → Bench
-with_for owner index start limit b = with_statement owner (ForStatement (record { index = index; start = start; limit = limit; block = next_block b })) (with_block b)
+abbrev pub with_for : VastStatementBlock → (index : List ℕ) (start end : Expr) → Bench → Bench
+with_for owner index start end b = with_statement owner (ForStatement (record { index = index; start = start; end = end; block = next_block b })) (with_block b)
 
 -- The conditional has an `else`.
 abbrev pub has_else : Option NestRecord → Bool

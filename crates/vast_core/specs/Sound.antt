@@ -65,7 +65,7 @@ StatementSound b i (ContinuousStatement s) = OwnsStatement b s
 StatementSound b i (TaskStatement call) = OwnsExpr b call
 StatementSound b i (ConditionalStatement c) = OwnsConditional b c × i < c.id.index
 StatementSound b i (CasesStatement c) = OwnsCase b c × i < c.id.index
-StatementSound b i (ForStatement l) = (OwnsExpr b l.start × OwnsExpr b l.limit) × HoldsBlock b i l.block
+StatementSound b i (ForStatement l) = (OwnsExpr b l.start × OwnsExpr b l.end) × HoldsBlock b i l.block
 StatementSound b i _ = Unit {0}
 
 abbrev pub ElseIfSound : Bench → ℕ → ElseIf → Type 0

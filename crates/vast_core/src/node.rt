@@ -255,13 +255,13 @@ pub enum Statement {
     Inline(Text),
 }
 
-/// A loop of a block: its index runs from `start` on while it is below `limit`.
+/// A loop of a block: its index runs from `start` on while it is below `end`.
 #[derive(Drop)]
 pub struct ForParts {
     /// The index's name.
     pub index: Word,
     pub start: Expr,
-    pub limit: Expr,
+    pub end: Expr,
     pub block: VastStatementBlock,
 }
 

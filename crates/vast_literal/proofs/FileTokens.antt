@@ -112,7 +112,7 @@ unfoldable mutual
       Reserved IfKey ∷ (Mark OpenParen ∷ (expr_tokens condition ++ (Mark CloseParen ∷ (Reserved BeginKey ∷ (ended (statements_tokens consequent) ++ alternates_tokens alternates)))))
   statement_tokens (CaseTree unique word selector arms) =
       unique_tokens unique ++ (Reserved (case_key word) ∷ (Mark OpenParen ∷ (expr_tokens selector ++ (Mark CloseParen ∷ arms_tokens word arms))))
-  statement_tokens (ForTree index start limit body) = loop_words IntKey index (expr_tokens start) (test_tokens index limit) (ended (statements_tokens body))
+  statement_tokens (ForTree index start end body) = loop_words IntKey index (expr_tokens start) (test_tokens index end) (ended (statements_tokens body))
 
   pub statements_tokens : Statements → List Token
   statements_tokens NoStatements = []

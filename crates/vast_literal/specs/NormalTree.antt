@@ -123,7 +123,7 @@ unfoldable mutual
   normal_before (TaskTree call) rest = Then (TaskStatement (normal_task (name_alone call) (normal call))) rest
   normal_before (ConditionalTree condition consequent alternates) rest = Then (ChoiceStatement (normal_choice (normal condition) (normal_statements consequent) alternates)) rest
   normal_before (CaseTree unique word selector arms) rest = Then (CaseStatement unique (case_key word) (normal selector) (normal_arms arms)) rest
-  normal_before (ForTree index start limit body) rest = Then (ForStatement index (normal start) (normal limit) (normal_statements body)) rest
+  normal_before (ForTree index start end body) rest = Then (ForStatement index (normal start) (normal end) (normal_statements body)) rest
   normal_before _ rest = rest
 
   pub normal_statements : Statements → NormalStatements

@@ -39,7 +39,7 @@ abbrev mutual
   is_plain_statement (InlineTree text) = false
   is_plain_statement (ConditionalTree condition consequent alternates) = is_plain condition && (are_plain_statements consequent && are_plain_alternates alternates)
   is_plain_statement (CaseTree unique word selector arms) = is_plain selector && are_plain_arms arms
-  is_plain_statement (ForTree index start limit body) = is_plain_name index && ((is_plain start && is_plain limit) && are_plain_statements body)
+  is_plain_statement (ForTree index start end body) = is_plain_name index && ((is_plain start && is_plain end) && are_plain_statements body)
   is_plain_statement _ = true
 
   pub are_plain_statements : Statements → Bool

@@ -34,7 +34,7 @@ abbrev mutual
   is_well_formed_statement (TaskTree call) = is_well_formed call
   is_well_formed_statement (ConditionalTree condition consequent alternates) = is_well_formed condition && (are_well_formed_statements consequent && are_well_formed_alternates alternates)
   is_well_formed_statement (CaseTree unique word selector arms) = is_well_formed selector && are_well_formed_arms arms
-  is_well_formed_statement (ForTree index start limit body) = (is_well_formed start && is_well_formed limit) && are_well_formed_statements body
+  is_well_formed_statement (ForTree index start end body) = (is_well_formed start && is_well_formed end) && are_well_formed_statements body
   is_well_formed_statement _ = true
 
   pub are_well_formed_statements : Statements → Bool

@@ -138,17 +138,17 @@ fn is_plain_case(ast: &Ast, c: CaseStatement) -> Result<bool, AllocError>
 #[cycle(statements)]
 fn is_plain_for(ast: &Ast, parts: &ForParts) -> Result<bool, AllocError>
     requires start { OwnsExpr (bench ast.now) parts.now.start }
-    requires limit { OwnsExpr (bench ast.now) parts.now.limit }
+    requires end { OwnsExpr (bench ast.now) parts.now.end }
     requires block { OwnsBlock (bench ast.now) parts.now.block }
     ensures { Answers
         (is_plain_statement (ForTree parts.now.index (tree_of (bench ast.now) parts.now.start)
-        (tree_of (bench ast.now) parts.now.limit) (block_tree (bench ast.now) parts.now.block)))
+        (tree_of (bench ast.now) parts.now.end) (block_tree (bench ast.now) parts.now.block)))
         result }
 {
     Ok(
         is_plain_name(parts.index.as_str())
             && is_plain_value(ast, parts.start)?
-            && is_plain_value(ast, parts.limit)?
+            && is_plain_value(ast, parts.end)?
             && is_plain_block(ast, parts.block)?,
     )
 }

@@ -130,10 +130,10 @@ inline-arm-block d k w b h = rw h refl
 
 -- loops
 
-pub indented-for : (d : ℕ) (k : Output) (i : List ℕ) (start limit : ExprTree) (b : Statements) →
-    indented d k (statement_page (ForTree i start limit b)) ≡ inline d (inline d (word (next d k) int_opening) (written (counting_text i start limit))) (block_page b)
+pub indented-for : (d : ℕ) (k : Output) (i : List ℕ) (start end : ExprTree) (b : Statements) →
+    indented d k (statement_page (ForTree i start end b)) ≡ inline d (inline d (word (next d k) int_opening) (written (counting_text i start end))) (block_page b)
 unfolding statement_page block_page int_opening
-indented-for d k i start limit b = indented-beside d k _ _ ∙ simp (inline-then, inline-word)
+indented-for d k i start end b = indented-beside d k _ _ ∙ simp (inline-then, inline-word)
 
 pub inline-counting : (d : ℕ) (k : Output) (i : List ℕ) (start end : ExprTree) →
     inline d k (written (counting_text i start end))

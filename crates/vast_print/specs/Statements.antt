@@ -66,7 +66,7 @@ unfoldable mutual
   statement_page (CaseTree unique word e arms) =
       above (written (plain_text (unique_word unique) ⊕ plain_text (case_word word) ⊕ expr_text e ⊕ plain_text (codes ")")))
       (above (inner (arms_page word arms)) (line (codes "endcase")))
-  statement_page (ForTree i start limit b) = beside (written (plain_text (codes "for (int ") ⊕ counting_text i start limit)) (block_page b)
+  statement_page (ForTree i start end b) = beside (written (plain_text (codes "for (int ") ⊕ counting_text i start end)) (block_page b)
 
   pub statements_page : Statements → Page
   statements_page NoStatements = no_lines

@@ -20,15 +20,15 @@ use vast_core::{Ast, BinaryOperator, Expr, ForParts};
 #[tactic(auto, using(crate::proofs::ContainerLaws::counted))]
 pub(crate) fn print_for(ast: &Ast, parts: &ForParts, out: &mut Writer) -> Result<(), PrintFault>
     requires start { OwnsExpr (bench ast.now) parts.now.start }
-    requires limit { OwnsExpr (bench ast.now) parts.now.limit }
+    requires end { OwnsExpr (bench ast.now) parts.now.end }
     requires block { OwnsBlock (bench ast.now) parts.now.block }
     ensures { WritesLines out.old out.new result
         (statement_page (ForTree parts.now.index (tree_of (bench ast.now) parts.now.start)
-        (tree_of (bench ast.now) parts.now.limit) (block_tree (bench ast.now) parts.now.block))) }
+        (tree_of (bench ast.now) parts.now.end) (block_tree (bench ast.now) parts.now.block))) }
 {
     out.next()?;
     out.word(words::for_int())?;
-    print_counting(ast, parts.index.as_str(), parts.start, parts.limit, out)?;
+    print_counting(ast, parts.index.as_str(), parts.start, parts.end, out)?;
     print_block(ast, parts.block, out)
 }
 

@@ -73,7 +73,7 @@ statement-keeps (BlockAddBlockingAssignment block left right) = block_add_assign
 statement-keeps (BlockAddNonblockingAssignment block left right) = block_add_assignment-keeps true block left right
 statement-keeps (BlockAddContinuousAssignment block left right) = λ b answers. given-keeps b (three a_block an_expr an_expr b answers block left right) (λ (block, left, right). Made (VastStatement (next_statement b)) (with_statement block (ContinuousStatement (next_statement b)) (with_assignment (record { lhs = left; rhs = right; nonblocking = false }) b))) (λ (block, left, right). keeps-then b (with_assignment (record { lhs = left; rhs = right; nonblocking = false }) b) _ (assignment-kept (record { lhs = left; rhs = right; nonblocking = false }) b) (statement-kept block (ContinuousStatement (next_statement b)) (with_assignment (record { lhs = left; rhs = right; nonblocking = false }) b)))
 statement-keeps (BlockAddTaskCall block call) = λ b answers. given-keeps b (two a_block an_expr b answers block call) (λ (block, call). Made Nothing (with_statement block (TaskStatement call) b)) (λ (block, call). statement-kept block (TaskStatement call) b)
-statement-keeps (BlockAddFor block index start limit) = λ b answers. given-keeps b (three a_block an_expr an_expr b answers block start limit) (λ (block, start, limit). Made (VastStatementBlock (next_block b)) (with_for block (string_bytes index) start limit b)) (λ (block, start, limit). for-kept block (string_bytes index) start limit b)
+statement-keeps (BlockAddFor block name start end) = λ b answers. given-keeps b (three a_block an_expr an_expr b answers block start end) (λ (block, start, end). Made (VastStatementBlock (next_block b)) (with_for block (string_bytes name) start end b)) (λ (block, start, end). for-kept block (string_bytes name) start end b)
 statement-keeps (BlockAddCommentText block text) = block_add-keeps (CommentStatement (string_bytes text)) block
 statement-keeps (BlockAddInlineText block text) = block_add-keeps (InlineStatement (string_bytes text)) block
 statement-keeps (BlockAddBlankLine block) = block_add-keeps BlankStatement block

@@ -84,8 +84,8 @@ statement_call (BlockAddNonblockingAssignment block left right) = block_add_assi
 statement_call (BlockAddContinuousAssignment block left right) = takes_three a_block an_expr an_expr block left right
     (λ block left right b. Made (VastStatement (next_statement b)) (with_statement block (ContinuousStatement (next_statement b)) (with_assignment (record { lhs = left; rhs = right; nonblocking = false }) b)))
 statement_call (BlockAddTaskCall block call) = takes_two a_block an_expr block call (λ block call b. Made Nothing (with_statement block (TaskStatement call) b))
-statement_call (BlockAddFor block index start limit) = takes_three a_block an_expr an_expr block start limit
-    (λ block start limit. makes VastStatementBlock next_block (with_for block (string_bytes index) start limit))
+statement_call (BlockAddFor block name start end) = takes_three a_block an_expr an_expr block start end
+    (λ block start end. makes VastStatementBlock next_block (with_for block (string_bytes name) start end))
 statement_call (BlockAddCommentText block text) = block_add (CommentStatement (string_bytes text)) block
 statement_call (BlockAddInlineText block text) = block_add (InlineStatement (string_bytes text)) block
 statement_call (BlockAddBlankLine block) = block_add BlankStatement block

@@ -125,9 +125,9 @@ pub case_arm-kept : (owner : CaseStatement) (label : Option Expr) (b : Bench) �
 case_arm-kept owner label b =
     keeps-then b (with_block b) _ (keeps-fresh b fresh_block) (keeps-listing (with_block b) (InNest owner.id.index (CaseArmEnters (record { label = label; block = next_block b }))))
 
-pub for-kept : (owner : VastStatementBlock) (index : List ℕ) (start limit : Expr) (b : Bench) → Keeps b (with_for owner index start limit b)
-for-kept owner index start limit b =
-    keeps-then b (with_block b) _ (keeps-fresh b fresh_block) (statement-kept owner (ForStatement (record { index = index; start = start; limit = limit; block = next_block b })) (with_block b))
+pub for-kept : (owner : VastStatementBlock) (index : List ℕ) (start end : Expr) (b : Bench) → Keeps b (with_for owner index start end b)
+for-kept owner index start end b =
+    keeps-then b (with_block b) _ (keeps-fresh b fresh_block) (statement-kept owner (ForStatement (record { index = index; start = start; end = end; block = next_block b })) (with_block b))
 
 pub case_unique-kept : (owner : CaseStatement) (unique : Bool) (b : Bench) → Keeps b (with_case_unique owner unique b)
 case_unique-kept owner unique b = keeps-unique b owner.id.index unique

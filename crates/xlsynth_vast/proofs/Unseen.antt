@@ -180,7 +180,7 @@ statement-alike b c a f g i q (ContinuousStatement s) h = let x = statement-at b
 statement-alike b c a f g i q (TaskStatement call) h = ap TaskTree (expr-alike b c a call h)
 statement-alike b c a f g i q (ConditionalStatement x) h = ap conditional_statement (q.at x.id.index h.1 (conditional-place b x h.0))
 statement-alike b c a f g i q (CasesStatement x) h = ap case_statement (q.at x.id.index h.1 (case-place b x h.0))
-statement-alike b c a f g i q (ForStatement l) h = rw (expr-alike b c a l.start h.0.0, expr-alike b c a l.limit h.0.1, held-alike b f g i q l.block h.1) refl
+statement-alike b c a f g i q (ForStatement l) h = rw (expr-alike b c a l.start h.0.0, expr-alike b c a l.end h.0.1, held-alike b f g i q l.block h.1) refl
 statement-alike b c a f g i q _ h = refl
 
 statements-alike : (b c : Bench) → Alike b c → (f g : ℕ → Family) (i : ℕ) → Meet b (suc i) f g → (ss : List Statement) → Each (StatementSound b i) ss → statements_in c f ss ≡ statements_in b g ss

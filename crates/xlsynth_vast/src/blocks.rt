@@ -107,27 +107,28 @@ impl VastFile {
         self.ast.append_statement(block, Statement::Task(*call))
     }
 
-    /// The loop `for (int i = start; i < limit; i = i + 1)` with an empty block, as the block's last statement; returns
-    /// its block. [`VastFile::make_name`] makes the index as an expression. The original crate lacks it.
+    /// A loop with an empty block, as the block's last statement, whose index of this name runs from `start` on while
+    /// it is below `end`: `for (int i = start; i < end; i = i + 1)`. It returns the loop's block;
+    /// [`VastFile::make_name`] makes the index as an expression. The original crate lacks it.
     ///
     /// # Errors
     /// `AllocError` where a growth was refused; the file is unchanged.
     pub fn block_add_for(
         &mut self,
         block: VastStatementBlock,
-        index: &str,
+        name: &str,
         start: &Expr,
-        limit: &Expr,
+        end: &Expr,
     ) -> Result<VastStatementBlock, AllocError>
         requires block { OwnsBlock self.old block }
         requires start { OwnsExpr self.old start.now }
-        requires limit { OwnsExpr self.old limit.now }
+        requires end { OwnsExpr self.old end.now }
         ensures built { Builds self.old self.new result next_block
-            (with_for block index.now start.now limit.now) }
+            (with_for block name.now start.now end.now) }
         ensures kept { Keeps self.old self.new }
     {
-        let index = Word::new(self.ast.allocator(), index)?;
-        self.ast.append_block_for(block, index, *start, *limit)
+        let index = Word::new(self.ast.allocator(), name)?;
+        self.ast.append_block_for(block, index, *start, *end)
     }
 
     /// A comment, as the block's last statement; each line of the text becomes a line of its own.

@@ -9,5 +9,5 @@ OwnsEntry b (ContinuousStatement s) = OwnsStatement b s
 OwnsEntry b (TaskStatement call) = OwnsExpr b call
 OwnsEntry b (ConditionalStatement c) = OwnsConditional b c
 OwnsEntry b (CasesStatement c) = OwnsCase b c
-OwnsEntry b (ForStatement l) = (OwnsExpr b l.start × OwnsExpr b l.limit) × OwnsBlock b l.block
+OwnsEntry b (ForStatement l) = (OwnsExpr b l.start × OwnsExpr b l.end) × OwnsBlock b l.block
 OwnsEntry b _ = Unit {0}

@@ -172,7 +172,7 @@ impl Ast {
         Ok(block)
     }
 
-    /// Appends a loop to the block, whose index runs from `start` on while it is below `limit`, and returns the loop's
+    /// Appends a loop to the block, whose index runs from `start` on while it is below `end`, and returns the loop's
     /// block, which is empty.
     ///
     /// # Errors
@@ -183,12 +183,12 @@ impl Ast {
         owner: VastStatementBlock,
         index: Word,
         start: Expr,
-        limit: Expr,
+        end: Expr,
     ) -> Result<VastStatementBlock, AllocError>
         requires owner { OwnsBlock (bench self.old) owner }
         requires start { OwnsExpr (bench self.old) start }
-        requires limit { OwnsExpr (bench self.old) limit }
-        ensures { Grows self.old self.new result next_block (with_for owner index start limit) }
+        requires end { OwnsExpr (bench self.old) end }
+        ensures { Grows self.old self.new result next_block (with_for owner index start end) }
     {
         let block = VastStatementBlock {
             id: self.next_nest(),
@@ -196,7 +196,7 @@ impl Ast {
         let parts = ForParts {
             index,
             start,
-            limit,
+            end,
             block,
         };
         let statement = Statement::For(ForLoop::new(self.alloc, parts)?);
