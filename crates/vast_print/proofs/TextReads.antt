@@ -94,13 +94,6 @@ rest_more {p} {q} {o} f g m = record {
       record { reads = rw append_assoc (free_reads f.free (reads_reads (g.told x) r.reads r.ends)); ends = λ rest h. rw (append_assoc, append_assoc) (f.stop (p.text ++ (q.text ++ rest))) };
 }
 
-pub rest_append : {p q : Printed} {ts us : List Token} → Prints Rest p ts → Prints Rest q us → Prints Rest (p ⊕ q) (ts ++ us)
-unfolding ◌⊕◌
-rest_append {q = q} f g = record {
-  told = λ e. let (x, y) = first_none _ _ e in let m = f.told x in let r = g.told y in
-      record { reads = reads_reads m.reads r.reads r.ends; ends = λ rest h. rw append_assoc (m.ends (q.text ++ rest) (r.ends rest h)) };
-}
-
 pub in_parentheses : {p : Printed} {ts : List Token} → Prints Reads p ts → Prints Rest (plain_text (codes "(") ⊕ p ⊕ plain_text (codes ")")) (Mark OpenParen ∷ (ts ++ (Mark CloseParen ∷ [])))
 unfolding ◌⊕◌ plain_text
 in_parentheses {p = p} f = record { told = λ e. let d = enclosed open_paren (f.told ((first_none p.fault None e).0)) close_paren in record { reads = as_reads d.free; ends = λ rest h. d.stop rest } }
