@@ -1575,6 +1575,20 @@ static inline int32_t vast_block_add_task_call(vast_file *file, vast_block block
     return vast_call_make(file, NULL);
 }
 
+/* A loop with an empty block, as the block's last statement, whose index of this name runs from
+ * `start` on while it is below `end`. */
+static inline int32_t vast_block_add_for(vast_file *file, vast_block block, vast_string name,
+                                         vast_expression start, vast_expression end,
+                                         vast_block *made)
+{
+    vast_call_begin(file, "BlockAddFor", 517);
+    vast_call_handle(file, block.id);
+    vast_call_text(file, name);
+    vast_call_handle(file, start.id);
+    vast_call_handle(file, end.id);
+    return vast_call_make(file, made == NULL ? NULL : &made->id);
+}
+
 /* Artifacts */
 
 /* A declaration's kind, type and name, which parameters can be made with. */

@@ -1555,6 +1555,19 @@ static inline void v_block_add_task_call(vast_file *file, vast_block block, vast
 #define v_block_add_task_call(file, block, call) \
     v_block_add_task_call(file, block, vast_expression_of(call))
 
+/* `vast_block_add_for`: a loop with an empty block, as the block's last statement, whose index
+ * of this name runs from `start` on while it is below `end`. */
+static inline vast_block v_block_add_for(vast_file *file, vast_block block, const char *name,
+                                         vast_expression start, vast_expression end)
+{
+    vast_block answer = {{0, 0}};
+    if (file->fault == VAST_OK)
+        file->fault = vast_block_add_for(file, block, vast_str(name), start, end, &answer);
+    return answer;
+}
+#define v_block_add_for(file, block, name, start, end) \
+    v_block_add_for(file, block, name, vast_expression_of(start), vast_expression_of(end))
+
 /* `vast_make_def`: a declaration's kind, type and name, which parameters can be made with. */
 static inline vast_definition v_make_def(vast_file *file, const char *name, vast_data_kind kind,
                                          vast_type data_type)

@@ -111,7 +111,7 @@ GROUPS = {
 
 # Calls that the original has none of, which are those of a trait: what it has stays its own. `make_name` and
 # `block_add_casex` came before the trait.
-OWN = {"make_packed_array_type_expr", "make_unpacked_array_type_expr", "block_add_task_call", "make_member",
+OWN = {"make_packed_array_type_expr", "make_unpacked_array_type_expr", "block_add_task_call", "block_add_for", "make_member",
        "add_import", "add_file_import"} | {
     f"{scope}add_{block}"
     for scope in ("", "generate_")

@@ -1,7 +1,8 @@
 """A memory whose width and depth are parameters: python3 tools/examples/memory.py [WIDTH DEPTH] | vast_replay
 
 The words of the command are the parameters' defaults; who instantiates the module may say others. A word that is read
-stands at `read_data` a clock later, as it was before a write at the same clock.
+stands at `read_data` a clock later, as it was before a write at the same clock. At a clock with `rst` all words are
+cleared.
 """
 import sys
 
@@ -18,7 +19,7 @@ def memory(width, depth):
     depth_of = f.AddParameterPort(m, "DEPTH", f.plain(depth))
     word = f.MakeBitVectorTypeExpr(width_of, False)
     address = f.MakeBitVectorTypeExpr(f.MakeFunctionCall("$clog2", [depth_of]), False)
-    clk, write = f.AddInput(m, "clk", bit), f.AddInput(m, "write", bit)
+    clk, rst, write = (f.AddInput(m, name, bit) for name in ("clk", "rst", "write"))
     place, write_data = f.AddInput(m, "address", address), f.AddInput(m, "write_data", word)
     read_data = f.AddOutput(m, "read_data", word)
 
@@ -30,6 +31,9 @@ def memory(width, depth):
     f.BlockAddNonblockingAssignment(block, front, held)
     where_it_writes = f.ConditionalThenBlock(f.BlockAddCond(block, write))
     f.BlockAddNonblockingAssignment(where_it_writes, held, write_data)
+    where_it_clears = f.ConditionalThenBlock(f.BlockAddCond(block, rst))
+    each = f.BlockAddFor(where_it_clears, "i", f.plain(0), depth_of)
+    f.BlockAddNonblockingAssignment(each, f.MakeIndexExpr(words, f.MakeName("i")), f.plain(0))
     return f
 
 

@@ -289,7 +289,14 @@ class Reader:
             self.joined_until(self.event, ")", "or")
 
     def loop(self):
-        self.need("(", "genvar")
+        self.loop_head("genvar")
+        if self.take(":"):
+            self.need_kind("name")
+        while not self.take("end"):
+            self.member()
+
+    def loop_head(self, word):
+        self.need("(", word)
         name = self.found[self.at][1]
         self.need_kind("name")
         self.need("=")
@@ -297,10 +304,6 @@ class Reader:
         self.need(";")
         self.bound(name)
         self.need(";", name, "=", name, "+", "1", ")", "begin")
-        if self.take(":"):
-            self.need_kind("name")
-        while not self.take("end"):
-            self.member()
 
     def bound(self, name):
         """The name below an expression; parentheses may stand around the name and around both."""
@@ -382,6 +385,10 @@ class Reader:
             self.choice()
         elif self.sees("unique", "case", "casez", "casex"):
             self.case("case", "casez", "casex")
+        elif self.take("for"):
+            self.loop_head("int")
+            while not self.take("end"):
+                self.statement()
         else:
             self.postfix()
             if not self.take(";"):

@@ -22,6 +22,7 @@ MODULE = ("module m;", "endmodule")
 BLOCK = ("module m;always_comb begin ", "end endmodule")
 FILE = ("", "")
 LOOP = "for(genvar i=0;i<a;i=i+1)begin "
+BLOCK_LOOP = LOOP.replace("genvar", "int")
 
 
 def nest(title, frame, opening, closing, core=""):
@@ -91,6 +92,8 @@ STATEMENTS = [
     nest("cases", BLOCK, "case(a)a:begin ", "end endcase "),
     nest("cases in the last arm", BLOCK, "unique casez(a)a:a=a;default:begin ", "end endcase "),
     nest("cases in conditionals", BLOCK, "if(a)begin case(a)a:begin ", "end endcase end "),
+    nest("loops of blocks", BLOCK, BLOCK_LOOP, "end "),
+    nest("loops in conditionals between statements", BLOCK, "a=a;if(a)begin " + BLOCK_LOOP, "end a=a;end "),
     nest("conditionals in last branches in cases", BLOCK, "case(a)a:begin if(a)begin end else begin ", "end end endcase "),
 ]
 
@@ -107,6 +110,7 @@ FLAT = [
     flat("bare arms", ("module m;always_comb begin casez(a)", "endcase end endmodule"), "a:a=a;"),
     flat("conditionals side by side", MODULE, "if(a)begin end "),
     flat("loops side by side", MODULE, LOOP + "end "),
+    flat("loops of a block side by side", BLOCK, BLOCK_LOOP + "end "),
     flat("wires", MODULE, "wire [7:0] a;\n"),
     flat("groups of a wire", ("module m;wire", " w;endmodule"), "[0]"),
     flat("assignments", MODULE, "assign a=a;\n"),

@@ -100,8 +100,17 @@ class ModuleWriter(Writer):
             elif kind == "if":
                 condition, then, otherwise = parts
                 self.arms(self.call("BlockAddCond", block, self.expression(condition)), then, otherwise)
+            elif kind == "for":
+                self.counted(block, *parts)
             else:
                 self.case(block, *parts)
+
+    def counted(self, block, name, start, end, statements):
+        outer = dict(self.names)
+        made = self.call("BlockAddFor", block, name, *self.all([start, end]))
+        self.names[name] = self.call("MakeName", name)
+        self.body(made, statements)
+        self.names = outer
 
     def arms(self, made, then, otherwise):
         """The arms of a conditional; an `else` of one `if` alone is an `else if`."""

@@ -1,4 +1,4 @@
-"""Random modules as trees: declarations, always blocks, conditionals, cases, functions, loops of generate, instances."""
+"""Random modules as trees: declarations, always blocks, conditionals, cases, functions, loops, instances."""
 from expressions import INPUTS, PARAMETERS, Random
 from trees import BIT, integer, name, vector
 
@@ -129,7 +129,10 @@ class Modules(Random):
             inner.know(word, kind)
         targets = {it[1]: it[2] for it in variables} | {made: BYTE}
         begin = tuple(("=", name(it), inner.short()) for it in targets)
-        self.members.append(("function", made, BYTE, inputs, variables, begin + inner.body(2, "=", targets)))
+        body = begin + inner.body(2, "=", targets)
+        if self.source.random() < 0.4:
+            body += (self.counted(inner, made),)
+        self.members.append(("function", made, BYTE, inputs, variables, body))
         self.functions[made] = len(inputs)
 
     def add_loop(self):
@@ -174,6 +177,21 @@ class Modules(Random):
         arms = [(("assign", name(made), self.expression(2)),) for _ in range(2)]
         self.members.append(("if", ("binary", self.of(">", "=="), name("P"), integer(self.of(2, 3))), *arms))
         self.know(made, BYTE)
+
+    def counted(self, inner, word):
+        """A loop that computes the variable of a function over what that sees, perhaps by a loop in it."""
+        place, other = self.new("k"), self.new("k")
+        inner.places = [place]
+        each = (inner.summand(word),)
+        if self.source.random() < 0.4:
+            inner.places = [place, other]
+            end = ("binary", "+", name(place), integer(2))
+            each += (("for", other, name(place), end, (inner.summand(word),)),)
+        inner.places = []
+        return ("for", place, integer(0), self.of(integer(8), ("binary", "+", name("P"), integer(5))), each)
+
+    def summand(self, word):
+        return ("=", name(word), ("binary", self.of("+", "^"), name(word), self.expression(2)))
 
     def body(self, depth, sign, targets):
         """Some statements that assign to the targets."""

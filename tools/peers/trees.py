@@ -13,6 +13,7 @@ more, a `Literal`, which `plain` takes away. A negative literal is a sign before
 
 Statements: ("=", l, r)  ("<=", l, r)  ("assign", l, r)  ("if", c, then, otherwise or None)
 ("case", word, is unique, selector, arms), an arm being (label or None, body). Bodies are tuples of statements.
+("for", name, start, end, body)
 
 A type is (signed, high or None, dimensions). Members of modules and loops, beside "assign" and "if":
 

@@ -182,12 +182,17 @@ def loop(node):
     (head,) = children(node, 2)
     start, end, step, *members = operands(head)
     name = children(node)[0].rest.split()[0]
+    limits = counting(name, start, end, step)
+    return ("loop", name, *limits, block_name(node), tuple(map(member, members)))
+
+
+def counting(name, start, end, step):
+    """The limits of a loop whose variable has the name."""
     own = ("name", name)
     heads = [expression(it) for it in (operands(start)[1], operands(end)[0], operands(step)[1])]
     if heads != [own] * 3 or end.word != "LT" or expression(operands(step)[0]) != ("binary", "+", own, integer(1)):
         raise Unread("a loop's head")
-    limits = (expression(operands(start)[0]), expression(operands(end)[1]))
-    return ("loop", name, *limits, block_name(node), tuple(map(member, members)))
+    return (expression(operands(start)[0]), expression(operands(end)[1]))
 
 
 def block_name(node):
@@ -212,8 +217,18 @@ def body(nodes):
     """The statements of blocks, and of the blocks in them."""
     found = []
     for it in nodes:
-        found += body(operands(it)) if it.word == "BEGIN" and "[GENFOR]" not in it.rest else [member(it)]
+        if it.word == "BEGIN" and "[IMPLIED]" in it.rest and operands(it)[-1].word == "WHILE":
+            found.append(counted(*operands(it)))
+        else:
+            found += body(operands(it)) if it.word == "BEGIN" and "[GENFOR]" not in it.rest else [member(it)]
     return tuple(found)
+
+
+def counted(variable, start, loop):
+    """A loop of a block, which declares its variable before it."""
+    name = variable.rest.split()[0]
+    (end,), (step,) = children(loop, 2), children(loop, 4)
+    return ("for", name, *counting(name, start, end, step), body(children(loop, 3)))
 
 
 def statement(node):

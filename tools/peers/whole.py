@@ -64,9 +64,15 @@ def statement(tree):
         condition, then, otherwise = tree[1:]
         after = "" if otherwise is None else f" else {block(otherwise)}"
         return f"if ({expression(condition)}) {block(then)}{after}"
+    if tree[0] == "for":
+        return f"for (int {counting(*tree[1:4])}) {block(tree[4])}"
     word, unique, selector, arms = tree[1:]
     written = [f"{'default' if label is None else expression(label)}: {block(body)}" for label, body in arms]
     return f"{'unique ' if unique else ''}{word} ({expression(selector)}) {' '.join(written)} endcase"
+
+
+def counting(name, start, end):
+    return f"{name} = {expression(start)}; {name} < {expression(end)}; {name} = {name} + 1"
 
 
 def always(word, events, body):
@@ -84,9 +90,8 @@ def function(name, result, inputs, variables, body):
 
 
 def loop(name, start, end, label, members):
-    head = f"for (genvar {name} = {expression(start)}; {name} < {expression(end)}; {name} = {name} + 1)"
     named = f" : {label}" if label else ""
-    return f"{head} begin{named} {' '.join(map(member, members))} end"
+    return f"for (genvar {counting(name, start, end)}) begin{named} {' '.join(map(member, members))} end"
 
 
 def instance(module, name, parameters, connections):

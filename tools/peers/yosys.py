@@ -167,14 +167,20 @@ def function(node, given):
 def loop(node, given):
     """A loop of generate, whose name stands in each part of its head."""
     start, end, step, block = given
-    name = expression(parts(start)[0])
+    name, limits = counting(start, end, step)
     members = parts(block)
-    counts = expression(parts(step)[1]) == ("binary", "+", name, integer(1)) and expression(parts(step)[0]) == name
-    first = members[0].word == "AST_LOCALPARAM" and text(members[0]) == name[1] and end.word == "AST_LT"
-    if not (counts and first and expression(parts(end)[0]) == name):
+    if members[0].word != "AST_LOCALPARAM" or text(members[0]) != name[1]:
         raise Unread("a loop's head")
-    limits = (expression(parts(start)[1]), expression(parts(end)[1]))
     return ("loop", name[1], *limits, text(block), tuple(map(member, members[1:])))
+
+
+def counting(start, end, step):
+    """A loop's name, as an expression, and its limits."""
+    name = expression(parts(start)[0])
+    counts = expression(parts(step)[1]) == ("binary", "+", name, integer(1)) and expression(parts(step)[0]) == name
+    if not (counts and end.word == "AST_LT" and expression(parts(end)[0]) == name):
+        raise Unread("a loop's head")
+    return name, (expression(parts(start)[1]), expression(parts(end)[1]))
 
 
 def generate_if(_, given):
@@ -198,8 +204,13 @@ def statements(node):
     """The statements of a block, and of the blocks in it."""
     found = []
     for it in parts(node):
-        found += statements(it) if it.word == "AST_BLOCK" else [statement(it)]
+        found += statements(it) if it.word == "AST_BLOCK" and not is_loop(it) else [statement(it)]
     return tuple(found)
+
+
+def is_loop(node):
+    """Whether the block is of a loop: it has its variable, and the loop."""
+    return (text(node) or "").startswith("$fordecl_block")
 
 
 def statement(node):
@@ -208,6 +219,10 @@ def statement(node):
     if node.word == "AST_CASE":
         given = parts(node)
         return conditional(given) if given[0].word == "AST_REDUCE_BOOL" else case(node, given)
+    if node.word == "AST_BLOCK":
+        start, end, step, block = parts(parts(node)[1])
+        own, limits = counting(start, end, step)
+        return ("for", own[1], *limits, statements(block))
     raise Unread(node.word + node.rest)
 
 

@@ -567,52 +567,56 @@ static int part_13(answers *have)
     v_block_add_task_call(&have->file, have->block, have->signal);
     CHECK(have->file.fault == VAST_OK);
     CHECK(is_written(have, "BlockAddTaskCall 106 3", "\004\365\003j\003", 5));
-    have->definition = v_make_def(&have->file, "name_133", VAST_DATA_KIND_GENVAR, have->type);
+    v_block_add_for(&have->file, have->block, "name_133", have->signal, have->expression);
     CHECK(have->file.fault == VAST_OK);
-    CHECK(is_written(have, "MakeDef \"name_133\" Genvar 1", "\014\006\010name_133\007\001", 13));
+    CHECK(is_written(have, "BlockAddFor 106 \"name_133\" 3 0", "\016\205\004j\010name_133\003\000",
+                           15));
     return 0;
 }
 
 static int part_14(answers *have)
 {
+    have->definition = v_make_def(&have->file, "name_134", VAST_DATA_KIND_GENVAR, have->type);
+    CHECK(have->file.fault == VAST_OK);
+    CHECK(is_written(have, "MakeDef \"name_134\" Genvar 1", "\014\006\010name_134\007\001", 13));
     v_add_parameter_with_def(&have->file, have->module, have->definition, have->signal);
     CHECK(have->file.fault == VAST_OK);
-    CHECK(is_written(have, "AddParameterWithDef 2 133 3", "\006\363\001\002\205\001\003", 7));
+    CHECK(is_written(have, "AddParameterWithDef 2 134 3", "\006\363\001\002\206\001\003", 7));
     v_add_typed_localparam(&have->file, have->module, have->definition, have->signal);
     CHECK(have->file.fault == VAST_OK);
-    CHECK(is_written(have, "AddTypedLocalparam 2 133 3", "\006\243\002\002\205\001\003", 7));
+    CHECK(is_written(have, "AddTypedLocalparam 2 134 3", "\006\243\002\002\206\001\003", 7));
     v_generate_add_typed_localparam(&have->file, have->loop, have->definition, have->signal);
     CHECK(have->file.fault == VAST_OK);
-    CHECK(is_written(have, "GenerateAddTypedLocalparam 88 133 3", "\005tX\205\001\003", 6));
+    CHECK(is_written(have, "GenerateAddTypedLocalparam 88 134 3", "\005tX\206\001\003", 6));
     have->blank_line = v_make_blank_line(&have->file);
     CHECK(have->file.fault == VAST_OK);
     CHECK(is_written(have, "MakeBlankLine", "\001\026", 2));
     v_add_blank_line(&have->file, have->blank_line);
     CHECK(have->file.fault == VAST_OK);
-    CHECK(is_written(have, "AddBlankLine 137", "\003\023\211\001", 4));
-    have->comment = v_make_comment(&have->file, "text_139");
+    CHECK(is_written(have, "AddBlankLine 138", "\003\023\212\001", 4));
+    have->comment = v_make_comment(&have->file, "text_140");
     CHECK(have->file.fault == VAST_OK);
-    CHECK(is_written(have, "MakeComment \"text_139\"", "\012&\010text_139", 11));
+    CHECK(is_written(have, "MakeComment \"text_140\"", "\012&\010text_140", 11));
     v_generate_add_comment(&have->file, have->loop, have->comment);
     CHECK(have->file.fault == VAST_OK);
-    CHECK(is_written(have, "GenerateAddComment 88 139", "\005\264\001X\213\001", 6));
-    have->inline_statement = v_make_inline_verilog_statement(&have->file, "text_141");
+    CHECK(is_written(have, "GenerateAddComment 88 140", "\005\264\001X\214\001", 6));
+    have->inline_statement = v_make_inline_verilog_statement(&have->file, "text_142");
     CHECK(have->file.fault == VAST_OK);
-    CHECK(is_written(have, "MakeInlineVerilogStatement \"text_141\"", "\0126\010text_141", 11));
+    CHECK(is_written(have, "MakeInlineVerilogStatement \"text_142\"", "\0126\010text_142", 11));
     v_generate_add_inline_statement(&have->file, have->loop, have->inline_statement);
     CHECK(have->file.fault == VAST_OK);
-    CHECK(is_written(have, "GenerateAddInlineStatement 88 141", "\005\324\001X\215\001", 6));
-    have->macro_statement = v_make_macro_statement(&have->file, have->macro, true);
-    CHECK(have->file.fault == VAST_OK);
-    CHECK(is_written(have, "MakeMacroStatement 58 true", "\003F:\001", 4));
+    CHECK(is_written(have, "GenerateAddInlineStatement 88 142", "\005\324\001X\216\001", 6));
     return 0;
 }
 
 static int part_15(answers *have)
 {
+    have->macro_statement = v_make_macro_statement(&have->file, have->macro, true);
+    CHECK(have->file.fault == VAST_OK);
+    CHECK(is_written(have, "MakeMacroStatement 58 true", "\003F:\001", 4));
     v_generate_add_macro_statement(&have->file, have->loop, have->macro_statement);
     CHECK(have->file.fault == VAST_OK);
-    CHECK(is_written(have, "GenerateAddMacroStatement 88 143", "\005\344\001X\217\001", 6));
+    CHECK(is_written(have, "GenerateAddMacroStatement 88 144", "\005\344\001X\220\001", 6));
     have->assignment = v_make_continuous_assignment(&have->file, have->signal, have->expression);
     CHECK(have->file.fault == VAST_OK);
     CHECK(is_written(have, "MakeContinuousAssignment 3 0", "\003V\003\000", 4));
@@ -622,40 +626,40 @@ static int part_15(answers *have)
     v_make_blocking_assignment(&have->file, have->signal, have->expression);
     CHECK(have->file.fault == VAST_OK);
     CHECK(is_written(have, "MakeBlockingAssignment 3 0", "\003v\003\000", 4));
-    have->instantiation = v_make_instantiation(&have->file, "module_name_148", "instance_name_148",
+    have->instantiation = v_make_instantiation(&have->file, "module_name_149", "instance_name_149",
                                                have->strings, 2, have->expressions, 2,
                                                have->strings, 2, have->options, 2);
     CHECK(have->file.fault == VAST_OK);
     CHECK(is_written(have,
-                           "MakeInstantiation \"module_name_148\" \"instance_name_148\" [ \"first\" \"second\" ] [ 3 3 ] [ \"first\" \"second\" ] [ + 3 - ]",
-                           "G\206\001\017module_name_148\021instance_name_148\002\005first\006second\002\003\003\002\005first\006second\002\001\003\000",
+                           "MakeInstantiation \"module_name_149\" \"instance_name_149\" [ \"first\" \"second\" ] [ 3 3 ] [ \"first\" \"second\" ] [ + 3 - ]",
+                           "G\206\001\017module_name_149\021instance_name_149\002\005first\006second\002\003\003\002\005first\006second\002\001\003\000",
                            72));
     v_generate_add_instantiation(&have->file, have->loop, have->instantiation);
     CHECK(have->file.fault == VAST_OK);
-    CHECK(is_written(have, "GenerateAddInstantiation 88 148", "\005\304\001X\224\001", 6));
+    CHECK(is_written(have, "GenerateAddInstantiation 88 149", "\005\304\001X\225\001", 6));
     v_add_member_instantiation(&have->file, have->module, have->instantiation);
     CHECK(have->file.fault == VAST_OK);
-    CHECK(is_written(have, "AddMemberInstantiation 2 148", "\005\226\001\002\224\001", 6));
+    CHECK(is_written(have, "AddMemberInstantiation 2 149", "\005\226\001\002\225\001", 6));
     v_add_member_continuous_assignment(&have->file, have->module, have->assignment);
     CHECK(have->file.fault == VAST_OK);
-    CHECK(is_written(have, "AddMemberContinuousAssignment 2 145", "\005\246\001\002\221\001", 6));
+    CHECK(is_written(have, "AddMemberContinuousAssignment 2 146", "\005\246\001\002\222\001", 6));
     v_add_member_blank_line(&have->file, have->module, have->blank_line);
     CHECK(have->file.fault == VAST_OK);
-    CHECK(is_written(have, "AddMemberBlankLine 2 137", "\005\266\001\002\211\001", 6));
-    v_add_member_comment(&have->file, have->module, have->comment);
-    CHECK(have->file.fault == VAST_OK);
-    CHECK(is_written(have, "AddMemberComment 2 139", "\005\306\001\002\213\001", 6));
+    CHECK(is_written(have, "AddMemberBlankLine 2 138", "\005\266\001\002\212\001", 6));
     return 0;
 }
 
 static int part_16(answers *have)
 {
+    v_add_member_comment(&have->file, have->module, have->comment);
+    CHECK(have->file.fault == VAST_OK);
+    CHECK(is_written(have, "AddMemberComment 2 140", "\005\306\001\002\214\001", 6));
     v_add_member_inline_statement(&have->file, have->module, have->inline_statement);
     CHECK(have->file.fault == VAST_OK);
-    CHECK(is_written(have, "AddMemberInlineStatement 2 141", "\005\326\001\002\215\001", 6));
+    CHECK(is_written(have, "AddMemberInlineStatement 2 142", "\005\326\001\002\216\001", 6));
     v_add_member_macro_statement(&have->file, have->module, have->macro_statement);
     CHECK(have->file.fault == VAST_OK);
-    CHECK(is_written(have, "AddMemberMacroStatement 2 143", "\005\346\001\002\217\001", 6));
+    CHECK(is_written(have, "AddMemberMacroStatement 2 144", "\005\346\001\002\220\001", 6));
     have->truth = v_conditional_has_else(&have->file, have->conditional);
     CHECK(have->file.fault == VAST_OK);
     CHECK(is_written(have, "?ConditionalHasElse 96", "\002\007`", 3));
@@ -665,9 +669,9 @@ static int part_16(answers *have)
     have->truth = v_file_is_plain(&have->file);
     CHECK(have->file.fault == VAST_OK);
     CHECK(is_written(have, "?FileIsPlain", "\0017", 2));
-    have->truth = v_is_system_verilog_keyword(&have->file, "identifier_159");
+    have->truth = v_is_system_verilog_keyword(&have->file, "identifier_160");
     CHECK(have->file.fault == VAST_OK);
-    CHECK(is_written(have, "?IsSystemVerilogKeyword \"identifier_159\"", "\020G\016identifier_159",
+    CHECK(is_written(have, "?IsSystemVerilogKeyword \"identifier_160\"", "\020G\016identifier_160",
                            17));
     have->text = v_logic_ref_name(&have->file, have->signal);
     CHECK(have->file.fault == VAST_OK);
@@ -678,23 +682,23 @@ static int part_16(answers *have)
     have->natural = v_module_member_count(&have->file, have->module);
     CHECK(have->file.fault == VAST_OK);
     CHECK(is_written(have, "?ModuleMemberCount 2", "\002w\002", 3));
-    have->text = v_module_name(&have->file, have->module);
-    CHECK(have->file.fault == VAST_OK);
-    CHECK(is_written(have, "?ModuleName 2", "\003\207\001\002", 4));
     return 0;
 }
 
 static int part_17(answers *have)
 {
+    have->text = v_module_name(&have->file, have->module);
+    CHECK(have->file.fault == VAST_OK);
+    CHECK(is_written(have, "?ModuleName 2", "\003\207\001\002", 4));
     have->ports = v_module_output_ports(&have->file, have->module);
     CHECK(have->file.fault == VAST_OK);
     CHECK(is_written(have, "?ModuleOutputPorts 2", "\003\227\001\002", 4));
     have->ports = v_module_ports(&have->file, have->module);
     CHECK(have->file.fault == VAST_OK);
     CHECK(is_written(have, "?ModulePorts 2", "\003\247\001\002", 4));
-    have->truth = v_name_is_free(&have->file, have->module, "name_166");
+    have->truth = v_name_is_free(&have->file, have->module, "name_167");
     CHECK(have->file.fault == VAST_OK);
-    CHECK(is_written(have, "?NameIsFree 2 \"name_166\"", "\014\267\001\002\010name_166", 13));
+    CHECK(is_written(have, "?NameIsFree 2 \"name_167\"", "\014\267\001\002\010name_167", 13));
     have->truth = v_type_can_be_cast(&have->file, have->type);
     CHECK(have->file.fault == VAST_OK);
     CHECK(is_written(have, "?TypeCanBeCast 1", "\003\307\001\001", 4));
@@ -713,14 +717,14 @@ static int part_17(answers *have)
     have->text = v_type_width_expr(&have->file, have->type);
     CHECK(have->file.fault == VAST_OK);
     CHECK(is_written(have, "?TypeWidthExpr 1", "\003\227\002\001", 4));
-    have->truth = v_width_is_usable(&have->file, have->signal);
-    CHECK(have->file.fault == VAST_OK);
-    CHECK(is_written(have, "?WidthIsUsable 3", "\003\247\002\003", 4));
     return 0;
 }
 
 static int part_18(answers *have)
 {
+    have->truth = v_width_is_usable(&have->file, have->signal);
+    CHECK(have->file.fault == VAST_OK);
+    CHECK(is_written(have, "?WidthIsUsable 3", "\003\247\002\003", 4));
     v_add_registers(&have->file, have->signal, &have->reset, have->definitions, 2, have->loop);
     CHECK(have->file.fault == VAST_OK);
     CHECK(is_written(have, "!AddRegisters 3 + [ 3 true ] [ [ 3 0 + 3 - ] [ 3 0 - + 3 ] ] 88",
@@ -755,7 +759,7 @@ int main(void)
         for (size_t part = 0; part < sizeof parts / sizeof parts[0]; part++)
             if (parts[part](&have))
                 return 1;
-        CHECK(have.file.count == 161 && vast_emit(&have.file, &text) == VAST_OK);
+        CHECK(have.file.count == 162 && vast_emit(&have.file, &text) == VAST_OK);
         vast_file_close(&have.file);
     }
     return 0;

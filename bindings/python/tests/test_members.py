@@ -324,6 +324,27 @@ class Statements(FileTest):
         )
 
     @over_each()
+    def test_loops_of_blocks(self, file):
+        module = file.add_module("m")
+        a = file.add_reg(module, "a", 8)
+        block = file.statement_block(file.add_initial(module))
+        each = file.block_add_for(block, "i", 0, 8)
+        file.block_add_blocking_assignment(each, a, a + file.make_name("i"))
+        each.add_for("j", file.make_name("i"), 8)
+        self.assert_file(
+            file,
+            "module m;",
+            "  reg [7:0] a;",
+            "  initial begin",
+            "    for (int i = 0; i < 8; i = i + 1) begin",
+            "      a = a + i;",
+            "      for (int j = i; j < 8; j = j + 1) begin end",
+            "    end",
+            "  end",
+            "endmodule",
+        )
+
+    @over_each()
     def test_cases(self, file):
         module = file.add_module("m")
         a = file.add_reg(module, "a", 2)

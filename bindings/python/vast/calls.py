@@ -1354,6 +1354,27 @@ class Calls(Core):
             call = self._value(call)
         self._later(f"BlockAddTaskCall {block.step} {call.step}")
 
+    def block_add_for(
+        self,
+        block: StatementBlock,
+        name: str,
+        start: Operand,
+        end: Operand,
+    ) -> StatementBlock:
+        """A loop with an empty block, as the block's last statement, whose index of this name runs
+        from `start` on while it is below `end`.
+        """
+        if not (isinstance(block, StatementBlock) and block.file is self):
+            block = self._own(block, StatementBlock)
+        if not (isinstance(start, Expression) and start.file is self):
+            start = self._value(start)
+        if not (isinstance(end, Expression) and end.file is self):
+            end = self._value(end)
+        return self._later(
+            f"BlockAddFor {block.step} {quoted(name)} {start.step} {end.step}",
+            StatementBlock,
+        )
+
     def make_def(self, name: str, kind: DataKind, data_type: TypeLike) -> Def:
         """A declaration's kind, type and name, which parameters can be made with."""
         if not (isinstance(data_type, DataType) and data_type.file is self):

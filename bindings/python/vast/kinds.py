@@ -732,6 +732,12 @@ class StatementBlock(BlockWords):
         """`File.block_add_task_call`: the statement `f(a, b);` of a call, as the block's last."""
         return self.file.block_add_task_call(self, call)
 
+    def add_for(self, name: str, start: Operand, end: Operand) -> StatementBlock:
+        """`File.block_add_for`: a loop with an empty block, as the block's last statement, whose
+        index of this name runs from `start` on while it is below `end`.
+        """
+        return self.file.block_add_for(self, name, start, end)
+
 
 class Statement(Handle):
     """A handle of the kind `statement`."""

@@ -151,6 +151,7 @@ pub(crate) enum Call {
     AddAlwaysLatch = 469,
     AddInitial = 485,
     BlockAddTaskCall = 501,
+    BlockAddFor = 517,
     MakeDef = 6,
     MakeBlankLine = 22,
     MakeComment = 38,

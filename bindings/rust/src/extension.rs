@@ -91,6 +91,17 @@ pub trait VastFileExtension {
     /// The statement `f(a, b);` of a call, as the block's last: a task's or a system task's, made by
     /// [`VastFile::make_function_call`], or the use of a macro. The original crate lacks it.
     fn block_add_task_call(&mut self, block: VastStatementBlock, call: &Expr);
+
+    /// A loop with an empty block, as the block's last statement, whose index of this name runs from `start`
+    /// on while it is below `end`: `for (int i = start; i < end; i = i + 1)`. It returns the loop's block;
+    /// [`VastFile::make_name`] makes the index as an expression. The original crate lacks it.
+    fn block_add_for(
+        &mut self,
+        block: VastStatementBlock,
+        name: &str,
+        start: &Expr,
+        end: &Expr,
+    ) -> VastStatementBlock;
 }
 
 impl VastFileExtension for VastFile {
@@ -200,5 +211,24 @@ impl VastFileExtension for VastFile {
         self.later(Call::BlockAddTaskCall, |calls| {
             calls.step(block_step).step(call_step)
         });
+    }
+
+    fn block_add_for(
+        &mut self,
+        block: VastStatementBlock,
+        name: &str,
+        start: &Expr,
+        end: &Expr,
+    ) -> VastStatementBlock {
+        let block_step = self.own(block.0);
+        let start_step = self.own(start.0);
+        let end_step = self.own(end.0);
+        VastStatementBlock(self.later(Call::BlockAddFor, |calls| {
+            calls
+                .step(block_step)
+                .text(name)
+                .step(start_step)
+                .step(end_step)
+        }))
     }
 }

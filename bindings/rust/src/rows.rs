@@ -11,7 +11,7 @@ pub(crate) struct Row(
     pub(crate) &'static [Form],
 );
 
-pub(crate) static ROWS: [Row; 180] = [
+pub(crate) static ROWS: [Row; 181] = [
     Row(0, "MakeNot", &[Step]),
     Row(16, "MakeBitwiseNot", &[Step]),
     Row(32, "MakeNegate", &[Step]),
@@ -180,6 +180,7 @@ pub(crate) static ROWS: [Row; 180] = [
     Row(469, "AddAlwaysLatch", &[Step]),
     Row(485, "AddInitial", &[Step]),
     Row(501, "BlockAddTaskCall", &[Step, Step]),
+    Row(517, "BlockAddFor", &[Step, Text, Step, Step]),
     Row(
         6,
         "MakeDef",

@@ -8,7 +8,7 @@ use vast_rows::{Kind, Next};
 type Word = (Kind, &'static str, &'static [&'static str]);
 
 /// The kinds that are looked for, in the order in which they are told.
-static WORDS: [Word; 50] = [
+static WORDS: [Word; 51] = [
     (Kind::Reserved(Key::AlwaysComb), "a member", &[]),
     (Kind::Reserved(Key::Case), "a statement", &[]),
     (Kind::SystemWord, "a value", &["a statement"]),
@@ -72,6 +72,11 @@ static WORDS: [Word; 50] = [
     (Kind::Reserved(Key::Casez), "casez", &["a statement"]),
     (Kind::Reserved(Key::Unique), "unique", &["a statement"]),
     (Kind::Reserved(Key::Genvar), "genvar", &["a kind"]),
+    (
+        Kind::Reserved(Key::Int),
+        "int",
+        &["a kind", "a statement", "a value"],
+    ),
     (Kind::Reserved(Key::Automatic), "automatic", &[]),
     (Kind::Reserved(Key::Or), "or", &[]),
     (Kind::Mark(Mark::Dot), "'.'", &["an operator"]),

@@ -1,10 +1,10 @@
 -- What calls that grow a container know: what comes, and the entry that names it, are the file's.
-use Rattle.std.proofs.Common.{◌≡◌, suc, ◌<◌, true, false, List, [], ◌∷◌, ◌++◌, length, Option, Some, None, slice_get, refl, arith, length-append}
+use Rattle.std.proofs.Common.{◌≡◌, ℕ, suc, ◌<◌, true, false, List, [], ◌∷◌, ◌++◌, length, Option, Some, None, slice_get, refl, arith, length-append}
 use Rattle.std.specs.Prelude.{IfSome}
 use Rattle.vast_core.specs.Handles.{Expr, VastStatementBlock, Conditional, CaseStatement, GenerateLoop}
 use Rattle.vast_literal.specs.declared.kind.CaseKind.{CaseKind}
 use Rattle.vast_core.specs.declared.node.Assignment.{Assignment}
-use Rattle.vast_core.specs.Nests.{Statement, AssignStatement, ContinuousStatement, ConditionalStatement, CasesStatement, BlockRecord, is_kind, BlockKind, ConditionalKind, CaseStatementKind, LoopKind}
+use Rattle.vast_core.specs.Nests.{Statement, AssignStatement, ContinuousStatement, ConditionalStatement, CasesStatement, ForStatement, BlockRecord, is_kind, BlockKind, ConditionalKind, CaseStatementKind, LoopKind}
 use Rattle.vast_core.specs.Bench.{Bench, OwnsExpr, OwnsBlock, OwnsConditional, OwnsCase, OwnsLoop, OwnsStatement}
 use Rattle.vast_core.specs.Growth.{with_assignment, next_id}
 use Rattle.vast_core.specs.Artifacts.{next_statement}
@@ -125,4 +125,9 @@ pub case_arm-enters :
     GrowthSound b (InNest owner.id.index (CaseArmEnters (record { label = label; block = next_block b }))) fresh_block
 case_arm-enters b owner label h k = record { fresh = a-block-comes b (with_block b); listing = (case-place b owner h, (maybe-same b label k, (next_block_owned b, case-place b owner h))); placed = refl }
 
-pub ruleset enters = (statement-enters, case-enters, else_if-enters, else-enters, case_arm-enters)
+pub for-enters :
+    (b : Bench) (owner : VastStatementBlock) (index : List ℕ) (start end : Expr) → OwnsBlock b owner → OwnsExpr b start → OwnsExpr b end →
+    GrowthSound b (InNest owner.id.index (StatementEnters (ForStatement (record { index = index; start = start; end = end; block = next_block b })))) fresh_block
+for-enters b owner index start end h k l = record { fresh = a-block-comes b (with_block b); listing = (block-place b owner h, ((k, l), (next_block_owned b, block-place b owner h))); placed = refl }
+
+pub ruleset enters = (statement-enters, case-enters, else_if-enters, else-enters, case_arm-enters, for-enters)

@@ -3,11 +3,11 @@ use Rattle.std.proofs.Common.{◌≡◌, ℕ, suc, zero, ◌+◌, ◌<◌, ◌�
 use Rattle.std.specs.Prelude.{IfSome}
 use Rattle.vast_core.specs.Handles.{VastStatementBlock}
 use Rattle.vast_core.specs.Records.{Member, DeclarationEntry, FunctionEntry, AlwaysEntry, ConditionalEntry, LoopEntry, changed_at}
-use Rattle.vast_core.specs.Nests.{CaseArm, ElseIf, Statement, ConditionalStatement, CasesStatement, NestRecord, BlockRecord, ConditionalNestRecord, CaseNestRecord, LoopNestRecord, AlwaysRecord, NestKind, NoKind, nest_kind}
+use Rattle.vast_core.specs.Nests.{CaseArm, ElseIf, Statement, ConditionalStatement, CasesStatement, ForStatement, NestRecord, BlockRecord, ConditionalNestRecord, CaseNestRecord, LoopNestRecord, AlwaysRecord, NestKind, NoKind, nest_kind}
 use Rattle.vast_core.specs.Bench.{Bench, tree_of, maybe_tree_of, trees_of}
 use Rattle.vast_core.specs.Containers.{NestedEntry, StatementEnters, ElseIfEnters, ElseEnters, CaseArmEnters, MemberEnters, with_entry}
 use Rattle.vast_core.specs.FileTree.{Family, BlockFamily, ConditionalFamily, CaseFamily, LoopFamily, block_in, conditional_statement, case_statement, conditional_member, loop_member, statement_in, statements_in, otherwise_in, alternates_in, arms_in, always_in, member_in, members_in, family, unfolded, families}
-use Rattle.vast_literal.specs.Tree.{ElseIf as ElseIfTree, Else, CaseArm as CaseArmTree, MoreStatements, MoreMembers, CaseTree, LoopMember, AlwaysMember}
+use Rattle.vast_literal.specs.Tree.{ElseIf as ElseIfTree, Else, CaseArm as CaseArmTree, MoreStatements, MoreMembers, CaseTree, ForTree, LoopMember, AlwaysMember}
 use Rattle.vast_core.specs.Sound.{Each, HoldsBlock, StatementSound, ElseIfSound, CaseArmSound, AlwaysNewer, MemberNewer, LoopMemberSound, NestSound, NestsSound}
 
 -- A container of some kind is there.
@@ -24,6 +24,7 @@ pub record Agree (i : ℕ) (f g : ℕ → Family) : Type 0 where
 statement-same : (b : Bench) (f g : ℕ → Family) (i : ℕ) → Agree i f g → (s : Statement) → StatementSound b i s → statement_in b f s ≡ statement_in b g s
 statement-same b f g i q (ConditionalStatement c) h = ap conditional_statement (q.at c.id.index h.1)
 statement-same b f g i q (CasesStatement c) h = ap case_statement (q.at c.id.index h.1)
+statement-same b f g i q (ForStatement l) h = ap (λ x. ForTree l.index (tree_of b l.start) (tree_of b l.end) (block_in x)) (q.at l.block.id.index h.1.1)
 statement-same b f g i q _ h = refl
 
 statements-same : (b : Bench) (f g : ℕ → Family) (i : ℕ) → Agree i f g → (ss : List Statement) → Each (StatementSound b i) ss → statements_in b f ss ≡ statements_in b g ss

@@ -4,7 +4,7 @@ use Rattle.std.specs.Prelude.{IfSome}
 use Rattle.vast_core.specs.Handles.{Id, Expr, VastDataType, ModulePort, ContinuousAssignment, VastStatementBlock}
 use Rattle.vast_core.specs.Nodes.{IsOwned, is_name, is_macro}
 use Rattle.vast_core.specs.Records.{Assignment, Port, ParameterPort, ModuleRecord, ParameterForm, DefinedForm, Member, DeclarationEntry, AssignmentEntry, ParameterEntry, BlankEntry, CommentEntry, ImportEntry, InlineEntry, MacroEntry, InstanceEntry, FunctionEntry, AlwaysEntry, ConditionalEntry, LoopEntry, FileItem, ModuleEntry, Definition, Artifact, MacroArtifact, Connection, InstanceRecord}
-use Rattle.vast_core.specs.Nests.{CaseArm, ElseIf, Statement, AssignStatement, ContinuousStatement, TaskStatement, ConditionalStatement, CasesStatement, NestRecord, BlockRecord, ConditionalNestRecord, CaseNestRecord, LoopNestRecord, FunctionVariable, FunctionRecord, AlwaysRecord, NestKind, NoKind, nest_kind, is_kind, BlockKind, ConditionalKind, CaseStatementKind, LoopKind}
+use Rattle.vast_core.specs.Nests.{CaseArm, ElseIf, Statement, AssignStatement, ContinuousStatement, TaskStatement, ConditionalStatement, CasesStatement, ForStatement, NestRecord, BlockRecord, ConditionalNestRecord, CaseNestRecord, LoopNestRecord, FunctionVariable, FunctionRecord, AlwaysRecord, NestKind, NoKind, nest_kind, is_kind, BlockKind, ConditionalKind, CaseStatementKind, LoopKind}
 use Rattle.vast_literal.specs.Tree.{ExprTree}
 use Rattle.vast_core.specs.Bench.{Bench, has_root, OwnsExpr, OwnsType, OwnsPort, OwnsContinuous, is_continuous, is_comment, is_inline, is_macro_statement}
 use Rattle.vast_core.specs.Sound.{Each, PortSound, AssignmentSound, DefinitionSound, ArtifactSound, ConnectionSound, InstanceSound, FormSound, MemberSound, ParameterPortSound, ModuleSound, EntrySound, RecordsSound, HoldsBlock, StatementSound, ElseIfSound, CaseArmSound, AlwaysNewer, MemberNewer, LoopMemberSound, NestSound, NestsSound, VariableSound, FunctionSound, EventSound, AlwaysSound}
@@ -154,6 +154,7 @@ StatementSound-kept b c g i (ContinuousStatement s) h = found-kept b c s.id b.as
 StatementSound-kept b c g i (TaskStatement call) h = HasExpr-kept b.nodes c.nodes g.nodes call h
 StatementSound-kept b c g i (ConditionalStatement x) h = (nest-kept (is_kind ConditionalKind) b c x.id g never h.0, h.1)
 StatementSound-kept b c g i (CasesStatement x) h = (nest-kept (is_kind CaseStatementKind) b c x.id g never h.0, h.1)
+StatementSound-kept b c g i (ForStatement l) h = ((HasExpr-kept b.nodes c.nodes g.nodes l.start h.0.0, HasExpr-kept b.nodes c.nodes g.nodes l.end h.0.1), block-kept b c g i l.block h.1)
 StatementSound-kept b c g i _ h = tt
 
 pub ElseIfSound-kept : (b c : Bench) → Grows b c → (i : ℕ) (a : ElseIf) → ElseIfSound b i a → ElseIfSound c i a

@@ -8,7 +8,7 @@ use Rattle.vast_literal.specs.WellFormedFile.{is_well_formed_maybe, is_macro, is
 use Rattle.vast_core.specs.Handles.{Expr, MacroRef, VastDataType, VastStatementBlock}
 use Rattle.vast_core.specs.declared.node.Assignment.{Assignment}
 use Rattle.vast_core.specs.Nodes.{Root, ExprRoot, TypeRoot, expr_in, expr_of_root, is_expr_root, is_root_of, is_macro as is_macro_root}
-use Rattle.vast_core.specs.Nests.{CaseArm, ElseIf, Statement, AssignStatement, ContinuousStatement, TaskStatement, ConditionalStatement, CasesStatement}
+use Rattle.vast_core.specs.Nests.{CaseArm, ElseIf, Statement, AssignStatement, ContinuousStatement, TaskStatement, ConditionalStatement, CasesStatement, ForStatement}
 use Rattle.vast_core.specs.Bench.{Bench, OwnsExpr, OwnsType, OwnsMacroRef, AreWellFormed, tree_of, type_of, maybe_tree_of, trees_of}
 use Rattle.vast_core.specs.Sound.{Each, AssignmentSound, StatementSound, ElseIfSound, CaseArmSound, EventSound, RecordsSound, is_event}
 use Rattle.vast_core.specs.FileTree.{Family, BlockFamily, ConditionalFamily, CaseFamily, LoopFamily, NoFamily, block_in, conditional_statement, case_statement, conditional_member, loop_member, assigned_tree, continuous_tree, statement_in, statements_in, otherwise_in, alternates_in, arms_in}
@@ -113,6 +113,7 @@ statement-good b w r f g n (ContinuousStatement s) h = continuous-good b w (slic
 statement-good b w r f g n (TaskStatement call) h = expr-good b w call h
 statement-good b w r f g n (ConditionalStatement c) h = conditional-good (f c.id.index) (g c.id.index)
 statement-good b w r f g n (CasesStatement c) h = case-good (f c.id.index) (g c.id.index)
+statement-good b w r f g n (ForStatement l) h = both_true (both_true (expr-good b w l.start h.0.0) (expr-good b w l.end h.0.1)) (block-good (f l.block.id.index) (g l.block.id.index))
 statement-good b w r f g n _ h = refl
 
 pub statements-good :

@@ -1,9 +1,9 @@
 -- What a file holds after a call that adds to a container, or to a module what holds containers.
-use Rattle.std.specs.Prelude.{ℕ, suc, Bool, true, false, [], ◌∷◌, ◌++◌, length, Option, Some, None}
+use Rattle.std.specs.Prelude.{ℕ, suc, Bool, true, false, List, [], ◌∷◌, ◌++◌, length, Option, Some, None}
 use Rattle.vast_core.specs.Handles.{Expr, VastStatementBlock, Conditional, CaseStatement}
 use Rattle.vast_literal.specs.declared.kind.CaseKind.{CaseKind}
 use Rattle.vast_core.specs.Records.{Member, changed_at}
-use Rattle.vast_core.specs.Nests.{CaseArm, ElseIf, Statement, NestRecord, BlockRecord, ConditionalNestRecord, CaseNestRecord, LoopNestRecord}
+use Rattle.vast_core.specs.Nests.{CaseArm, ElseIf, Statement, ForStatement, NestRecord, BlockRecord, ConditionalNestRecord, CaseNestRecord, LoopNestRecord}
 use Rattle.vast_core.specs.Bench.{Bench}
 use Rattle.vast_core.specs.Growth.{next_id}
 
@@ -79,6 +79,10 @@ with_else owner b = with_nest_entry owner.id.index (ElseEnters (next_block b)) (
 -- An arm more of the case statement, with an empty block; without a label it is `default`.
 abbrev pub with_case_arm : CaseStatement → Option Expr → Bench → Bench
 with_case_arm owner label b = with_nest_entry owner.id.index (CaseArmEnters (record { label = label; block = next_block b })) (with_block b)
+
+-- A loop more at the end of the block, with an empty block.
+abbrev pub with_for : VastStatementBlock → (index : List ℕ) (start end : Expr) → Bench → Bench
+with_for owner index start end b = with_statement owner (ForStatement (record { index = index; start = start; end = end; block = next_block b })) (with_block b)
 
 -- The conditional has an `else`.
 abbrev pub has_else : Option NestRecord → Bool

@@ -1,6 +1,6 @@
 -- The tree of a file, without handles.
 use Rattle.std.specs.Prelude.{ℕ, zero, suc, Bool, true, false, List, [], ◌∷◌, map, length, Option, Some, None, slice_get}
-use Rattle.vast_literal.specs.Tree.{ExprTree, StatementTree, AssignTree, TaskTree, CommentTree, BlankTree, InlineTree, ConditionalTree, CaseTree, Statements, NoStatements, MoreStatements, Alternates, NoElse, ElseIf, Else, CaseArms, NoCaseArms, CaseArm, MemberTree, DeclarationMember, AssignMember, ParameterMember, CommentMember, BlankMember, ImportMember, InlineMember, MacroMember, InstanceMember, AlwaysMember, ConditionalMember, FunctionMember, LoopMember, Members, NoMembers, MoreMembers, MissingType, Declaration, ParameterName, PlainParameter, IntParameter, DefinedParameter, Connection as ConnectionTree, PortTree, ParameterPortTree, ModuleTree, FileItemTree, ModuleItem, IncludeItem, ImportItem, CommentItem, BlankItem, FileTree}
+use Rattle.vast_literal.specs.Tree.{ExprTree, StatementTree, AssignTree, TaskTree, CommentTree, BlankTree, InlineTree, ConditionalTree, CaseTree, ForTree, Statements, NoStatements, MoreStatements, Alternates, NoElse, ElseIf, Else, CaseArms, NoCaseArms, CaseArm, MemberTree, DeclarationMember, AssignMember, ParameterMember, CommentMember, BlankMember, ImportMember, InlineMember, MacroMember, InstanceMember, AlwaysMember, ConditionalMember, FunctionMember, LoopMember, Members, NoMembers, MoreMembers, MissingType, Declaration, ParameterName, PlainParameter, IntParameter, DefinedParameter, Connection as ConnectionTree, PortTree, ParameterPortTree, ModuleTree, FileItemTree, ModuleItem, IncludeItem, ImportItem, CommentItem, BlankItem, FileTree}
 use Rattle.vast_literal.specs.declared.kind.AssignmentForm.{AssignmentForm as AssignForm}
 use Rattle.vast_literal.specs.declared.kind.AssignmentForm.TheVariants.{Blocking, Nonblocking, Continuous}
 use Rattle.vast_literal.specs.declared.kind.DataKind.TheVariants.{Wire as WireKind}
@@ -11,7 +11,7 @@ use Rattle.vast_core.specs.declared.node.ElseIf.{ElseIf as ElseIfNode}
 use Rattle.vast_core.specs.declared.node.CaseArm.{CaseArm as CaseArmNode}
 use Rattle.vast_core.specs.Nodes.{maybe_type_in, maybe_expr_in}
 use Rattle.vast_core.specs.Records.{Assignment, Port, ParameterPort, ModuleRecord, ParameterForm, PlainForm, IntForm, DefinedForm, Member, DeclarationEntry, AssignmentEntry, ParameterEntry, BlankEntry, CommentEntry, ImportEntry, InlineEntry, MacroEntry, InstanceEntry, FunctionEntry, AlwaysEntry, ConditionalEntry, LoopEntry, FileItem, ModuleEntry, IncludeEntry, FileImportEntry, FileCommentEntry, FileBlankEntry, Definition, Artifact, BlankArtifact, CommentArtifact, InlineArtifact, MacroArtifact, Connection, InstanceRecord}
-use Rattle.vast_core.specs.Nests.{Statement, AssignStatement, ContinuousStatement, TaskStatement, ConditionalStatement, CasesStatement, BlankStatement, CommentStatement, InlineStatement, NestRecord, BlockRecord, ConditionalNestRecord, CaseNestRecord, LoopNestRecord, FunctionVariable, FunctionRecord, AlwaysRecord}
+use Rattle.vast_core.specs.Nests.{Statement, AssignStatement, ContinuousStatement, TaskStatement, ConditionalStatement, CasesStatement, ForStatement, BlankStatement, CommentStatement, InlineStatement, NestRecord, BlockRecord, ConditionalNestRecord, CaseNestRecord, LoopNestRecord, FunctionVariable, FunctionRecord, AlwaysRecord}
 use Rattle.vast_core.specs.Bench.{Bench, tree_of, type_of, maybe_tree_of, trees_of}
 
 abbrev pub declared : Bench → DataKind → List ℕ → VastDataType → Declaration
@@ -96,6 +96,7 @@ statement_in b f (ContinuousStatement s) = continuous_tree b (slice_get b.assign
 statement_in b f (TaskStatement call) = TaskTree (tree_of b call)
 statement_in b f (ConditionalStatement c) = conditional_statement (f c.id.index)
 statement_in b f (CasesStatement c) = case_statement (f c.id.index)
+statement_in b f (ForStatement l) = ForTree l.index (tree_of b l.start) (tree_of b l.end) (block_in (f l.block.id.index))
 statement_in b f BlankStatement = BlankTree
 statement_in b f (CommentStatement text) = CommentTree text
 statement_in b f (InlineStatement text) = InlineTree text

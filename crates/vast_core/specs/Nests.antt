@@ -4,11 +4,12 @@ use Rattle.std.specs.declared.alloc.Global.{Global}
 use Rattle.vast_core.specs.Handles.{Expr, LogicRef, VastDataType, VastStatementBlock}
 use Rattle.vast_literal.specs.declared.kind.AlwaysKind.{AlwaysKind}
 use Rattle.vast_literal.specs.declared.kind.CaseKind.{CaseKind}
--- A statement of a block names an assignment, a call or a container, which stays where it is.
+-- A statement of a block names an assignment, a call or a container, which stays where it is; a loop has its parts in it.
 pub use Rattle.vast_core.specs.declared.node.Statement.{Statement}
-pub use Rattle.vast_core.specs.declared.node.Statement.TheVariants.{Assignment as AssignStatement, Continuous as ContinuousStatement, Task as TaskStatement, Conditional as ConditionalStatement, Case as CasesStatement, BlankLine as BlankStatement, Comment as CommentStatement, Inline as InlineStatement}
+pub use Rattle.vast_core.specs.declared.node.Statement.TheVariants.{Assignment as AssignStatement, Continuous as ContinuousStatement, Task as TaskStatement, Conditional as ConditionalStatement, Case as CasesStatement, For as ForStatement, BlankLine as BlankStatement, Comment as CommentStatement, Inline as InlineStatement}
 pub use Rattle.vast_core.specs.declared.node.ElseIf.{ElseIf}
 pub use Rattle.vast_core.specs.declared.node.CaseArm.{CaseArm}
+pub use Rattle.vast_core.specs.declared.node.ForParts.{ForParts}
 use Rattle.vast_core.specs.declared.node.ConditionalNode.{ConditionalNode}
 use Rattle.vast_core.specs.declared.node.CaseNode.{CaseNode}
 use Rattle.vast_core.specs.declared.node.LoopNode.{LoopNode}

@@ -2,7 +2,7 @@
 use Rattle.std.specs.Prelude.{ℕ, ◌≤◌, Bool, false, List, [], ◌∷◌, ◌++◌, length, flat_map, count_by, nat_eq, nat_lt, cond, Option, Some, None}
 use Rattle.vast_core.specs.Handles.{VastStatementBlock}
 use Rattle.vast_core.specs.Records.{Member, FunctionEntry, AlwaysEntry, ConditionalEntry, LoopEntry, ModuleRecord}
-use Rattle.vast_core.specs.Nests.{CaseArm, ElseIf, Statement, ConditionalStatement, CasesStatement, ConditionalRecord, NestRecord, BlockRecord, ConditionalNestRecord, CaseNestRecord, LoopNestRecord, FunctionRecord, AlwaysRecord}
+use Rattle.vast_core.specs.Nests.{CaseArm, ElseIf, Statement, ConditionalStatement, CasesStatement, ForStatement, ConditionalRecord, NestRecord, BlockRecord, ConditionalNestRecord, CaseNestRecord, LoopNestRecord, FunctionRecord, AlwaysRecord}
 use Rattle.vast_core.specs.Bench.{Bench}
 
 -- What stands in a place of the file: a container, a function or an always block, by its number among its like.
@@ -22,6 +22,7 @@ is_same _ _ = false
 abbrev pub held_by_statement : Statement → List Part
 held_by_statement (ConditionalStatement c) = ContainerPart c.id.index ∷ []
 held_by_statement (CasesStatement c) = ContainerPart c.id.index ∷ []
+held_by_statement (ForStatement l) = ContainerPart l.block.id.index ∷ []
 held_by_statement _ = []
 
 abbrev pub held_by_member : Member → List Part

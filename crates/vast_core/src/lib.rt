@@ -25,8 +25,8 @@ pub use handle::{
 };
 pub use node::{
     AlwaysBlock, Artifact, Assignment, CaseArm, CaseNode, ConditionalNode, Connection, Definition,
-    Dimension, ElseIf, ExprNode, FileItem, Function, FunctionVariable, Instance, LoopNode, Member,
-    Module, PackageName, ParameterForm, ParameterPort, Port, Statement, TypeNode,
+    Dimension, ElseIf, ExprNode, FileItem, ForLoop, ForParts, Function, FunctionVariable, Instance,
+    LoopNode, Member, Module, PackageName, ParameterForm, ParameterPort, Port, Statement, TypeNode,
 };
 pub use vast_literal::{
     AlwaysKind, AssignmentForm, BinaryOperator, CaseKind, DataKind, ModulePortDirection,

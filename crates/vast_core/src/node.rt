@@ -1,11 +1,15 @@
 //! Nodes: what the arenas of a file hold, with handles in the place of children. What there are many of are words, of
 //! which most take no memory of their own: names of signals, and literals.
 
+ghost use Rattle.std.specs.Prelude.{◌≡◌, IfOk};
+
 use crate::handle::{
     CaseStatement, Comment, Conditional, ContinuousAssignment, Def, Expr, GenerateLoop,
     InlineVerilogStatement, Instantiation, LogicRef, MacroRef, MacroStatement, ModulePort,
     VastAlwaysBase, VastDataType, VastFunction, VastModule, VastStatement, VastStatementBlock,
 };
+use std::alloc::{AllocError, Global};
+use std::marker::Model;
 use vast_literal::{
     AlwaysKind, BinaryOperator, CaseKind, DataKind, ModulePortDirection, UnaryOperator,
 };
@@ -245,9 +249,55 @@ pub enum Statement {
     Task(Expr),
     Conditional(Conditional),
     Case(CaseStatement),
+    For(ForLoop),
     BlankLine,
     Comment(Text),
     Inline(Text),
+}
+
+/// A loop of a block: its index runs from `start` on while it is below `end`.
+#[derive(Drop)]
+pub struct ForParts {
+    /// The index's name.
+    pub index: Word,
+    pub start: Expr,
+    pub end: Expr,
+    pub block: VastStatementBlock,
+}
+
+/// A loop of a block, on the heap: loops are few, and each statement would else take as much memory as one.
+#[derive(Drop)]
+pub struct ForLoop {
+    parts: Box<ForParts>,
+}
+
+impl Model for ForLoop {
+    ghost use Rattle.vast_core.specs.declared.node.ForParts.{ForParts};
+
+    ghost Value = { ForParts };
+
+    ghost view = { λ l. l.parts.value };
+}
+
+impl ForLoop {
+    /// The loop of these parts.
+    ///
+    /// # Errors
+    /// `AllocError` where a growth was refused.
+    pub fn new(alloc: Global, parts: ForParts) -> Result<ForLoop, AllocError>
+        ensures { IfOk result (λ l. l ≡ parts) }
+    {
+        Ok(ForLoop {
+            parts: Box::new(alloc, parts)?,
+        })
+    }
+
+    /// The loop's parts.
+    pub fn parts(&self) -> &ForParts
+        ensures { result.now ≡ self.now }
+    {
+        &self.parts
+    }
 }
 
 /// An arm `else if` of a conditional.

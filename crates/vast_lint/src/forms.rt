@@ -87,6 +87,11 @@ impl Form {
         }
     }
 
+    /// Whether it is a net or a variable that was declared.
+    pub(crate) fn is_declared(self) -> bool {
+        matches!(self, Form::Signal(Some(_)))
+    }
+
     /// Whether it is known without a simulation.
     pub(crate) fn is_constant(self) -> bool {
         match self {

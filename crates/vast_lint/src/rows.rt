@@ -90,6 +90,10 @@ pub(crate) fn row_of(rule: Rule) -> Row {
         Rule::TaskInGenerate => {
             ("a procedure's call in a conditional of a module is no SystemVerilog", Tools::All)
         }
+        Rule::LoopBySignal => ("a procedure's loop from a signal or up to one", Tools::Yosys),
+        Rule::LoopInGenerate => {
+            ("a procedure's loop in a conditional of a module is no SystemVerilog", Tools::All)
+        }
         Rule::CasezInGenerate => {
             ("`casez` or `casex` in a conditional of a module is no SystemVerilog", Tools::IcarusAndVerilator)
         }

@@ -68,6 +68,8 @@ pub enum Rule {
     TaskOfValue,
     SimulatedTask,
     TaskInGenerate,
+    LoopBySignal,
+    LoopInGenerate,
     CasezInGenerate,
     UniqueInGenerate,
     // Names, macros and comments

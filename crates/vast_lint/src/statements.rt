@@ -120,6 +120,10 @@ fn in_block(
             told.tell_if(known.is_generate(*owner), Rule::TaskInGenerate)?;
             Ok(Fact::Other)
         }
+        StatementStep::BlockAddFor(owner, name, start, end) => {
+            told.tell_any(name_rule(known.dialect, name))?;
+            looped(known, *owner, *start, *end, told)
+        }
         StatementStep::BlockAddCommentText(_, text) => {
             told.tell_any(comment_rule(text))?;
             Ok(Fact::Other)
@@ -179,5 +183,22 @@ fn case(
     told: &mut StepFindings,
 ) -> Result<Fact, AllocError> {
     operand(known, selector, told)?;
+    Ok(Fact::Statements(known.is_generate(owner)))
+}
+
+/// A loop in the block of this number.
+fn looped(
+    known: Known<'_>,
+    owner: usize,
+    start: usize,
+    end: usize,
+    told: &mut StepFindings,
+) -> Result<Fact, AllocError> {
+    operand(known, start, told)?;
+    operand(known, end, told)?;
+    let varies = known.form(start).is_declared() || known.form(end).is_declared();
+    told.tell_if(varies, Rule::LoopBySignal)?;
+    told.tell_if(known.is_generate(owner), Rule::LoopInGenerate)?;
+    told.tell_if(known.is_verilog(), Rule::VerilogInt)?;
     Ok(Fact::Statements(known.is_generate(owner)))
 }

@@ -13,7 +13,7 @@ use Rattle.vast_script.specs.declared.step.ModuleStep.TheVariants.{AddInclude, A
 use Rattle.vast_script.specs.declared.step.LoopStep.{LoopStep}
 use Rattle.vast_script.specs.declared.step.LoopStep.TheVariants.{AddGenerateLoop, GenerateAddGenerateLoop, GenerateGenvar, GenerateAddAlwaysComb, GenerateAddAlwaysStar, GenerateAddAlwaysLatch, GenerateAddInitial, GenerateAddAlwaysFf, GenerateAddAlwaysAt, GenerateAddLocalparam, GenerateAddTypedLocalparam, GenerateAddContinuousAssignment, GenerateAddConditional, GenerateAddBlankLine, GenerateAddComment, GenerateAddInstantiation, GenerateAddInlineStatement, GenerateAddMacroStatement}
 use Rattle.vast_script.specs.declared.step.StatementStep.{StatementStep}
-use Rattle.vast_script.specs.declared.step.StatementStep.TheVariants.{AddFunction, FunctionAddInput, FunctionAddLogicInput, FunctionAddReg, FunctionAddLogic, FunctionBody, FunctionResult, AddAlwaysFf, AddAlwaysAt, AddAlwaysComb, AddAlwaysStar, AddAlwaysLatch, AddInitial, BlockAddTaskCall, StatementBlock, BlockAddBlockingAssignment, BlockAddNonblockingAssignment, BlockAddContinuousAssignment, BlockAddCommentText, BlockAddInlineText, BlockAddBlankLine, AddConditional, BlockAddCond, ConditionalThenBlock, ConditionalAddElseIf, ConditionalAddElse, BlockAddCase, BlockAddCasez, BlockAddCasex, CaseAddItem, CaseAddDefault, CaseSetUnique}
+use Rattle.vast_script.specs.declared.step.StatementStep.TheVariants.{AddFunction, FunctionAddInput, FunctionAddLogicInput, FunctionAddReg, FunctionAddLogic, FunctionBody, FunctionResult, AddAlwaysFf, AddAlwaysAt, AddAlwaysComb, AddAlwaysStar, AddAlwaysLatch, AddInitial, BlockAddTaskCall, BlockAddFor, StatementBlock, BlockAddBlockingAssignment, BlockAddNonblockingAssignment, BlockAddContinuousAssignment, BlockAddCommentText, BlockAddInlineText, BlockAddBlankLine, AddConditional, BlockAddCond, ConditionalThenBlock, ConditionalAddElseIf, ConditionalAddElse, BlockAddCase, BlockAddCasez, BlockAddCasex, CaseAddItem, CaseAddDefault, CaseSetUnique}
 use Rattle.vast_script.specs.declared.step.ArtifactStep.{ArtifactStep}
 use Rattle.vast_script.specs.declared.step.ArtifactStep.TheVariants.{MakeDef, MakeBlankLine, MakeComment, MakeInlineVerilogStatement, MakeMacroStatement, MakeContinuousAssignment, MakeNonblockingAssignment, MakeBlockingAssignment, MakeInstantiation, AddMemberInstantiation, AddMemberContinuousAssignment, AddMemberBlankLine, AddMemberComment, AddMemberInlineStatement, AddMemberMacroStatement}
 use Rattle.vast_list.specs.declared.helpers.Helper.{Helper}
@@ -159,6 +159,7 @@ statement_name (BlockAddBlockingAssignment a b c) = codes "BlockAddBlockingAssig
 statement_name (BlockAddNonblockingAssignment a b c) = codes "BlockAddNonblockingAssignment"
 statement_name (BlockAddContinuousAssignment a b c) = codes "BlockAddContinuousAssignment"
 statement_name (BlockAddTaskCall a b) = codes "BlockAddTaskCall"
+statement_name (BlockAddFor a b c d) = codes "BlockAddFor"
 statement_name (BlockAddCommentText a b) = codes "BlockAddCommentText"
 statement_name (BlockAddInlineText a b) = codes "BlockAddInlineText"
 statement_name (BlockAddBlankLine a) = codes "BlockAddBlankLine"

@@ -47,7 +47,7 @@ statement_names =
     codes "BlockAddInlineText" ∷ codes "BlockAddBlankLine" ∷ codes "AddConditional" ∷ codes "BlockAddCond" ∷ codes "ConditionalThenBlock" ∷
     codes "ConditionalAddElseIf" ∷ codes "ConditionalAddElse" ∷ codes "BlockAddCase" ∷ codes "BlockAddCasez" ∷ codes "BlockAddCasex" ∷
     codes "CaseAddItem" ∷ codes "CaseAddDefault" ∷ codes "CaseSetUnique" ∷ codes "AddAlwaysStar" ∷ codes "AddAlwaysLatch" ∷ codes "AddInitial" ∷
-    codes "BlockAddTaskCall" ∷ []
+    codes "BlockAddTaskCall" ∷ codes "BlockAddFor" ∷ []
 
 abbrev pub artifact_names : List (List ℕ)
 artifact_names =

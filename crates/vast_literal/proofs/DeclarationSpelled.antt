@@ -2,21 +2,21 @@
 use Rattle.std.proofs.Common.{◌≡◌, ℕ, ℤ, pos, ◌-ℤ◌, List, [], ◌∷◌, ◌++◌, Bool, true, false, ◌&&◌, eqb, codes, Option, Some, None, refl, subst, append_assoc, append-nil, arith}
 use Rattle.std.proofs.lemmas.Bool.{and_from}
 use Rattle.std.specs.Fmt.{signed_decimal}
-use Rattle.vast_literal.specs.Tokens.{Minus, level, WireKey, RegKey, LogicKey, IntegerKey, IntKey, GenvarKey, SignedKey, UnsignedKey, Token}
-use Rattle.vast_literal.specs.Tree.{Dialect, VerilogDialect, SystemVerilogDialect, ExprTree, Exprs, NoExprs, MoreExprs, NameTree, IndexTree, SliceTree, PartSelectTree, MemberOfTree, ConcatTree, MacroTree, CallTree, TypeTree, ScalarTree, VectorTree, IntegerTree, IntTree, ExternalTree, PackageTree, PackedTree, UnpackedTree, Kind, RegKind, WireKind, LogicKind, IntegerKind, IntKind, UserKind, UntypedEnumKind, GenvarKind, Declaration}
-use Rattle.vast_literal.specs.NormalExpr.{scalar_sign, integer_sign, normal}
+use Rattle.vast_literal.specs.Tokens.{Less, Minus, level, WireKey, RegKey, LogicKey, IntegerKey, IntKey, GenvarKey, SignedKey, UnsignedKey, Token}
+use Rattle.vast_literal.specs.Tree.{Dialect, VerilogDialect, SystemVerilogDialect, LtOp, ExprTree, Exprs, NoExprs, MoreExprs, NameTree, IndexTree, SliceTree, PartSelectTree, MemberOfTree, ConcatTree, MacroTree, CallTree, TypeTree, ScalarTree, VectorTree, IntegerTree, IntTree, ExternalTree, PackageTree, PackedTree, UnpackedTree, Kind, RegKind, WireKind, LogicKind, IntegerKind, IntKind, UserKind, UntypedEnumKind, GenvarKind, Declaration}
+use Rattle.vast_literal.specs.NormalExpr.{Name, Binary, scalar_sign, integer_sign, binary_operator_token, normal}
 use Rattle.vast_literal.specs.Grammar.{Spells, binary, number, name as a_name, system_alone}
 use Rattle.vast_literal.specs.FileGrammar.{IsMany, no_items, more_items, is_kind, is_sign, IsGroup, one, range, IsMaybe, absent, present, IsTypeName, no_type, own_type, packaged, IsDeclaration, declares}
 use Rattle.vast_literal.specs.Plain.{is_plain_name, is_plain, is_plain_type, are_plain}
-use Rattle.vast_literal.specs.Shape.{name_alone, starts_with_minus, literal_value, highest_index_wraps, joined, base_of, packed_dimensions, unpacked_dimensions, port_kind}
+use Rattle.vast_literal.specs.Shape.{right_child_wraps, name_alone, starts_with_minus, literal_value, highest_index_wraps, joined, base_of, packed_dimensions, unpacked_dimensions, port_kind}
 use Rattle.vast_literal.proofs.ExprTokens.{called_token, expr_tokens}
 use Rattle.vast_literal.specs.WellFormed.{is_well_formed, is_well_formed_type, are_well_formed}
 use Rattle.vast_literal.specs.NormalTree.{normal_task, kind_key, package_of, type_name_of, sign_of, number_expr, zero_expr, highest_index_expr, vector_groups, packed_groups, unpacked_group, unpacked_groups, normal_declaration, normal_declared, normal_port_declaration}
-use Rattle.vast_literal.proofs.FileTokens.{called_tokens, maybe_tokens, type_name_tokens, number_tokens, zero_tokens, highest_index_tokens, vector_tokens, packed_tokens, unpacked_dimension_tokens, unpacked_tokens, declaration_tokens, declared_tokens, port_declaration_tokens}
+use Rattle.vast_literal.proofs.FileTokens.{called_tokens, test_tokens, maybe_tokens, type_name_tokens, number_tokens, zero_tokens, highest_index_tokens, vector_tokens, packed_tokens, unpacked_dimension_tokens, unpacked_tokens, declaration_tokens, declared_tokens, port_declaration_tokens}
 use Rattle.vast_literal.specs.PlainFile.{is_left_side, is_call, is_plain_declaration, is_plain_declared}
 use Rattle.vast_literal.proofs.ScanLaws.{and_left, and_right, by_test}
 use Rattle.vast_literal.proofs.Levels.{lower}
-use Rattle.vast_literal.proofs.Precedence.{literal_level, spelled_level, literal_bound, level_bound, highest_index_bound}
+use Rattle.vast_literal.proofs.Precedence.{literal_level, spelled_level, literal_bound, level_bound, right_bound, highest_index_bound}
 use Rattle.vast_literal.proofs.Spelled.{wrapped_spells, literal_spells, low, spelled}
 
 pub many_append : {A : Type 0} {P : List Token → A → Type 0} {ts us : List Token} {xs ys : List A} → IsMany P ts xs → IsMany P us ys → IsMany P (ts ++ us) (xs ++ ys)
@@ -64,6 +64,14 @@ task_spelled (CallTree name NoExprs) p w = lower 14 13 _ _ (omega arith) (omega 
 task_spelled (CallTree name (MoreExprs part parts)) p w = call_spelled (CallTree name (MoreExprs part parts)) p w
 task_spelled (MacroTree name arguments) p w = call_spelled (MacroTree name arguments) p w
 task_spelled _ p w = absurd (cc p)
+
+-- the condition of a loop
+
+pub test_spelled : (i : List ℕ) (e : ExprTree) → is_plain e ≡ true → is_well_formed e ≡ true → Spells 0 (test_tokens i e) (Binary Less (Name i) (normal e))
+unfolding level binary_operator_token
+test_spelled i e p w = let b = level_bound e in
+    lower 7 0 _ _ (omega arith) (omega arith) (binary Less (omega arith) (lower 14 7 _ _ (omega arith) (omega arith) (a_name i))
+    (wrapped_spells (right_child_wraps LtOp e) (spelled_level e) 8 _ _ (omega arith) (omega arith) (right_bound LtOp e) (spelled e p w)))
 
 -- numbers
 

@@ -1,16 +1,16 @@
 -- The tokens that the printed page of a file has.
 use Rattle.std.specs.Prelude.{ℕ, ℤ, pos, ◌-ℤ◌, Bool, true, false, List, [], ◌∷◌, ◌++◌, codes, Option, Some, None, cond, if◌then◌else◌}
 use Rattle.std.specs.Fmt.{signed_decimal}
-use Rattle.vast_literal.specs.Tokens.{Less, LessEqual, Plus, Minus, Key, IfKey, ElseKey, EndCaseKey, DefaultKey, UniqueKey, BeginKey, EndKey, AssignKey, IntKey, GenvarKey, ModuleKey, EndModuleKey, ParameterKey, OrKey, FunctionKey, AutomaticKey, EndFunctionKey, InputKey, ForKey}
+use Rattle.vast_literal.specs.Tokens.{Less, LessEqual, Minus, Key, IfKey, ElseKey, EndCaseKey, DefaultKey, UniqueKey, BeginKey, EndKey, AssignKey, IntKey, GenvarKey, ModuleKey, EndModuleKey, ParameterKey, OrKey, FunctionKey, AutomaticKey, EndFunctionKey, InputKey}
 use Rattle.vast_literal.specs.Tokens.{OpenParen, CloseParen, OpenBracket, CloseBracket, Comma, Colon, Semicolon, Dot, Hash, DoubleColon, Assign, Token, Reserved, Word, MacroWord, Number, Quoted, Operator, Mark}
 use Rattle.vast_literal.specs.Tree.{Dialect, VerilogDialect, SystemVerilogDialect, ExprTree, Exprs, NoExprs, MoreExprs, MaybeExpr, NoExpr, SomeExpr, MaybeType, Untyped, Typed}
 use Rattle.vast_literal.specs.Tree.{LtOp, TypeTree, VectorTree, ExternalTree, PackageTree, Kind, Declaration}
-use Rattle.vast_literal.specs.Tree.{AssignForm, Blocking, Nonblocking, Continuous, CaseWord, StatementTree, AssignTree, TaskTree, CommentTree, BlankTree, InlineTree, ConditionalTree, CaseTree, Statements, NoStatements, MoreStatements, Alternates, NoElse, ElseIf, Else, CaseArms, NoCaseArms, CaseArm}
+use Rattle.vast_literal.specs.Tree.{AssignForm, Blocking, Nonblocking, Continuous, CaseWord, StatementTree, AssignTree, TaskTree, CommentTree, BlankTree, InlineTree, ConditionalTree, CaseTree, ForTree, Statements, NoStatements, MoreStatements, Alternates, NoElse, ElseIf, Else, CaseArms, NoCaseArms, CaseArm}
 use Rattle.vast_literal.specs.Tree.{AlwaysWord, ParameterName, PlainParameter, IntParameter, DefinedParameter, Connection, InstanceTree, FunctionTree}
 use Rattle.vast_literal.specs.Tree.{MemberTree, DeclarationMember, AssignMember, ParameterMember, CommentMember, BlankMember, InlineMember, ImportMember, MacroMember, InstanceMember, AlwaysMember, ConditionalMember, FunctionMember, LoopMember, Members, NoMembers, MoreMembers}
 use Rattle.vast_literal.specs.Tree.{PortTree, ParameterPortTree, ModuleTree, FileItemTree, ModuleItem, IncludeItem, ImportItem, CommentItem, BlankItem, FileTree}
 use Rattle.vast_literal.proofs.LiteralToken.{literal_tokens}
-use Rattle.vast_literal.specs.Shape.{right_child_wraps, highest_index_wraps, literal_value, base_of, packed_dimensions, unpacked_dimensions, port_kind, base_kind, result_kind, is_bare_arm, name_alone, is_one_casez, always_words, has_events, import_words}
+use Rattle.vast_literal.specs.Shape.{right_child_wraps, highest_index_wraps, literal_value, base_of, packed_dimensions, unpacked_dimensions, port_kind, base_kind, result_kind, is_bare_arm, name_alone, is_one_casez, always_words, has_events, import_words, loop_words}
 use Rattle.vast_literal.proofs.ExprTokens.{called_token, wrapped_tokens, expr_tokens}
 use Rattle.vast_literal.specs.NormalTree.{kind_key, sign_of, case_key, parameter_key, direction_key}
 
@@ -97,6 +97,10 @@ unfoldable pub label_tokens : MaybeExpr → List Token
 label_tokens NoExpr = Reserved DefaultKey ∷ []
 label_tokens (SomeExpr label) = expr_tokens label
 
+-- The condition of a loop: its end is the right operand of `<`.
+abbrev pub test_tokens : (i : List ℕ) (end : ExprTree) → List Token
+test_tokens i end = Word i ∷ (Operator Less ∷ wrapped_tokens (right_child_wraps LtOp end) (expr_tokens end))
+
 unfoldable mutual
   pub statement_tokens : StatementTree → List Token
   statement_tokens (AssignTree form left right) = assignment_tokens form (expr_tokens left) (expr_tokens right)
@@ -108,6 +112,7 @@ unfoldable mutual
       Reserved IfKey ∷ (Mark OpenParen ∷ (expr_tokens condition ++ (Mark CloseParen ∷ (Reserved BeginKey ∷ (ended (statements_tokens consequent) ++ alternates_tokens alternates)))))
   statement_tokens (CaseTree unique word selector arms) =
       unique_tokens unique ++ (Reserved (case_key word) ∷ (Mark OpenParen ∷ (expr_tokens selector ++ (Mark CloseParen ∷ arms_tokens word arms))))
+  statement_tokens (ForTree index start end body) = loop_words IntKey index (expr_tokens start) (test_tokens index end) (ended (statements_tokens body))
 
   pub statements_tokens : Statements → List Token
   statements_tokens NoStatements = []
@@ -211,9 +216,7 @@ unfoldable mutual
       Reserved IfKey ∷ (Mark OpenParen ∷ (expr_tokens condition ++ (Mark CloseParen ∷ (Reserved BeginKey ∷ (ended (statements_tokens consequent) ++ alternates_tokens alternates)))))
   member_tokens dialect (FunctionMember f) = function_tokens dialect f
   member_tokens dialect (LoopMember genvar start end label members) =
-      Reserved ForKey ∷ (Mark OpenParen ∷ (Reserved GenvarKey ∷ (Word genvar ∷ (Mark Assign ∷ (expr_tokens start ++ (Mark Semicolon ∷
-      ((Word genvar ∷ (Operator Less ∷ wrapped_tokens (right_child_wraps LtOp end) (expr_tokens end))) ++ (Mark Semicolon ∷ (Word genvar ∷ (Mark Assign ∷ (Word genvar ∷ (Operator Plus ∷ (Number (codes "1") ∷
-      (Mark CloseParen ∷ (Reserved BeginKey ∷ (loop_label_tokens label ++ ended (members_tokens dialect members)))))))))))))))))
+      loop_words GenvarKey genvar (expr_tokens start) (test_tokens genvar end) (loop_label_tokens label ++ ended (members_tokens dialect members))
 
   pub members_tokens : Dialect → Members → List Token
   members_tokens dialect NoMembers = []

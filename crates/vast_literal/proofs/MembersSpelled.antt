@@ -1,24 +1,22 @@
 -- The tokens of a member's page spell its normal form.
-use Rattle.std.proofs.Common.{◌≡◌, ℕ, List, [], ◌∷◌, ◌++◌, map, Bool, true, false, ◌&&◌, Option, Some, None, IsTrue, refl, append_assoc, append-nil, arith}
-use Rattle.vast_literal.specs.Tokens.{Less, level, OpenParen, CloseParen, Comma, Semicolon, Dot, Key, BeginKey, EndKey, WireKey, RegKey, LogicKey, IntKey, PosedgeKey, NegedgeKey, OrKey, Token, Reserved, Word, Operator, Mark}
-use Rattle.vast_literal.specs.Tree.{Dialect, LtOp, ExprTree, NameTree, PosEdgeTree, NegEdgeTree, MacroTree, MaybeExpr, NoExpr, SomeExpr, Exprs, NoExprs, MoreExprs, NoArguments, SomeArguments, Kind, RegKind, WireKind, LogicKind, Declaration, Continuous, AlwaysWord, AlwaysFFWord, AlwaysAtWord, AlwaysCombWord, AlwaysStarWord, AlwaysLatchWord, InitialWord, ParameterName, PlainParameter, IntParameter, DefinedParameter, Connection, InstanceTree, FunctionTree, MemberTree, DeclarationMember, AssignMember, ParameterMember, CommentMember, BlankMember, InlineMember, ImportMember, MacroMember, InstanceMember, AlwaysMember, ConditionalMember, FunctionMember, LoopMember, Members, NoMembers, MoreMembers}
-use Rattle.vast_literal.specs.NormalExpr.{NormalExpr, Name, Binary, binary_operator_token, normal}
+use Rattle.std.proofs.Common.{◌≡◌, ℕ, List, [], ◌∷◌, ◌++◌, map, Bool, true, false, ◌&&◌, Option, Some, None, IsTrue, refl, append_assoc, append-nil}
+use Rattle.vast_literal.specs.Tokens.{OpenParen, CloseParen, Comma, Semicolon, Dot, Key, BeginKey, EndKey, WireKey, RegKey, LogicKey, IntKey, PosedgeKey, NegedgeKey, OrKey, Token, Reserved, Word, Mark}
+use Rattle.vast_literal.specs.Tree.{Dialect, ExprTree, NameTree, PosEdgeTree, NegEdgeTree, MacroTree, MaybeExpr, NoExpr, SomeExpr, Exprs, NoExprs, MoreExprs, NoArguments, SomeArguments, Kind, RegKind, WireKind, LogicKind, Declaration, Continuous, AlwaysWord, AlwaysFFWord, AlwaysAtWord, AlwaysCombWord, AlwaysStarWord, AlwaysLatchWord, InitialWord, ParameterName, PlainParameter, IntParameter, DefinedParameter, Connection, InstanceTree, FunctionTree, MemberTree, DeclarationMember, AssignMember, ParameterMember, CommentMember, BlankMember, InlineMember, ImportMember, MacroMember, InstanceMember, AlwaysMember, ConditionalMember, FunctionMember, LoopMember, Members, NoMembers, MoreMembers}
+use Rattle.vast_literal.specs.NormalExpr.{NormalExpr}
 use Rattle.vast_literal.specs.NormalFile.{NormalStatements, Event, AssignPart, InstancePart, NormalMembers}
-use Rattle.vast_literal.specs.Grammar.{Spells, binary, name}
+use Rattle.vast_literal.specs.Grammar.{Spells, name}
 use Rattle.vast_literal.specs.FileGrammar.{IsMany, no_items, more_items, IsJoined, last_item, next_item, IsList, empty, full, IsStatements, is_kind, absent, present, no_type, IsDeclaration, declares, is_member_kind, is_local_kind, is_parameter_word, is_edge, IsEvent, edge, plain, IsInput, input, IsDeclared, declared, IsGiven, given, IsConnection, connected, unconnected, IsGivenList, no_parameters, with_parameters, IsSemicolon, with_one, without, IsLabel, no_label, labelled, IsMember, declaration, continuous, parameter, macro, macro_with, import_member, instance, unclocked, clocked, conditional, function, loop, IsMembers, closed, and_member}
 use Rattle.vast_literal.specs.Plain.{is_plain_name, is_plain, are_plain}
-use Rattle.vast_literal.specs.Shape.{right_child_wraps, result_kind}
-use Rattle.vast_literal.proofs.ExprTokens.{wrapped_tokens, expr_tokens}
+use Rattle.vast_literal.specs.Shape.{result_kind}
+use Rattle.vast_literal.proofs.ExprTokens.{expr_tokens}
 use Rattle.vast_literal.specs.WellFormed.{is_well_formed, is_well_formed_type}
 use Rattle.vast_literal.specs.NormalTree.{kind_key, normal_declaration, normal_declared, normal_label, parameter_key, normal_parameter_name, normal_arguments, normal_macro, normal_connection, normal_event, normal_events, normal_always, normal_port_declaration, normal_function, normal_member_before, normal_members}
 use Rattle.vast_literal.proofs.FileTokens.{declared_tokens, assignment_tokens, separated, parameter_name_tokens, semicolon_tokens, value_tokens, connection_tokens, each_connection, given_tokens, instance_tokens, more_event_tokens, event_tokens, always_tokens, each_input, local_tokens, function_tokens, loop_label_tokens, member_tokens, members_tokens}
 use Rattle.vast_literal.specs.PlainFile.{is_plain_maybe, is_left_side, is_plain_declaration, is_plain_declared, are_plain_statements, are_plain_alternates, is_plain_event, are_plain_events, are_plain_awaited, is_plain_parameter_name, are_plain_connections, is_plain_instance, is_plain_function, is_plain_label, is_plain_member, are_plain_members}
 use Rattle.vast_literal.specs.WellFormedFile.{is_well_formed_maybe, is_own_kind, is_local_word, is_macro, are_well_formed_statements, are_well_formed_alternates, is_well_formed_event, are_well_formed_events, is_well_formed_parameter_name, are_well_formed_connections, is_given, are_given, are_well_formed_inputs, are_well_formed_locals, is_well_formed_function, is_well_formed_member, are_well_formed_members}
 use Rattle.vast_literal.proofs.ScanLaws.{and_left, and_right}
-use Rattle.vast_literal.proofs.Levels.{lower}
-use Rattle.vast_literal.proofs.Precedence.{spelled_level, level_bound, right_bound}
-use Rattle.vast_literal.proofs.Spelled.{wrapped_spells, list_spells, spelled, each_spelled}
-use Rattle.vast_literal.proofs.DeclarationSpelled.{value_spelled, left_spelled, declared_spelled, port_declaration_spelled, named_spelled}
+use Rattle.vast_literal.proofs.Spelled.{list_spells, each_spelled}
+use Rattle.vast_literal.proofs.DeclarationSpelled.{value_spelled, left_spelled, test_spelled, declared_spelled, port_declaration_spelled, named_spelled}
 use Rattle.vast_literal.proofs.StatementsSpelled.{statements_spelled, choice_spelled, function_body_spelled}
 use Rattle.vast_literal.specs.LiteralToken.{every}
 
@@ -186,13 +184,6 @@ label_spelled : (l : Option (List ℕ)) → IsLabel (loop_label_tokens l) l
 unfolding loop_label_tokens
 label_spelled None = no_label
 label_spelled (Some w) = labelled w
-
--- the test of a loop: the end is the right operand of `<`
-test_spelled : (i : List ℕ) (e : ExprTree) → is_plain e ≡ true → is_well_formed e ≡ true → Spells 0 (Word i ∷ (Operator Less ∷ wrapped_tokens (right_child_wraps LtOp e) (expr_tokens e))) (Binary Less (Name i) (normal e))
-unfolding level binary_operator_token
-test_spelled i e p w = let b = level_bound e in
-    lower 7 0 _ _ (omega arith) (omega arith) (binary Less (omega arith) (lower 14 7 _ _ (omega arith) (omega arith) (name i))
-    (wrapped_spells (right_child_wraps LtOp e) (spelled_level e) 8 _ _ (omega arith) (omega arith) (right_bound LtOp e) (spelled e p w)))
 
 assign_member : {ls rs : List Token} {l r : NormalExpr} → Spells 13 ls l → Spells 0 rs r → IsMember (assignment_tokens Continuous ls rs) (AssignPart l r)
 unfolding assignment_tokens

@@ -1,11 +1,11 @@
 -- The tokens of a statement's page spell its normal form.
 use Rattle.std.proofs.Common.{◌≡◌, List, ◌∷◌, ◌++◌, Bool, true, false, cond, ◌&&◌, append_assoc, append-nil}
 use Rattle.vast_literal.specs.Tokens.{OpenParen, CloseParen, Colon, IfKey, BeginKey, Token, Reserved, Mark}
-use Rattle.vast_literal.specs.Tree.{MaybeExpr, NoExpr, SomeExpr, AssignForm, Blocking, Nonblocking, Continuous, CaseWord, CaseExact, CaseZ, CaseX, StatementTree, AssignTree, TaskTree, CommentTree, BlankTree, InlineTree, ConditionalTree, CaseTree, Statements, NoStatements, MoreStatements, Alternates, NoElse, ElseIf, Else, CaseArms, NoCaseArms, CaseArm}
+use Rattle.vast_literal.specs.Tree.{MaybeExpr, NoExpr, SomeExpr, AssignForm, Blocking, Nonblocking, Continuous, CaseWord, CaseExact, CaseZ, CaseX, StatementTree, AssignTree, TaskTree, CommentTree, BlankTree, InlineTree, ConditionalTree, CaseTree, ForTree, Statements, NoStatements, MoreStatements, Alternates, NoElse, ElseIf, Else, CaseArms, NoCaseArms, CaseArm}
 use Rattle.vast_literal.specs.NormalExpr.{NormalExpr}
 use Rattle.vast_literal.specs.NormalFile.{NormalStatements, Labels, Label}
 use Rattle.vast_literal.specs.Grammar.{Spells}
-use Rattle.vast_literal.specs.FileGrammar.{arrow, assignment, IsUnique, unique, not_unique, IsCase, case_word, casez_word, casex_word, IsStatement, simple, assigned, task, choice, cases, cased, assigns, IsStatements, done, then, IsChoice, only, otherwise, or, IsLabels, no_labels, label, default, IsBody, body, bare, IsFunctionBody, block_body, casez_body}
+use Rattle.vast_literal.specs.FileGrammar.{arrow, assignment, IsUnique, unique, not_unique, IsCase, case_word, casez_word, casex_word, IsStatement, simple, assigned, task, choice, cases, counted, cased, assigns, IsStatements, done, then, IsChoice, only, otherwise, or, IsLabels, no_labels, label, default, IsBody, body, bare, IsFunctionBody, block_body, casez_body}
 use Rattle.vast_literal.specs.WellFormed.{is_well_formed}
 use Rattle.vast_literal.specs.NormalTree.{case_key, normal_assignment, normal_label, normal_before, normal_statements, normal_choice, normal_arms}
 use Rattle.vast_literal.specs.Shape.{is_one_assignment, is_bare_arm, is_one_casez}
@@ -13,8 +13,8 @@ use Rattle.vast_literal.proofs.FileTokens.{assignment_tokens, ended, block_token
 use Rattle.vast_literal.specs.PlainFile.{is_plain_maybe, is_left_side, is_plain_assignment, is_plain_statement, are_plain_statements, are_plain_alternates, are_plain_arms}
 use Rattle.vast_literal.specs.WellFormedFile.{is_well_formed_maybe, is_well_formed_statement, are_well_formed_statements, are_well_formed_alternates, are_well_formed_arms}
 use Rattle.vast_literal.proofs.ScanLaws.{and_left, and_right, by_test}
-use Rattle.vast_literal.proofs.DeclarationSpelled.{value_spelled, left_spelled, task_spelled}
-use Rattle.vast_literal.specs.Plain.{is_plain}
+use Rattle.vast_literal.proofs.DeclarationSpelled.{value_spelled, left_spelled, task_spelled, test_spelled}
+use Rattle.vast_literal.specs.Plain.{is_plain_name, is_plain}
 
 -- The cases of a word may have bare arms.
 abbrev pub has_bare_arms : CaseWord → Bool
@@ -89,6 +89,12 @@ mutual
       (and_right (are_plain_statements b) (are_plain_alternates alternates) p1) (and_right (are_well_formed_statements b) (are_well_formed_alternates alternates) w1))) rest
   before_spelled (CaseTree u word e arms) p w rest =
       then (cases (case_key word) (case_spelled word) (cased (unique_spelled u) (value_spelled e (and_left _ _ p) (and_left _ _ w)) (arms_spelled word arms (and_right (is_plain e) (are_plain_arms arms) p) (and_right (is_well_formed e) (are_well_formed_arms arms) w)))) rest
+  before_spelled (ForTree i s e b) p w rest =
+      let p1 = and_right (is_plain_name i) ((is_plain s && is_plain e) && are_plain_statements b) p in
+      let p2 = and_left (is_plain s && is_plain e) (are_plain_statements b) p1 in
+      let w2 = and_left (is_well_formed s && is_well_formed e) (are_well_formed_statements b) w in
+      then (counted i (value_spelled s (and_left _ _ p2) (and_left _ _ w2)) (test_spelled i e (and_right (is_plain s) (is_plain e) p2) (and_right (is_well_formed s) (is_well_formed e) w2))
+      (statements_spelled b (and_right (is_plain s && is_plain e) (are_plain_statements b) p1) (and_right (is_well_formed s && is_well_formed e) (are_well_formed_statements b) w))) rest
 
   -- a condition and its block, with what follows the block
   pub choice_spelled : (alternates : Alternates) {cs bs : List Token} {c : NormalExpr} {b : NormalStatements} → Spells 0 cs c → IsStatements bs b → are_plain_alternates alternates ≡ true → are_well_formed_alternates alternates ≡ true →

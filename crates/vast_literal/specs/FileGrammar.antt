@@ -1,12 +1,12 @@
 -- The grammar of files, over that of expressions: which token lists spell which statements, declarations, members, modules and files.
 use Rattle.std.specs.Prelude.{◌≡◌, ℕ, List, [], ◌∷◌, ◌++◌, Bool, true, false, codes, Option, Some, None, IsTrue, if◌then◌else◌}
-use Rattle.vast_literal.specs.Tokens.{Less, LessEqual, Plus, Key, IfKey, ElseKey, CaseKey, CasezKey, CasexKey, EndCaseKey, DefaultKey, UniqueKey, BeginKey, EndKey, AssignKey, WireKey, RegKey, LogicKey, IntegerKey, IntKey, GenvarKey, SignedKey, UnsignedKey, ModuleKey, EndModuleKey, ParameterKey, LocalparamKey, PosedgeKey, NegedgeKey, OrKey, FunctionKey, AutomaticKey, EndFunctionKey, InputKey, OutputKey, InOutKey, ForKey}
-use Rattle.vast_literal.specs.Tokens.{OpenParen, CloseParen, OpenBracket, CloseBracket, Comma, Colon, Semicolon, Dot, Hash, DoubleColon, Assign, Token, Reserved, Word, MacroWord, Number, Quoted, Operator, Mark}
+use Rattle.vast_literal.specs.Tokens.{Less, LessEqual, Key, IfKey, ElseKey, CaseKey, CasezKey, CasexKey, EndCaseKey, DefaultKey, UniqueKey, BeginKey, EndKey, AssignKey, WireKey, RegKey, LogicKey, IntegerKey, IntKey, GenvarKey, SignedKey, UnsignedKey, ModuleKey, EndModuleKey, ParameterKey, LocalparamKey, PosedgeKey, NegedgeKey, OrKey, FunctionKey, AutomaticKey, EndFunctionKey, InputKey, OutputKey, InOutKey}
+use Rattle.vast_literal.specs.Tokens.{OpenParen, CloseParen, OpenBracket, CloseBracket, Comma, Colon, Semicolon, Dot, Hash, DoubleColon, Assign, Token, Reserved, Word, MacroWord, Quoted, Operator, Mark}
 use Rattle.vast_literal.specs.Tree.{AlwaysWord}
-use Rattle.vast_literal.specs.Shape.{always_words, has_events, import_words}
+use Rattle.vast_literal.specs.Shape.{always_words, has_events, import_words, loop_words}
 use Rattle.vast_literal.specs.Lexemes.{Lexes}
 use Rattle.vast_literal.specs.NormalExpr.{NormalExpr, Name, Binary, NormalExprs}
-use Rattle.vast_literal.specs.NormalFile.{NormalStatement, BlockingStatement, NonblockingStatement, AssignStatement, TaskStatement, ChoiceStatement, CaseStatement, NormalStatements, Done, Then, Arms, Only, Otherwise, Or, Labels, NoLabels, Label, Group, One, Range, NormalDeclaration, Event, EdgeEvent, NameEvent, NormalConnection, NormalMember, DeclarationPart, AssignPart, ParameterPart, MacroPart, ImportPart, InstancePart, AlwaysPart, ConditionalPart, FunctionPart, LoopPart, NormalMembers, NoParts, MoreParts, NormalParameter, NormalPort, NormalItem, ModulePart, IncludePart, FileImportPart, NormalFile}
+use Rattle.vast_literal.specs.NormalFile.{NormalStatement, BlockingStatement, NonblockingStatement, AssignStatement, TaskStatement, ChoiceStatement, CaseStatement, ForStatement, NormalStatements, Done, Then, Arms, Only, Otherwise, Or, Labels, NoLabels, Label, Group, One, Range, NormalDeclaration, Event, EdgeEvent, NameEvent, NormalConnection, NormalMember, DeclarationPart, AssignPart, ParameterPart, MacroPart, ImportPart, InstancePart, AlwaysPart, ConditionalPart, FunctionPart, LoopPart, NormalMembers, NoParts, MoreParts, NormalParameter, NormalPort, NormalItem, ModulePart, IncludePart, FileImportPart, NormalFile}
 use Rattle.vast_literal.specs.Grammar.{Spells, SpellsList}
 
 -- Lists.
@@ -56,6 +56,9 @@ mutual
     task : {ts : List Token} {x : NormalExpr} → Spells 13 ts x → IsStatement (ts ++ (Mark Semicolon ∷ [])) (TaskStatement x)
     choice : {ts : List Token} {a : Arms} → IsChoice ts a → IsStatement ts (ChoiceStatement a)
     cases : {ts : List Token} {s : NormalStatement} (k : Key) {bare_arms : Bool} → IsCase k bare_arms → IsCases k bare_arms ts s → IsStatement ts s
+    -- for ( int i = X ; i < e ; i = i + 1 ) begin ..
+    counted : {xs cs bs : List Token} {x e : NormalExpr} {b : NormalStatements} (i : List ℕ) → Spells 0 xs x → Spells 0 cs (Binary Less (Name i) e) → IsStatements bs b →
+        IsStatement (loop_words IntKey i xs cs bs) (ForStatement i x e b)
 
   -- unique case ( X ) arms endcase
   pub data IsCases : Key → Bool → List Token → NormalStatement → Type 0 where
@@ -216,7 +219,7 @@ mutual
         IsMember (Reserved FunctionKey ∷ (Reserved AutomaticKey ∷ (ds ++ (Mark OpenParen ∷ (is ++ (Mark CloseParen ∷ (Mark Semicolon ∷ (ls ++ (bs ++ (Reserved EndFunctionKey ∷ [])))))))))) (FunctionPart d i l b)
     -- for ( genvar i = X ; i < e ; i = i + 1 ) begin : label members end
     loop : {xs cs ls ms : List Token} {x e : NormalExpr} {l : Option (List ℕ)} {m : NormalMembers} (i : List ℕ) → Spells 0 xs x → Spells 0 cs (Binary Less (Name i) e) → IsLabel ls l → IsMembers EndKey ms m →
-        IsMember (Reserved ForKey ∷ (Mark OpenParen ∷ (Reserved GenvarKey ∷ (Word i ∷ (Mark Assign ∷ (xs ++ (Mark Semicolon ∷ (cs ++ (Mark Semicolon ∷ (Word i ∷ (Mark Assign ∷ (Word i ∷ (Operator Plus ∷ (Number (codes "1") ∷ (Mark CloseParen ∷ (Reserved BeginKey ∷ (ls ++ ms))))))))))))))))) (LoopPart i x e l m)
+        IsMember (loop_words GenvarKey i xs cs (ls ++ ms)) (LoopPart i x e l m)
 
   -- Members, and the word after them.
   pub data IsMembers : Key → List Token → NormalMembers → Type 0 where

@@ -11,6 +11,7 @@ mutual
     TaskStatement : (call : NormalExpr) → NormalStatement
     ChoiceStatement : Arms → NormalStatement
     CaseStatement : (unique : Bool) (word : Key) (selector : NormalExpr) → Labels → NormalStatement
+    ForStatement : (index : List ℕ) (start end : NormalExpr) (body : NormalStatements) → NormalStatement
 
   pub data NormalStatements : Type 0 where
     Done : NormalStatements

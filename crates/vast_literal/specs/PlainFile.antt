@@ -2,7 +2,7 @@
 use Rattle.std.specs.Prelude.{ℕ, List, [], ◌∷◌, Bool, true, false, not, ◌&&◌, ◌||◌, eqb, Option, Some, None, if◌then◌else◌}
 use Rattle.vast_literal.specs.Tree.{ExprTree, NameTree, IndexTree, SliceTree, PartSelectTree, MemberOfTree, ConcatTree, PosEdgeTree, NegEdgeTree, MacroTree, CallTree, TypeTree}
 use Rattle.vast_literal.specs.Tree.{MaybeExpr, NoExpr, SomeExpr, Exprs, NoExprs, MoreExprs, MaybeType, Untyped, Typed, Declaration}
-use Rattle.vast_literal.specs.Tree.{StatementTree, AssignTree, TaskTree, InlineTree, ConditionalTree, CaseTree, Statements, NoStatements, MoreStatements, Alternates, NoElse, ElseIf, Else, CaseArms, NoCaseArms, CaseArm}
+use Rattle.vast_literal.specs.Tree.{StatementTree, AssignTree, TaskTree, InlineTree, ConditionalTree, CaseTree, ForTree, Statements, NoStatements, MoreStatements, Alternates, NoElse, ElseIf, Else, CaseArms, NoCaseArms, CaseArm}
 use Rattle.vast_literal.specs.Tree.{AlwaysWord, ParameterName, PlainParameter, IntParameter, DefinedParameter, Connection, InstanceTree, FunctionTree}
 use Rattle.vast_literal.specs.Tree.{MemberTree, DeclarationMember, AssignMember, ParameterMember, InlineMember, ImportMember, MacroMember, InstanceMember, AlwaysMember, ConditionalMember, FunctionMember, LoopMember, Members, NoMembers, MoreMembers}
 use Rattle.vast_literal.specs.Tree.{PortTree, ParameterPortTree, ModuleTree, FileItemTree, ModuleItem, IncludeItem, ImportItem, FileTree}
@@ -39,6 +39,7 @@ abbrev mutual
   is_plain_statement (InlineTree text) = false
   is_plain_statement (ConditionalTree condition consequent alternates) = is_plain condition && (are_plain_statements consequent && are_plain_alternates alternates)
   is_plain_statement (CaseTree unique word selector arms) = is_plain selector && are_plain_arms arms
+  is_plain_statement (ForTree index start end body) = is_plain_name index && ((is_plain start && is_plain end) && are_plain_statements body)
   is_plain_statement _ = true
 
   pub are_plain_statements : Statements → Bool
@@ -129,7 +130,7 @@ are_plain_items (IncludeItem path ∷ items) = every is_path_byte path && are_pl
 are_plain_items (ImportItem package_name ∷ items) = is_plain_name package_name && are_plain_items items
 are_plain_items (_ ∷ items) = are_plain_items items
 
--- The names of the file's modules, instances, ports, connections, parameters, labels, packages, types and macros are plain, no
+-- The names of the file's modules, instances, ports, connections, parameters, labels, loops, packages, types and macros are plain, no
 -- inline text stands in it, edges stand only in the lists of events, left sides are names, selects, members and concatenations, and what
 -- stands as a statement by itself is a call. What isn't printed is not asked: the types of names, and events that aren't listed.
 abbrev pub is_plain_file : FileTree → Bool

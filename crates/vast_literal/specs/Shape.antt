@@ -1,7 +1,7 @@
 -- What the shape of a tree decides: where parentheses stand, which selects are left out, which dimensions an
--- array has, with which kind something is declared, which arms and calls stand bare, how an always block begins, and what an import is. The layout, the tokens of its text and the normal form go by these.
-use Rattle.std.specs.Prelude.{ℕ, ℤ, pos, Bool, true, false, cond, ◌&&◌, ◌||◌, ◌==◌, List, [], ◌∷◌, Option, Some, None, nat_lt, nat_le}
-use Rattle.vast_literal.specs.Tokens.{Op, LogicOr, LogicAnd, BitOr, BitXor, BitAnd, NotEqual, CaseNotEqual, Equal, CaseEqual, GreaterEqual, Greater, LessEqual, Less, ShiftLeft, ShiftRightSigned, ShiftRight, Plus, Minus, Times, Divide, Modulo, Power, OpenParen, Semicolon, At, DoubleColon, AlwaysCombKey, AlwaysFFKey, AlwaysKey, AlwaysLatchKey, InitialKey, ImportKey, Token, Reserved, Word, Operator, Mark}
+-- array has, with which kind something is declared, which arms and calls stand bare, how an always block and a loop begin, and what an import is. The layout, the tokens of its text and the normal form go by these.
+use Rattle.std.specs.Prelude.{ℕ, ℤ, pos, Bool, true, false, cond, ◌&&◌, ◌||◌, ◌==◌, List, [], ◌∷◌, ◌++◌, codes, Option, Some, None, nat_lt, nat_le}
+use Rattle.vast_literal.specs.Tokens.{Op, LogicOr, LogicAnd, BitOr, BitXor, BitAnd, NotEqual, CaseNotEqual, Equal, CaseEqual, GreaterEqual, Greater, LessEqual, Less, ShiftLeft, ShiftRightSigned, ShiftRight, Plus, Minus, Times, Divide, Modulo, Power, OpenParen, CloseParen, Semicolon, At, DoubleColon, Assign, Key, BeginKey, ForKey, AlwaysCombKey, AlwaysFFKey, AlwaysKey, AlwaysLatchKey, InitialKey, ImportKey, Token, Reserved, Word, Number, Operator, Mark}
 use Rattle.vast_literal.specs.Tree.{UnaryOp, NegateOp, BitwiseNotOp, LogicalNotOp}
 use Rattle.vast_literal.specs.Tree.{BinaryOp, AddOp, SubOp, MulOp, DivOp, ModOp, PowerOp, BitwiseAndOp, BitwiseOrOp, BitwiseXorOp, ShllOp, ShraOp, ShrlOp, NeOp, CaseNeOp, EqOp, CaseEqOp, GeOp, GtOp, LeOp, LtOp, LogicalAndOp, LogicalOrOp, NeXOp, EqXOp}
 use Rattle.vast_literal.specs.Tree.{ExprTree, NameTree, LiteralTree, UnaryTree, BinaryTree, TernaryTree, WidthCastTree, CallTree}
@@ -226,3 +226,11 @@ has_events word = (always_row word).1
 -- import P :: * ;
 abbrev pub import_words : (package_name : List ℕ) → List Token
 import_words package_name = Reserved ImportKey ∷ Word package_name ∷ Mark DoubleColon ∷ Operator Times ∷ Mark Semicolon ∷ []
+
+-- i = X ; i < e ; i = i + 1 ), the condition among tokens
+abbrev pub counting : (i : List ℕ) (start condition behind : List Token) → List Token
+counting i xs cs ts = Word i ∷ (Mark Assign ∷ (xs ++ (Mark Semicolon ∷ (cs ++ (Mark Semicolon ∷ (Word i ∷ (Mark Assign ∷ (Word i ∷ (Operator Plus ∷ (Number (codes "1") ∷ (Mark CloseParen ∷ ts)))))))))))
+
+-- for ( W i = X ; i < e ; i = i + 1 ) begin ..
+abbrev pub loop_words : (word : Key) (i : List ℕ) (start condition behind : List Token) → List Token
+loop_words word i xs cs ts = Reserved ForKey ∷ (Mark OpenParen ∷ (Reserved word ∷ counting i xs cs (Reserved BeginKey ∷ ts)))

@@ -85,6 +85,8 @@ mutual
     BlankTree : StatementTree
     ConditionalTree : (condition : ExprTree) (consequent : Statements) (alternates : Alternates) → StatementTree
     CaseTree : (unique : Bool) (word : CaseWord) (selector : ExprTree) (arms : CaseArms) → StatementTree
+    -- A loop: its index runs from a start on while it is below an end.
+    ForTree : (index : List ℕ) (start end : ExprTree) (body : Statements) → StatementTree
 
   pub data Statements : Type 0 where
     NoStatements : Statements

@@ -2,7 +2,7 @@
 use Rattle.std.specs.Prelude.{List, [], ◌∷◌, Bool, true, false, ◌&&◌}
 use Rattle.vast_literal.specs.Tree.{ExprTree, NameTree, PosEdgeTree, NegEdgeTree, MacroTree, Kind, WireKind, RegKind, LogicKind}
 use Rattle.vast_literal.specs.Tree.{MaybeExpr, NoExpr, SomeExpr, Exprs, NoExprs, MoreExprs, MaybeType, Untyped, Typed, Declaration}
-use Rattle.vast_literal.specs.Tree.{StatementTree, AssignTree, TaskTree, ConditionalTree, CaseTree, Statements, NoStatements, MoreStatements, Alternates, NoElse, ElseIf, Else, CaseArms, NoCaseArms, CaseArm}
+use Rattle.vast_literal.specs.Tree.{StatementTree, AssignTree, TaskTree, ConditionalTree, CaseTree, ForTree, Statements, NoStatements, MoreStatements, Alternates, NoElse, ElseIf, Else, CaseArms, NoCaseArms, CaseArm}
 use Rattle.vast_literal.specs.Tree.{ParameterName, PlainParameter, IntParameter, DefinedParameter, Connection, FunctionTree}
 use Rattle.vast_literal.specs.Tree.{MemberTree, DeclarationMember, AssignMember, ParameterMember, MacroMember, InstanceMember, AlwaysMember, ConditionalMember, FunctionMember, LoopMember, Members, NoMembers, MoreMembers}
 use Rattle.vast_literal.specs.Tree.{PortTree, ParameterPortTree, ModuleTree, FileItemTree, ModuleItem, IncludeItem, ImportItem, CommentItem, BlankItem, FileTree}
@@ -34,6 +34,7 @@ abbrev mutual
   is_well_formed_statement (TaskTree call) = is_well_formed call
   is_well_formed_statement (ConditionalTree condition consequent alternates) = is_well_formed condition && (are_well_formed_statements consequent && are_well_formed_alternates alternates)
   is_well_formed_statement (CaseTree unique word selector arms) = is_well_formed selector && are_well_formed_arms arms
+  is_well_formed_statement (ForTree index start end body) = (is_well_formed start && is_well_formed end) && are_well_formed_statements body
   is_well_formed_statement _ = true
 
   pub are_well_formed_statements : Statements → Bool

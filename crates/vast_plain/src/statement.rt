@@ -1,6 +1,7 @@
 //! Blocks and statements.
 
 ghost use Rattle.std.specs.Prelude.{◌&&◌, IfSome};
+ghost use Rattle.vast_literal.specs.Tree.{ForTree};
 ghost use Rattle.vast_literal.specs.PlainFile.{is_call, is_plain_maybe, is_plain_assignment, is_plain_statement, are_plain_statements};
 ghost use Rattle.vast_core.specs.Bench.{OwnsBlock, OwnsCase, OwnsConditional, OwnsExpr, tree_of, maybe_tree_of};
 ghost use Rattle.vast_core.specs.Internal.Entries.{OwnsEntry};
@@ -10,9 +11,11 @@ ghost use Rattle.vast_plain.specs.Internal.Values.{Answers};
 ghost use Rattle.vast_literal.specs.Plain.{is_plain};
 
 use crate::expression::{is_call, is_left_side, is_plain_maybe, is_plain_value};
+use crate::names::is_plain_name;
 use std::alloc::AllocError;
 use vast_core::{
-    Assignment, Ast, CaseArm, CaseStatement, Conditional, Expr, Statement, VastStatementBlock,
+    Assignment, Ast, CaseArm, CaseStatement, Conditional, Expr, ForParts, Statement,
+    VastStatementBlock,
 };
 
 /// Whether the left side is one of those that the grammar has, and both sides are plain.
@@ -68,6 +71,7 @@ fn is_plain_statement(ast: &Ast, statement: &Statement) -> Result<bool, AllocErr
         Statement::Task(call) => is_plain_task(ast, *call),
         Statement::Conditional(c) => is_plain_conditional(ast, *c),
         Statement::Case(c) => is_plain_case(ast, *c),
+        Statement::For(l) => is_plain_for(ast, l.parts()),
         Statement::BlankLine => Ok(true),
         Statement::Comment(_) => Ok(true),
         Statement::Inline(_) => Ok(false),
@@ -128,6 +132,25 @@ fn is_plain_case(ast: &Ast, c: CaseStatement) -> Result<bool, AllocError>
         }
     }
     Ok(true)
+}
+
+/// Whether the index, the bounds and the block of a loop are plain.
+#[cycle(statements)]
+fn is_plain_for(ast: &Ast, parts: &ForParts) -> Result<bool, AllocError>
+    requires start { OwnsExpr (bench ast.now) parts.now.start }
+    requires end { OwnsExpr (bench ast.now) parts.now.end }
+    requires block { OwnsBlock (bench ast.now) parts.now.block }
+    ensures { Answers
+        (is_plain_statement (ForTree parts.now.index (tree_of (bench ast.now) parts.now.start)
+        (tree_of (bench ast.now) parts.now.end) (block_tree (bench ast.now) parts.now.block)))
+        result }
+{
+    Ok(
+        is_plain_name(parts.index.as_str())
+            && is_plain_value(ast, parts.start)?
+            && is_plain_value(ast, parts.end)?
+            && is_plain_block(ast, parts.block)?,
+    )
 }
 
 /// Whether the label and the block of an arm are plain.

@@ -26,7 +26,7 @@ use Rattle.vast_print.specs.Internal.Statements.{arm_body_page}
 use Rattle.vast_print.specs.Members.{member_page}
 use Rattle.vast_print.proofs.Lines.{word-nothing, word-word}
 use Rattle.vast_print.proofs.OutputLaws.{inline-word, indented-blank, indented-written, inline-line, inline-then, inline-above-none}
-use Rattle.vast_print.proofs.StatementLaws.{indented-assign, inline-assign, indented-task, indented-arm, indented-comment, indented-blank-statement, indented-inline, indented-conditional, indented-case, inline-no-else, inline-else, inline-block-none, inline-block, inline-arm-block, inline-else-if-arm, indented-arms, indented-arms-none}
+use Rattle.vast_print.proofs.StatementLaws.{indented-for, inline-counting, indented-assign, inline-assign, indented-task, indented-arm, indented-comment, indented-blank-statement, indented-inline, indented-conditional, indented-case, inline-no-else, inline-else, inline-block-none, inline-block, inline-arm-block, inline-else-if-arm, indented-arms, indented-arms-none}
 use Rattle.vast_print.proofs.ListLaws.{indented-no-statements, indented-statements, indented-no-locals, indented-locals}
 use Rattle.vast_print.proofs.SeparatedLaws.{inline-no-inputs, inline-inputs, inline-no-events, inline-events}
 use Rattle.vast_print.proofs.MemberLaws.{indented-always, inline-always-events, inline-always-alone, indented-declaration, indented-comment-member, indented-blank-member, indented-import-member, indented-inline-member, indented-macro, indented-local, indented-function, indented-function-member, indented-body-block, indented-body-casez, indented-loop, inline-loop, inline-label-text, inline-no-label, inline-input-text}
@@ -211,7 +211,10 @@ pub ruleset functions = (indented-function-member, indented-function, indented-l
 
 -- loops
 
-pub ruleset headers = (inline-loop, inline-label-text, inline-no-label, stops)
+-- of all loops, and of those of blocks
+pub ruleset headers = (inline-loop, inline-counting, inline-label-text, inline-no-label, stops)
+
+pub ruleset counted = (indented-for, stops)
 
 pub ruleset loops = (indented-loop, listed)
 

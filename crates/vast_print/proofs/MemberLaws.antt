@@ -2,17 +2,16 @@
 use Rattle.std.proofs.Common.{◌≡◌, ◌<◌, ℕ, ◌+◌, Bool, true, false, List, [], ◌∷◌, length, map, refl, ◌∙◌, codes, arith, Option, Some, None}
 use Rattle.vast_literal.specs.Tree.{ExprTree, NoExpr, SomeExpr, Exprs, Declaration, Statements, ParameterName, PlainParameter, IntParameter, Connection, InstanceTree, FunctionTree, MemberTree, DeclarationMember, ParameterMember, CommentMember, BlankMember, ImportMember, InlineMember, MacroMember, InstanceMember, AlwaysMember, FunctionMember, LoopMember, Members, NoMembers, MoreMembers}
 use Rattle.vast_literal.specs.declared.kind.VastFileType.{VastFileType as Dialect}
-use Rattle.vast_literal.specs.declared.operator.BinaryOperator.TheVariants.{Lt as LtOp}
 use Rattle.vast_literal.specs.declared.kind.AlwaysKind.{AlwaysKind as AlwaysWord}
 use Rattle.vast_literal.specs.declared.kind.AlwaysKind.TheVariants.{AlwaysFF as AlwaysFFWord}
-use Rattle.vast_literal.specs.Shape.{result_kind, right_child_wraps, is_one_casez, has_events}
-use Rattle.vast_print.specs.Internal.Words.{endfunction_word, function_opening, for_opening, step_word}
-use Rattle.vast_print.specs.Printed.{plain_text, wrapped}
+use Rattle.vast_literal.specs.Shape.{result_kind, is_one_casez, has_events}
+use Rattle.vast_print.specs.Internal.Words.{endfunction_word, function_opening, for_opening}
+use Rattle.vast_print.specs.Printed.{plain_text}
 use Rattle.vast_print.specs.Page.{written, commented}
 use Rattle.vast_print.specs.Output.{Output, word, next, indented, inline}
 use Rattle.vast_print.specs.Text.{expr_text}
 use Rattle.vast_print.specs.Declaration.{declaration_text, port_declaration_text}
-use Rattle.vast_print.specs.Statements.{statements_page, block_page}
+use Rattle.vast_print.specs.Statements.{counting_text, statements_page, block_page}
 use Rattle.vast_print.specs.Members.{entries_page, parameter_word, parameter_text, semicolon_text, connection_text, connections_page, instance_head_page, instance_page, events_text, always_opening, always_text, input_text, inputs_text, local_page, locals_page, function_body_page, function_page, loop_label_text, loop_text, import_text, member_page, members_page}
 use Rattle.vast_print.proofs.Lines.{word-word, unbroken}
 use Rattle.vast_print.proofs.OutputLaws.{indented-line, indented-none, indented-blank, indented-above, indented-beside, indented-inner, indented-written, inline-then, inline-empty, inline-word}
@@ -192,10 +191,8 @@ unfolding member_page members_page
 indented-loop d k dialect i start end label ms = simp (indented-above, indented-written, indented-inner, indented-line)
 
 pub inline-loop : (d : ℕ) (k : Output) (i : List ℕ) (start end : ExprTree) (label : Option (List ℕ)) →
-    inline d k (written (loop_text i start end label))
-    ≡ inline d (word (inline d (word (inline d (word (inline d (word (inline d (word (inline d (word (inline d (word k for_opening) (written (plain_text i))) (codes " = ")) (written (expr_text start))) (codes "; "))
-    (written (plain_text i))) (codes " < ")) (written (wrapped (right_child_wraps LtOp end) (expr_text end)))) (codes "; ")) (written (plain_text i))) (codes " = ")) (written (plain_text i))) step_word) (written (loop_label_text label))
-unfolding loop_text for_opening step_word
+    inline d k (written (loop_text i start end label)) ≡ inline d (word (inline d (word k for_opening) (written (counting_text i start end))) (codes "begin")) (written (loop_label_text label))
+unfolding loop_text for_opening
 inline-loop d k i start end label = simp (inline-then, inline-word)
 
 pub inline-label-text : (d : ℕ) (k : Output) (label : List ℕ) → inline d k (written (loop_label_text (Some label))) ≡ inline d (word k (codes " : ")) (written (plain_text label))

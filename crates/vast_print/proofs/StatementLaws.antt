@@ -1,16 +1,18 @@
 -- Laws of writing statements, one for each case.
 use Rattle.std.proofs.Common.{◌≡◌, ℕ, ◌+◌, Bool, true, false, List, [], refl, sym, ◌∙◌, codes}
-use Rattle.vast_literal.specs.Tree.{ExprTree, MaybeExpr, StatementTree, AssignTree, TaskTree, CommentTree, BlankTree, InlineTree, ConditionalTree, CaseTree, Statements, NoStatements, MoreStatements, Alternates, NoElse, ElseIf, Else, CaseArms, NoCaseArms, CaseArm}
+use Rattle.vast_literal.specs.Tree.{ExprTree, MaybeExpr, StatementTree, AssignTree, TaskTree, CommentTree, BlankTree, InlineTree, ConditionalTree, CaseTree, ForTree, Statements, NoStatements, MoreStatements, Alternates, NoElse, ElseIf, Else, CaseArms, NoCaseArms, CaseArm}
 use Rattle.vast_literal.specs.declared.kind.AssignmentForm.{AssignmentForm as AssignForm}
 use Rattle.vast_literal.specs.declared.kind.AssignmentForm.TheVariants.{Blocking, Nonblocking, Continuous}
 use Rattle.vast_literal.specs.declared.kind.CaseKind.{CaseKind as CaseWord}
 use Rattle.vast_literal.specs.declared.kind.CaseKind.TheVariants.{Case as CaseExact, CaseZ, CaseX}
-use Rattle.vast_literal.specs.Shape.{is_bare_arm, name_alone}
-use Rattle.vast_print.specs.Printed.{plain_text, ◌⊕◌}
+use Rattle.vast_literal.specs.declared.operator.BinaryOperator.TheVariants.{Lt as LtOp}
+use Rattle.vast_literal.specs.Shape.{is_bare_arm, name_alone, right_child_wraps}
+use Rattle.vast_print.specs.Printed.{plain_text, ◌⊕◌, wrapped}
 use Rattle.vast_print.specs.Page.{line, inner, above, written, commented}
 use Rattle.vast_print.specs.Output.{Output, word, next, indented, inline}
 use Rattle.vast_print.specs.Text.{expr_text}
-use Rattle.vast_print.specs.Statements.{assign_opening, assignment_operator, called_text, case_word, unique_word, label_text, begin_end, statement_page, statements_page, block_page, alternates_page, arms_page}
+use Rattle.vast_print.specs.Statements.{assign_opening, assignment_operator, called_text, case_word, unique_word, label_text, counting_text, begin_end, statement_page, statements_page, block_page, alternates_page, arms_page}
+use Rattle.vast_print.specs.Internal.Words.{int_opening, step_word}
 use Rattle.vast_print.specs.Internal.Statements.{arm_body_page, arm_page}
 use Rattle.vast_print.proofs.OutputLaws.{indented-line, inline-line, indented-none, inline-none, indented-blank, indented-above, inline-above, inline-beside, indented-beside, indented-line-above, indented-inner, indented-written, inline-then, inline-word}
 
@@ -125,3 +127,17 @@ indented-arm d k w label b = indented-beside d k (label_text label ⊕ plain_tex
 pub inline-arm-block : (d : ℕ) (k : Output) (w : CaseWord) (b : Statements) → is_bare_arm w b ≡ false → inline d k (arm_body_page w b) ≡ inline d k (block_page b)
 unfolding arm_body_page
 inline-arm-block d k w b h = rw h refl
+
+-- loops
+
+pub indented-for : (d : ℕ) (k : Output) (i : List ℕ) (start end : ExprTree) (b : Statements) →
+    indented d k (statement_page (ForTree i start end b)) ≡ inline d (inline d (word (next d k) int_opening) (written (counting_text i start end))) (block_page b)
+unfolding statement_page block_page int_opening
+indented-for d k i start end b = indented-beside d k _ _ ∙ simp (inline-then, inline-word)
+
+pub inline-counting : (d : ℕ) (k : Output) (i : List ℕ) (start end : ExprTree) →
+    inline d k (written (counting_text i start end))
+    ≡ word (inline d (word (inline d (word (inline d (word (inline d (word (inline d (word (inline d k (written (plain_text i))) (codes " = ")) (written (expr_text start))) (codes "; "))
+    (written (plain_text i))) (codes " < ")) (written (wrapped (right_child_wraps LtOp end) (expr_text end)))) (codes "; ")) (written (plain_text i))) (codes " = ")) (written (plain_text i))) step_word
+unfolding counting_text step_word
+inline-counting d k i start end = simp (inline-then, inline-word)

@@ -4,7 +4,7 @@ use Rattle.vast_literal.specs.Tokens.{Token, key_text, Reserved, Mark, Operator}
 use Rattle.vast_literal.specs.declared.token.Sign.TheVariants.{LessEqual}
 use Rattle.vast_literal.specs.declared.token.Mark.TheVariants.{OpenParen, Colon}
 use Rattle.vast_literal.specs.declared.token.Key.TheVariants.{If as IfKey, Case as CaseKey, Casez as CasezKey, Casex as CasexKey, EndCase as EndCaseKey, Default as DefaultKey, Unique as UniqueKey, Assign as AssignKey}
-use Rattle.vast_literal.specs.Tree.{ExprTree, MacroTree, CallTree, NoExprs, MoreExprs, MaybeExpr, NoExpr, SomeExpr, StatementTree, AssignTree, TaskTree, CommentTree, BlankTree, InlineTree, ConditionalTree, CaseTree, Statements, NoStatements, MoreStatements, Alternates, NoElse, ElseIf, Else, CaseArms, NoCaseArms, CaseArm}
+use Rattle.vast_literal.specs.Tree.{ExprTree, MacroTree, CallTree, NoExprs, MoreExprs, MaybeExpr, NoExpr, SomeExpr, StatementTree, AssignTree, TaskTree, CommentTree, BlankTree, InlineTree, ConditionalTree, CaseTree, ForTree, Statements, NoStatements, MoreStatements, Alternates, NoElse, ElseIf, Else, CaseArms, NoCaseArms, CaseArm}
 use Rattle.vast_literal.specs.declared.kind.AssignmentForm.{AssignmentForm as AssignForm}
 use Rattle.vast_literal.specs.declared.kind.AssignmentForm.TheVariants.{Blocking, Nonblocking, Continuous}
 use Rattle.vast_literal.specs.declared.kind.CaseKind.{CaseKind as CaseWord}
@@ -25,6 +25,7 @@ use Rattle.vast_print.specs.Printed.{Printed}
 use Rattle.vast_print.specs.Page.{Page, no_lines, above}
 use Rattle.vast_print.specs.Statements.{assign_text, called_text, case_word, unique_word, label_text, statement_page, statements_page, block_page, alternates_page, arms_page}
 use Rattle.vast_print.proofs.ExprReads.{expr_reads}
+use Rattle.vast_print.proofs.LoopReads.{int_free, counting_reads}
 use Rattle.vast_print.proofs.TextReads.{Prints, printed_assoc, leftward, stands, nothing, after, after_free, ended_by, closed, enclosing}
 use Rattle.vast_print.proofs.PageReads.{Whole, Open, Follows, page_regrouped, whole_above, whole_inner, whole_none, whole, whole_line, open_written, whole_written, open_free, open_follows, follows_none, follows_written, follows_line, whole_blank, whole_comment, equals, semicolon, close_space, label_colon, key_space, key_open, else_divides, else_if_divides, condition_divides, open_empty, open_block}
 use Rattle.vast_literal.proofs.ScanLaws.{and_left, and_right, by_test}
@@ -119,6 +120,9 @@ mutual
   statement_whole (CaseTree u word e arms) p w = page_regrouped
       (whole_above (whole_written (leftward _ _ _ (leftward _ _ _ (after (stands _ (unique_free u)) (after (stands _ (case_free word)) (closed (expr_reads e (search halves) (search halves)) close_paren))))))
       (whole_above (whole_inner (arms_whole word arms (search halves) (search halves))) (whole_line (key_reads EndCaseKey)))) (rw (arms_ended word arms) (simp append_assoc))
+  statement_whole (ForTree i s e b) p w =
+      whole (page_regrouped (open_free (after_free (stands _ int_free) (counting_reads i s e (search halves) (expr_reads s (search halves) (search halves)) (expr_reads e (search halves) (search halves))))
+      (block_open b (statements_whole b (search halves) (search halves)))) (simp append_assoc))
 
   pub statements_whole : (ss : Statements) → are_plain_statements ss ≡ true → are_well_formed_statements ss ≡ true → Whole (statements_page ss) (statements_tokens ss)
   statements_whole NoStatements p w = whole_none

@@ -68,6 +68,10 @@ pub parted : {p q : Printed} {w : List ℕ} {ts us vs : List Token} → Prints R
 unfolding ◌⊕◌ plain_text
 parted f g h = record { told = λ e. let (x, y) = first_none _ _ e in reads_sep (f.told x) g (h.told y) }
 
+-- the same of q that anything may follow
+pub parted_free : {p q : Printed} {w : List ℕ} {ts us vs : List Token} → Prints Reads p ts → Divides w us → Prints Free q vs → Prints Free (p ⊕ (plain_text w ⊕ q)) (ts ++ (us ++ vs))
+parted_free {p = p} {q = q} {w = w} {ts = ts} {us = us} {vs = vs} f g h = rw (← printed_assoc p (plain_text w) q, ← append_assoc ts us vs) (after_free (ended_by f g) h)
+
 -- p, and q between two words
 pub enclosing : {p q : Printed} {o c : List ℕ} {ts os us cs : List Token} → Prints Reads p ts → Divides o os → Prints Reads q us → Divides c cs → Prints Reads (p ⊕ (plain_text o ⊕ (q ⊕ plain_text c))) (ts ++ (os ++ (us ++ cs)))
 unfolding ◌⊕◌ plain_text
@@ -88,13 +92,6 @@ unfolding ◌⊕◌ plain_text
 rest_more {p} {q} {o} f g m = record {
   told = λ e. let (x, y) = first_none _ _ e in let r = m.told y in
       record { reads = rw append_assoc (free_reads f.free (reads_reads (g.told x) r.reads r.ends)); ends = λ rest h. rw (append_assoc, append_assoc) (f.stop (p.text ++ (q.text ++ rest))) };
-}
-
-pub rest_append : {p q : Printed} {ts us : List Token} → Prints Rest p ts → Prints Rest q us → Prints Rest (p ⊕ q) (ts ++ us)
-unfolding ◌⊕◌
-rest_append {q = q} f g = record {
-  told = λ e. let (x, y) = first_none _ _ e in let m = f.told x in let r = g.told y in
-      record { reads = reads_reads m.reads r.reads r.ends; ends = λ rest h. rw append_assoc (m.ends (q.text ++ rest) (r.ends rest h)) };
 }
 
 pub in_parentheses : {p : Printed} {ts : List Token} → Prints Reads p ts → Prints Rest (plain_text (codes "(") ⊕ p ⊕ plain_text (codes ")")) (Mark OpenParen ∷ (ts ++ (Mark CloseParen ∷ [])))

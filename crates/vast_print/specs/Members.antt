@@ -2,19 +2,18 @@
 use Rattle.std.specs.Prelude.{ℕ, Bool, true, false, List, [], ◌∷◌, Option, Some, None, codes, cond, map, if◌then◌else◌}
 use Rattle.vast_literal.specs.Tree.{ExprTree, MaybeExpr, NoExpr, SomeExpr, Exprs, NoExprs, MoreExprs, TypeTree, Declaration}
 use Rattle.vast_literal.specs.declared.kind.VastFileType.{VastFileType as Dialect}
-use Rattle.vast_literal.specs.declared.operator.BinaryOperator.TheVariants.{Lt as LtOp}
 use Rattle.vast_literal.specs.Tree.{ConditionalTree, Statements}
 use Rattle.vast_literal.specs.declared.kind.AssignmentForm.TheVariants.{Continuous}
 use Rattle.vast_literal.specs.Tree.{ParameterName, PlainParameter, IntParameter, DefinedParameter, Connection, InstanceTree, FunctionTree}
 use Rattle.vast_literal.specs.declared.kind.AlwaysKind.{AlwaysKind as AlwaysWord}
 use Rattle.vast_literal.specs.declared.kind.AlwaysKind.TheVariants.{AlwaysFF as AlwaysFFWord, AlwaysAt as AlwaysAtWord, AlwaysComb as AlwaysCombWord, AlwaysStar as AlwaysStarWord, AlwaysLatch as AlwaysLatchWord, Initial as InitialWord}
 use Rattle.vast_literal.specs.Tree.{MemberTree, DeclarationMember, AssignMember, ParameterMember, CommentMember, BlankMember, ImportMember, InlineMember, MacroMember, InstanceMember, AlwaysMember, ConditionalMember, FunctionMember, LoopMember, Members, NoMembers, MoreMembers}
-use Rattle.vast_literal.specs.Shape.{result_kind, right_child_wraps, is_one_casez, has_events}
-use Rattle.vast_print.specs.Printed.{Printed, plain_text, ◌⊕◌, wrapped}
+use Rattle.vast_literal.specs.Shape.{result_kind, is_one_casez, has_events}
+use Rattle.vast_print.specs.Printed.{Printed, plain_text, ◌⊕◌}
 use Rattle.vast_print.specs.Text.{expr_text}
 use Rattle.vast_print.specs.Declaration.{declaration_text, declared_text, port_declaration_text}
 use Rattle.vast_print.specs.Page.{Page, no_lines, line, inner, lead, above, beside, written, commented}
-use Rattle.vast_print.specs.Statements.{assign_text, statement_page, statements_page, block_page}
+use Rattle.vast_print.specs.Statements.{assign_text, counting_text, statement_page, statements_page, block_page}
 
 -- the entries of a list, each but the last with a comma; what an entry's text breaks into stands at the list's own depth
 unfoldable pub entries_page : List Printed → Page
@@ -114,13 +113,8 @@ abbrev pub loop_label_text : Option (List ℕ) → Printed
 loop_label_text None = plain_text []
 loop_label_text (Some label) = plain_text (codes " : ") ⊕ plain_text label
 
--- the end stands as the right child of the comparison
 unfoldable pub loop_text : (genvar : List ℕ) (start end : ExprTree) → Option (List ℕ) → Printed
-loop_text i start end label =
-    plain_text (codes "for (genvar ") ⊕ plain_text i ⊕ plain_text (codes " = ") ⊕ expr_text start
-    ⊕ plain_text (codes "; ") ⊕ plain_text i ⊕ plain_text (codes " < ") ⊕ wrapped (right_child_wraps LtOp end) (expr_text end)
-    ⊕ plain_text (codes "; ") ⊕ plain_text i ⊕ plain_text (codes " = ") ⊕ plain_text i ⊕ plain_text (codes " + 1) begin")
-    ⊕ loop_label_text label
+loop_text i start end label = plain_text (codes "for (genvar ") ⊕ counting_text i start end ⊕ plain_text (codes "begin") ⊕ loop_label_text label
 
 -- import P::*;
 unfoldable pub import_text : (package_name : List ℕ) → Printed

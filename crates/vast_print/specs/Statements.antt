@@ -5,9 +5,10 @@ use Rattle.vast_literal.specs.declared.kind.AssignmentForm.{AssignmentForm as As
 use Rattle.vast_literal.specs.declared.kind.AssignmentForm.TheVariants.{Nonblocking, Continuous}
 use Rattle.vast_literal.specs.declared.kind.CaseKind.{CaseKind as CaseWord}
 use Rattle.vast_literal.specs.declared.kind.CaseKind.TheVariants.{Case as CaseExact, CaseZ, CaseX}
-use Rattle.vast_literal.specs.Tree.{StatementTree, AssignTree, TaskTree, CommentTree, BlankTree, InlineTree, ConditionalTree, CaseTree, Statements, NoStatements, MoreStatements, Alternates, NoElse, ElseIf, Else, CaseArms, NoCaseArms, CaseArm}
-use Rattle.vast_literal.specs.Shape.{is_bare_arm, name_alone}
-use Rattle.vast_print.specs.Printed.{Printed, plain_text, ◌⊕◌}
+use Rattle.vast_literal.specs.declared.operator.BinaryOperator.TheVariants.{Lt as LtOp}
+use Rattle.vast_literal.specs.Tree.{StatementTree, AssignTree, TaskTree, CommentTree, BlankTree, InlineTree, ConditionalTree, CaseTree, ForTree, Statements, NoStatements, MoreStatements, Alternates, NoElse, ElseIf, Else, CaseArms, NoCaseArms, CaseArm}
+use Rattle.vast_literal.specs.Shape.{is_bare_arm, name_alone, right_child_wraps}
+use Rattle.vast_print.specs.Printed.{Printed, plain_text, ◌⊕◌, wrapped}
 use Rattle.vast_print.specs.Text.{expr_text}
 use Rattle.vast_print.specs.Page.{Page, no_lines, line, inner, above, beside, written, commented}
 
@@ -42,6 +43,13 @@ called_text (Some name) call = plain_text name
 abbrev pub task_text : ExprTree → Printed
 task_text call = called_text (name_alone call) call ⊕ plain_text (codes ";")
 
+-- what a loop's variable starts from, and how far it runs by one; the end stands as the right child of the comparison
+unfoldable pub counting_text : (i : List ℕ) (start end : ExprTree) → Printed
+counting_text i start end =
+    plain_text i ⊕ plain_text (codes " = ") ⊕ expr_text start
+    ⊕ plain_text (codes "; ") ⊕ plain_text i ⊕ plain_text (codes " < ") ⊕ wrapped (right_child_wraps LtOp end) (expr_text end)
+    ⊕ plain_text (codes "; ") ⊕ plain_text i ⊕ plain_text (codes " = ") ⊕ plain_text i ⊕ plain_text (codes " + 1) ")
+
 -- `begin` and `end` round the lines, which stand deeper
 unfoldable pub begin_end : Page → Page
 begin_end p = above (line (codes "begin")) (above (inner p) (line (codes "end")))
@@ -58,6 +66,7 @@ unfoldable mutual
   statement_page (CaseTree unique word e arms) =
       above (written (plain_text (unique_word unique) ⊕ plain_text (case_word word) ⊕ expr_text e ⊕ plain_text (codes ")")))
       (above (inner (arms_page word arms)) (line (codes "endcase")))
+  statement_page (ForTree i start end b) = beside (written (plain_text (codes "for (int ") ⊕ counting_text i start end)) (block_page b)
 
   pub statements_page : Statements → Page
   statements_page NoStatements = no_lines

@@ -5,7 +5,7 @@ use Rattle.vast_literal.specs.declared.kind.VastFileType.TheVariants.{Verilog as
 use Rattle.vast_literal.specs.declared.operator.BinaryOperator.TheVariants.{LogicalOr as LogicalOrOp}
 use Rattle.vast_literal.specs.Tree.{TypeTree, ScalarTree, VectorTree, PackedTree, UnpackedTree}
 use Rattle.vast_literal.specs.declared.kind.DataKind.TheVariants.{Wire as WireKind, Reg as RegKind, Logic as LogicKind}
-use Rattle.vast_literal.specs.Tree.{AssignTree, TaskTree, CommentTree, ConditionalTree, CaseTree, Statements, NoStatements, MoreStatements, ElseIf, Else, NoCaseArms, CaseArm, NoExpr, SomeExpr}
+use Rattle.vast_literal.specs.Tree.{AssignTree, TaskTree, CommentTree, ConditionalTree, CaseTree, ForTree, Statements, NoStatements, MoreStatements, ElseIf, Else, NoCaseArms, CaseArm, NoExpr, SomeExpr}
 use Rattle.vast_literal.specs.declared.kind.AssignmentForm.TheVariants.{Blocking}
 use Rattle.vast_literal.specs.declared.kind.CaseKind.TheVariants.{CaseZ}
 use Rattle.vast_literal.specs.Tree.{DeclarationMember, BlankMember, ImportMember, InstanceMember, AlwaysMember, FunctionMember, LoopMember, NoExprs, MoreExprs, Members, NoMembers, MoreMembers, PortTree, ModuleItem, IncludeItem, ImportItem, BlankItem, CommentItem, FileTree}
@@ -98,6 +98,12 @@ pub record WorkedPages : Type 0 where
       (CaseTree false CaseZ (name (codes "s")) (CaseArm NoExpr (MoreStatements (TaskTree (CallTree (codes "$display") (MoreExprs (StringTree (codes "\"s\"")) (MoreExprs (name (codes "s")) NoExprs)))) NoStatements) NoCaseArms))
       (MoreStatements (TaskTree (CallTree (codes "$finish") NoExprs)) NoStatements))))
       ≡ codes "initial begin\n  casez (s)\n    default: begin\n      $display(\"s\", s);\n    end\n  endcase\n  $finish;\nend\n"
+  -- A loop of a block has the head of a generate loop, with `int`.
+  pub counted :
+      print (member_page VerilogDialect (AlwaysMember InitialWord NoExprs (MoreStatements
+      (ForTree (codes "i") (number (codes "0") (pos 0)) (name (codes "n")) (assigned (codes "x") (codes "1"))) (MoreStatements
+      (ForTree (codes "j") (number (codes "1") (pos 1)) (BinaryTree LogicalOrOp (name (codes "a")) (name (codes "b"))) NoStatements) NoStatements))))
+      ≡ codes "initial begin\n  for (int i = 0; i < n; i = i + 1) begin\n    x = 1;\n  end\n  for (int j = 1; j < (a || b); j = j + 1) begin end\nend\n"
   -- A function whose body is one casez has it bare, and its arms are bare where they are one assignment.
   pub casez_function :
       print (member_page SystemVerilogDialect (FunctionMember (record {

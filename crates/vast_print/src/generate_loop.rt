@@ -8,13 +8,12 @@ ghost use Rattle.vast_core.specs.View.{bench};
 ghost use Rattle.vast_print.specs.Internal.Output.{WritesLines, WritesText};
 ghost use Rattle.vast_print.specs.Members.{loop_label_text, loop_text, member_page};
 
-use crate::expression::{print_expression, print_wrapped};
-use crate::levels::right_wraps;
+use crate::counting::print_counting;
 use crate::member::print_member;
 use crate::refusal::PrintFault;
 use crate::words;
 use crate::writer::Writer;
-use vast_core::{Ast, BinaryOperator, GenerateLoop, LoopNode};
+use vast_core::{Ast, GenerateLoop, LoopNode};
 
 /// Writes a generate loop on lines of its own.
 #[cycle(members)]
@@ -38,7 +37,7 @@ pub(crate) fn print_loop(ast: &Ast, l: GenerateLoop, out: &mut Writer) -> Result
     Ok(())
 }
 
-/// Writes the words before a loop's members after the last line. The end stands as the right child of the comparison.
+/// Writes the words before a loop's members after the last line.
 #[tactic(auto, using(crate::proofs::ContainerLaws::headers))]
 fn print_header(ast: &Ast, node: &LoopNode, out: &mut Writer) -> Result<(), PrintFault>
     requires start { OwnsExpr (bench ast.now) node.now.start }
@@ -47,20 +46,9 @@ fn print_header(ast: &Ast, node: &LoopNode, out: &mut Writer) -> Result<(), Prin
         (loop_text (string_bytes node.now.name) (tree_of (bench ast.now) node.now.start)
         (tree_of (bench ast.now) node.now.end) (label_bytes node.now.label)) }
 {
-    let wraps = right_wraps(ast, BinaryOperator::Lt, node.end);
     out.word(words::for_genvar())?;
-    out.written(&node.name)?;
-    out.word(" = ")?;
-    print_expression(ast, node.start, out)?;
-    out.word("; ")?;
-    out.written(&node.name)?;
-    out.word(" < ")?;
-    print_wrapped(ast, node.end, wraps, out)?;
-    out.word("; ")?;
-    out.written(&node.name)?;
-    out.word(" = ")?;
-    out.written(&node.name)?;
-    out.word(words::step())?;
+    print_counting(ast, &node.name, node.start, node.end, out)?;
+    out.word("begin")?;
     print_label(&node.label, out)
 }
 

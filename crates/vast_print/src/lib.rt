@@ -7,6 +7,7 @@ mod bare;
 mod case;
 mod casts;
 mod conditional;
+mod counting;
 mod declaration;
 mod expression;
 mod file;

@@ -16,6 +16,7 @@ ghost use Rattle.vast_print.specs.Statements.{called_text, statement_page, state
 use crate::assignment::{print_assigned, print_continuous};
 use crate::case::print_case;
 use crate::conditional::print_conditional;
+use crate::counting::print_for;
 use crate::expression::print_expression;
 use crate::refusal::PrintFault;
 use crate::writer::Writer;
@@ -80,6 +81,7 @@ fn print_statement(ast: &Ast, statement: &Statement, out: &mut Writer) -> Result
         Statement::Task(call) => print_task(ast, *call, out),
         Statement::Conditional(c) => print_conditional(ast, *c, out),
         Statement::Case(c) => print_case(ast, *c, out),
+        Statement::For(l) => print_for(ast, l.parts(), out),
         Statement::BlankLine => Ok(out.next()?),
         Statement::Comment(text) => Ok(out.comment(text.as_str())?),
         Statement::Inline(text) => print_inline(text.as_str(), out),

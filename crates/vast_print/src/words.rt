@@ -1,7 +1,7 @@
 //! The words that stand between the parts of a tree.
 
 ghost use Rattle.std.specs.Prelude.{◌≡◌, codes};
-ghost use Rattle.vast_print.specs.Internal.Words.{signed_opening, unsigned_opening, scalar_cast_opening, scalar_cast_closing, cast_sign_word, number_cast_opening, number_cast_closing, comma, separator, endfunction_word, function_opening, for_opening, step_word};
+ghost use Rattle.vast_print.specs.Internal.Words.{signed_opening, unsigned_opening, scalar_cast_opening, scalar_cast_closing, cast_sign_word, number_cast_opening, number_cast_closing, comma, separator, endfunction_word, function_opening, for_opening, int_opening, step_word};
 ghost use Rattle.vast_print.specs.Members.{always_opening, parameter_word, semicolon_text};
 ghost use Rattle.vast_print.specs.Statements.{assignment_operator, case_word, unique_word};
 ghost use Rattle.vast_core.specs.FileTree.{form_of};
@@ -136,7 +136,7 @@ pub(crate) fn function() -> &'static str
     "function automatic "
 }
 
-/// Before a loop's variable.
+/// Before a generate loop's variable.
 #[tactic(auto, unfolding(crate::specs::Internal::Words::for_opening))]
 pub(crate) fn for_genvar() -> &'static str
     ensures { result.now ≡ for_opening }
@@ -144,12 +144,20 @@ pub(crate) fn for_genvar() -> &'static str
     "for (genvar "
 }
 
+/// Before the variable of a block's loop.
+#[tactic(auto, unfolding(crate::specs::Internal::Words::int_opening))]
+pub(crate) fn for_int() -> &'static str
+    ensures { result.now ≡ int_opening }
+{
+    "for (int "
+}
+
 /// After a loop's header.
 #[tactic(auto, unfolding(crate::specs::Internal::Words::step_word))]
 pub(crate) fn step() -> &'static str
     ensures { result.now ≡ step_word }
 {
-    " + 1) begin"
+    " + 1) "
 }
 
 /// Before the events of an always block, or before its block where it has none.

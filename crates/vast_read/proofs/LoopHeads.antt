@@ -1,4 +1,4 @@
--- The head of a generate loop, part by part.
+-- The head of a loop, part by part.
 use Rattle.std.proofs.Common.{◌≡◌, ◌≢◌, ℕ, suc, List, [], ◌∷◌, ◌++◌, length, Option, Some, refl, sym, ap, subst, ◌∙◌, append_assoc, arith}
 use Rattle.vast_literal.specs.Grammar.{Spells}
 use Rattle.vast_literal.specs.NormalExpr.{NormalExpr}
@@ -71,7 +71,7 @@ module _ (i : List ℕ) (ts firsts : List Token) (started : ts ≡ start_of i fi
         front = start_of i (read.front ++ (Mark Semicolon ∷ (bound.front ++ (Mark Semicolon ∷ step_of i []))));
         reads = loop_head i read.spelled bound.spelled;
         split = let a = started in let b = read.whole in let c = bound.whole in let d = stepped in simp append_assoc (cc (a, b, c, d));
-        fewer = let a : length ts ≡ suc (suc (suc (suc (length firsts)))) = ap length started in let b = read.fewer in let c = bound.fewer in let d : length cs ≡ suc (suc (suc (suc (suc (suc (length us)))))) = ap length stepped in omega (arith, a, b, c, d);
+        fewer = let a : length ts ≡ suc (suc (length firsts)) = ap length started in let b = read.fewer in let c = bound.fewer in let d : length cs ≡ suc (suc (suc (suc (suc (suc (length us)))))) = ap length stepped in omega (arith, a, b, c, d);
         same = λ fs rest m p e h. let q = parts fs rest m p in let f = follows fs rest m q e in let s = second fs rest m q e in let t = third fs rest m q e in
             let variable = f.0 in let start = s.0 in let end = t.0 in let means = q.means in let after : step_of i rest ≡ step_of i us = sym t.1 ∙ stepped in
             (cc (means, variable, start, end), cc after);

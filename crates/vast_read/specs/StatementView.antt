@@ -16,6 +16,7 @@ statement_level (NormalStatement-F.Assign l r) = normal.AssignStatement (view l.
 statement_level (NormalStatement-F.Task x) = normal.TaskStatement (view x.value)
 statement_level (NormalStatement-F.Choice arms last) = normal.ChoiceStatement (arms_of arms (option_map block_of last))
 statement_level (NormalStatement-F.Case unique word selector arms) = normal.CaseStatement unique (key_of word) (view selector.value) (labels_of arms)
+statement_level (NormalStatement-F.For i x e b) = normal.ForStatement i (view x.value) (view e.value) (block_of b)
 
 abbrev pub arm_level : Arm-F normal.NormalStatement ChoicePart LabelPart → ChoicePart
 arm_level a = (view a.condition.value, block_of a.block)

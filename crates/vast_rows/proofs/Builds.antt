@@ -3,7 +3,7 @@ use Rattle.std.proofs.Common.{◌≡◌, ℕ, List, [], ◌∷◌, Bool, true, f
 use Rattle.vast_literal.specs.FileGrammar.{assignment}
 use Rattle.vast_literal.specs.NormalExpr.{NormalExprs, NoNormals, MoreNormals}
 use Rattle.vast_literal.specs.NormalFile as normal
-use Rattle.vast_literal.specs.NormalFile.{NormalStatement, BlockingStatement, NonblockingStatement, AssignStatement, TaskStatement, ChoiceStatement, CaseStatement, NormalStatements, Done, Then, Arms, Only, Otherwise, Or, Labels, NoLabels, Label, Group, One, Range, NormalDeclaration, EdgeEvent, NameEvent, NormalConnection, NormalMember, DeclarationPart, AssignPart, ParameterPart, MacroPart, ImportPart, InstancePart, AlwaysPart, ConditionalPart, FunctionPart, LoopPart, NormalMembers, NoParts, MoreParts, NormalParameter, NormalPort, NormalItem, ModulePart, IncludePart, FileImportPart, NormalFile}
+use Rattle.vast_literal.specs.NormalFile.{NormalStatement, BlockingStatement, NonblockingStatement, AssignStatement, TaskStatement, ChoiceStatement, CaseStatement, ForStatement, NormalStatements, Done, Then, Arms, Only, Otherwise, Or, Labels, NoLabels, Label, Group, One, Range, NormalDeclaration, EdgeEvent, NameEvent, NormalConnection, NormalMember, DeclarationPart, AssignPart, ParameterPart, MacroPart, ImportPart, InstancePart, AlwaysPart, ConditionalPart, FunctionPart, LoopPart, NormalMembers, NoParts, MoreParts, NormalParameter, NormalPort, NormalItem, ModulePart, IncludePart, FileImportPart, NormalFile}
 use Rattle.vast_rows.specs.Built.{Seen, SeenAnswer, SeenExpressions, SeenGroup, SeenGroups, SeenDeclaration, SeenDeclarations, SeenConnection, SeenConnections, SeenEvent, SeenEvents, SeenStatement, SeenStatements, SeenArms, SeenLabels, SeenMember, SeenMembers, SeenParameter, SeenParameters, SeenPort, SeenPorts, SeenItem, SeenFile, of_one, of_two, of_three, of_four, make_none, make_more, declared, name_before, name_behind, assigned, alternated, make, happens, built}
 use Rattle.vast_rows.specs.Events.{Event, Makes, Names}
 use Rattle.vast_rows.specs.Laws.{TraceBuilds, TraceIsOne}
@@ -41,6 +41,7 @@ mutual
   statement_builds (ChoiceStatement a) p = on (arms_build a p) refl
   statement_builds (CaseStatement true k x a) p = on (on (on (labels_build a p) refl) refl) refl
   statement_builds (CaseStatement false k x a) p = on (on (labels_build a p) refl) refl
+  statement_builds (ForStatement i x e b) p = on (on (statements_build b p) refl) refl
 
   statements_build : {es : List Event} {vs : List Seen} (ss : NormalStatements) → Builds es vs → Builds (trace_statements ss es) (SeenStatements ss ∷ vs)
   statements_build Done p = on p refl

@@ -20,7 +20,7 @@ use Rattle.vast_rows.specs.Internal.Sources.{head_kind, first_name, SpellsPhrase
 use Rattle.vast_rows.specs.Kinds.{has, number, token_kind}
 use Rattle.vast_rows.specs.Numbers.{Less, OpenParen, CloseParen}
 use Rattle.vast_rows.specs.Phrases.{IsPhrase, IsExpression, expression as is_expression}
-use Rattle.vast_rows.proofs.Headers.{to_head, of_head, the_token}
+use Rattle.vast_rows.proofs.Headers.{to_head, of_head, head_word}
 use Rattle.vast_rows.proofs.PhraseLaws.{begins as phrase_begins}
 use Rattle.vast_rows.proofs.PhraseStarts.{an_operand, operand_starts, no_end, none_longer}
 use Rattle.vast_rows.proofs.Residues.{IsDue, Then, stands, stands_by, refused, advance, reads_part, reads_whole, quiet_like, quiet_always}
@@ -308,23 +308,27 @@ bound_leads v s before left (Whole kinds) d = (d.fewer, λ all more h. record { 
 
 -- The whole.
 
-pub no_header : (before : List tokens.Token) → ((t : tokens.Token) (us : List tokens.Token) → before ≡ t ∷ us → HasKind (kind.Mark OpenParen) t → ⊥) → Refuses (SpellsPhrase LoopHead) before
-no_header before none t us rest e m = none t us e (sym (only_has 9 (token_kind t) (phrase_begins LoopHead (t ∷ rest) [] m.0 m.1)))
+pub no_header : (before : List tokens.Token) → ((t : tokens.Token) (us : List tokens.Token) → before ≡ t ∷ us → MayBe None t → ⊥) → Refuses (SpellsPhrase LoopHead) before
+no_header before none t us rest e m = none t us e (head_word t (t ∷ rest) rest m.0 m.1 refl)
 
-pub header_due : (before left : List tokens.Token) → Eaten (HasKind (kind.Mark OpenParen)) before left true → InHeader None header before left 0
-header_due before left d = let same : d.0 ≡ tokens.Mark OpenParen = the_token 9 (λ t. t ≡ tokens.Mark OpenParen) refl d.0 d.2 in record {
-  residue = record {
-    before = tokens.Mark OpenParen ∷ [];
-    split = d.1 ∙ ap (λ (t : tokens.Token). t ∷ left) same;
-    onto = λ rest q c. to_head c;
-    back = λ rest q m. of_head m;
-    longer = λ k h. absurd (no_kind k h);
-    quiet = quiet_always left;
-  };
-  good = refl;
-}
+pub header_due : (v : Option (List ℕ)) (before left : List tokens.Token) → Eaten (MayBe None) before left true → v ≡ first_name before → InHeader v header before left 0
+header_due v before left d n =
+    let i : List ℕ = (d.2).0 in
+    let same : before ≡ tokens.Word i ∷ left = d.1 ∙ ap (λ (t : tokens.Token). t ∷ left) (d.2).1 in
+    let named : v ≡ Some i = n ∙ ap first_name same in
+    rw named record {
+      residue = record {
+        before = tokens.Word i ∷ [];
+        split = same;
+        onto = λ rest q c. to_head c;
+        back = λ rest q m. of_head m;
+        longer = λ k h. absurd (no_kind k h);
+        quiet = quiet_always left;
+      };
+      good = refl;
+    }
 
-pub header_fewer : (before left : List tokens.Token) → Eaten (HasKind (kind.Mark OpenParen)) before left true → length left < length before
+pub header_fewer : (before left : List tokens.Token) → Eaten (MayBe None) before left true → length left < length before
 header_fewer before left d = let n : length before ≡ suc (length left) = ap length d.1 in omega (arith, n)
 
 -- Nothing more is due.

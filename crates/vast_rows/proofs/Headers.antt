@@ -2,16 +2,16 @@
 use Rattle.std.proofs.Common.{◌≡◌, ℕ, suc, zero, List, [], ◌∷◌, ◌++◌, codes, Some, None, refl, sym, ap, ◌∙◌, subst, arith, append_assoc}
 use Rattle.vast_literal.specs.Grammar.{Spells, up, binary, name, paren}
 use Rattle.vast_literal.specs.NormalExpr.{NormalExpr, Name, Binary}
-use Rattle.vast_literal.specs.Tokens.{level, Token, Reserved, Word, Number, Operator, Mark}
+use Rattle.vast_literal.specs.Tokens.{level, Token, Word, Number, Operator, Mark}
 use Rattle.vast_literal.proofs.Levels.{lower}
 use Rattle.vast_rows.specs.declared.grammar.Phrase.TheVariants.{LoopHead}
 use Rattle.vast_rows.specs.declared.header.Part.{Part}
 use Rattle.vast_rows.specs.declared.header.Part.TheVariants as part
 use Rattle.vast_rows.specs.declared.kind.Kind.TheVariants as kind
 use Rattle.vast_rows.specs.Internal.Sources.{tail, SpellsPhrase}
-use Rattle.vast_rows.specs.Internal.Headers.{Coming, nothing, token, variable, one, expression, bound, opens, named, closes, compares, closing, header}
+use Rattle.vast_rows.specs.Internal.Headers.{MayBe, Coming, nothing, token, variable, one, expression, bound, opens, named, closes, compares, closing, header}
 use Rattle.vast_rows.specs.Kinds.{token_kind}
-use Rattle.vast_rows.specs.Numbers.{Less, Plus, OpenParen, CloseParen, Semicolon, Assign, GenvarKey}
+use Rattle.vast_rows.specs.Numbers.{Less, Plus, OpenParen, CloseParen, Semicolon, Assign}
 use Rattle.vast_rows.specs.Phrases.{IsPhrase, Meaning, IsLoop, loop_head}
 use Rattle.vast_rows.proofs.Means.{ForToken, for_token}
 
@@ -43,11 +43,12 @@ step =
 abbrev then_step : List Part
 then_step = part.Token (kind.Mark Semicolon) ∷ step
 
-head_parts : (ts rest : List Token) (m : Meaning) → IsPhrase LoopHead ts m → ts ≡ Mark OpenParen ∷ rest → Coming None header rest
-head_parts ts rest m (loop_head {xs = xs} {x = x} i p q) e =
-    subst (λ (us : List Token). Coming None header us) (ap tail e)
-    (token (Reserved GenvarKey) refl (variable i tt (token (Mark Assign) refl (expression xs refl (x, p) (token (Mark Semicolon) refl (conditions q (token (Mark Semicolon) refl
-    (variable i refl (token (Mark Assign) refl (variable i refl (token (Operator Plus) refl (one (token (Mark CloseParen) refl nothing)))))))))))))
+head_parts : {i : List ℕ} (ts rest : List Token) (m : Meaning) → IsPhrase LoopHead ts m → ts ≡ Word i ∷ rest → Coming (Some i) header rest
+head_parts {i} ts rest m (loop_head {xs = xs} {x = x} j p q) e =
+    let same : i ≡ j = cc e in
+    rw same (subst (λ (us : List Token). Coming (Some j) header us) (ap tail e)
+    (token (Mark Assign) refl (expression xs refl (x, p) (token (Mark Semicolon) refl (conditions q (token (Mark Semicolon) refl
+    (variable j refl (token (Mark Assign) refl (variable j refl (token (Operator Plus) refl (one (token (Mark CloseParen) refl nothing))))))))))))
 
 -- Parentheses that are open, before tokens, and what closes them, before parts.
 abbrev opened : ℕ → List Token → List Token
@@ -113,14 +114,18 @@ stepped (token t j (variable w e (token u k (variable x f (token v l (one (token
     rw (mark_token (Mark Semicolon) t refl j, mark_token (Mark Assign) u refl k, mark_token (Operator Plus) v refl l, mark_token (Mark CloseParen) y refl m, ← f, ← e) refl
 
 assembled : (i : List ℕ) (xs cs front : List Token) {x e : NormalExpr} → Spells 0 xs x → Spells 0 front (Binary Less (Name i) e) → cs ≡ front ++ step_of i →
-    IsPhrase LoopHead (Mark OpenParen ∷ (Reserved GenvarKey ∷ (Word i ∷ (Mark Assign ∷ (xs ++ (Mark Semicolon ∷ cs)))))) (IsLoop i x e)
+    IsPhrase LoopHead (Word i ∷ (Mark Assign ∷ (xs ++ (Mark Semicolon ∷ cs)))) (IsLoop i x e)
 assembled i xs cs front p q same = rw same (loop_head i p q)
 
-pub to_head : {rest : List Token} → Coming None header rest → SpellsPhrase LoopHead (Mark OpenParen ∷ rest)
-to_head (token t j (variable i n (token u k (expression xs e x (token {ts = cs} v l c))))) =
+pub to_head : {i : List ℕ} {rest : List Token} → Coming (Some i) header rest → SpellsPhrase LoopHead (Word i ∷ rest)
+to_head {i} (token u k (expression xs e x (token {ts = cs} v l c))) =
     let w : Whole i 0 cs = conditioned 0 then_step c refl in
     let same : cs ≡ w.front ++ step_of i = w.split ∙ ap (λ (us : List Token). w.front ++ us) (stepped w.more) in
-    (IsLoop i x.0 w.end, rw (mark_token (Reserved GenvarKey) t refl j, mark_token (Mark Assign) u refl k, e, mark_token (Mark Semicolon) v refl l) (assembled i xs cs w.front x.1 w.spelled same))
+    (IsLoop i x.0 w.end, rw (mark_token (Mark Assign) u refl k, e, mark_token (Mark Semicolon) v refl l) (assembled i xs cs w.front x.1 w.spelled same))
 
-pub of_head : {rest : List Token} → SpellsPhrase LoopHead (Mark OpenParen ∷ rest) → Coming None header rest
-of_head {rest} m = head_parts (Mark OpenParen ∷ rest) rest m.0 m.1 refl
+pub of_head : {i : List ℕ} {rest : List Token} → SpellsPhrase LoopHead (Word i ∷ rest) → Coming (Some i) header rest
+of_head {i} {rest} m = head_parts (Word i ∷ rest) rest m.0 m.1 refl
+
+-- A header begins with its variable.
+pub head_word : (t : Token) (ts rest : List Token) (m : Meaning) → IsPhrase LoopHead ts m → ts ≡ t ∷ rest → MayBe None t
+head_word t ts rest m (loop_head i p q) e = let same : t ≡ Word i = cc e in (i, same, tt)

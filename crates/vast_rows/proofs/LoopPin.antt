@@ -35,7 +35,7 @@ use Rattle.vast_rows.proofs.PhraseLaws.{apart}
 use Rattle.vast_rows.proofs.Sets.{some_one}
 use Rattle.vast_rows.proofs.Steps.{chose, took, phrased}
 
--- What the tokens of a loop's head hold in parentheses, before what follows.
+-- What the tokens of a loop hold in parentheses behind `genvar`, before what follows.
 abbrev bound_tokens : List Token
 bound_tokens = Word (codes "i") ∷ Operator Less ∷ Word (codes "a") ∷ Operator LogicOr ∷ Word (codes "b") ∷ []
 
@@ -47,10 +47,10 @@ abbrev start_behind : List Token
 start_behind = Mark Semicolon ∷ (bound_tokens ++ bound_behind)
 
 abbrev head_tokens : List Token
-head_tokens = Mark OpenParen ∷ Reserved GenvarKey ∷ Word (codes "i") ∷ Mark Assign ∷ Number (codes "0") ∷ start_behind
+head_tokens = Word (codes "i") ∷ Mark Assign ∷ Number (codes "0") ∷ start_behind
 
 abbrev loop_tokens : List Token
-loop_tokens = Reserved ModuleKey ∷ Word (codes "m") ∷ Mark Semicolon ∷ Reserved ForKey ∷ head_tokens
+loop_tokens = Reserved ModuleKey ∷ Word (codes "m") ∷ Mark Semicolon ∷ Reserved ForKey ∷ Mark OpenParen ∷ Reserved GenvarKey ∷ head_tokens
 
 loop_text : tokens (codes "module m; for (genvar i = 0; i < a || b; i = i + 1) begin end endmodule") ≡ Some loop_tokens
 unfolding tokens word_token is_keyword reserved_keys key_text
@@ -110,7 +110,7 @@ before_head left =
     let semicolon_due = opened 10 _ ports_due refl refl refl in
     let members_due = eaten semicolon_due in
     let member_due = opened 19 _ members_due refl refl refl in
-    eaten (opened 63 _ member_due refl refl refl)
+    eaten (eaten (eaten (opened 63 _ member_due refl refl refl)))
 
 -- A loop goes on while a name is less than something, and not while a disjunction holds.
 pub no_disjunction : HasNoFile (codes "module m; for (genvar i = 0; i < a || b; i = i + 1) begin end endmodule")

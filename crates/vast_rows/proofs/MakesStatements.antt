@@ -1,9 +1,10 @@
 -- The rows of statements make what the typed relations say.
-use Rattle.std.proofs.Common.{append-nil}
-use Rattle.vast_literal.specs.FileGrammar.{unique, not_unique, case_word, casez_word, casex_word, simple, assigned, task, choice, cases, cased, assigns, done, then, only, otherwise, or, no_labels, label, default, body, bare}
+use Rattle.std.proofs.Common.{append_assoc, append-nil}
+use Rattle.vast_literal.specs.FileGrammar.{unique, not_unique, case_word, casez_word, casex_word, simple, assigned, task, choice, cases, counted, cased, assigns, done, then, only, otherwise, or, no_labels, label, default, body, bare}
+use Rattle.vast_literal.specs.NormalFile.{ForStatement}
 use Rattle.vast_rows.specs.declared.rule.Rule.TheVariants.{Statements, Statement, AfterTarget, Assignment, Choice, Else, Branch, Unique, CaseKind, CaseArms, BareArms, ArmBody, LoneCase}
 use Rattle.vast_rows.specs.Numbers.{CaseKey, CasezKey, CasexKey}
-use Rattle.vast_rows.specs.Phrases.{expression, target}
+use Rattle.vast_rows.specs.Phrases.{expression, target, loop_head}
 use Rattle.vast_rows.proofs.Meant.{Makes, is_arrow, is_nothing}
 
 pub statements0 : Makes Statements 0
@@ -23,6 +24,9 @@ statement2 ts a = (_, choice a.1)
 
 pub statement3 : Makes Statement 3
 statement3 us u ts after = after us u.0 u.1
+
+pub statement4 : Makes Statement 4
+statement4 ts n (loop_head {x = x} {e = e} i p q) bs b = (ForStatement i x e b.0, simp append_assoc (counted i p q b.1))
 
 pub after_target0 : Makes AfterTarget 0
 after_target0 arrows (is_arrow b) rs n (expression q) ls l p = (_, simple (assigns b p q))

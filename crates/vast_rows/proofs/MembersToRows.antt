@@ -1,5 +1,5 @@
 -- What the typed relations say of members, modules and files, the page spells and tells.
-use Rattle.std.proofs.Common.{◌≡◌, ℕ, List, [], ◌∷◌, ◌++◌, Bool, true, false, codes, Option, IsTrue, refl, ap, ◌∙◌, append_assoc, append-nil}
+use Rattle.std.proofs.Common.{◌≡◌, ℕ, List, [], ◌∷◌, ◌++◌, Bool, true, false, codes, Option, IsTrue, refl, ap, append_assoc, append-nil}
 use Rattle.std.specs.Str.{bytes_eq}
 use Rattle.vast_literal.specs.FileGrammar.{is_parameter_word, is_edge, is_direction, is_local_kind, IsMany, no_items, more_items, IsList, empty, full, IsEvent, edge, plain, IsInput, input, IsDeclared, IsGiven, given, IsConnection, connected, unconnected, IsGivenList, no_parameters, with_parameters, IsSemicolon, with_one, without, IsLabel, no_label, labelled, IsFunctionBody, block_body, casez_body, IsMember, declaration, continuous, parameter, macro, macro_with, import_member, instance, unclocked, clocked, conditional, function, loop, IsMembers, closed, and_member, IsParameter, header_parameter, IsPort, port, IsParameters, no_header_parameters, header_parameters, IsPorts, no_ports, ports, IsItem, module_item, include_item, import_item}
 use Rattle.vast_literal.specs.Grammar.{Spells, SpellsList, none, some, SpellsJoined, last, next}
@@ -16,14 +16,13 @@ use Rattle.vast_rows.specs.declared.grammar.Item.TheVariants.{Phrase}
 use Rattle.vast_rows.specs.declared.grammar.Phrase.TheVariants.{Expression}
 use Rattle.vast_rows.specs.declared.rule.Rule.TheVariants.{File, FileItem, Parameters, MoreParameters, Parameter, Ports, MorePorts, Port, Direction, ModuleMembers, LoopMembers, Member, AnyMacro, MacroArguments, Expressions, MoreExpressions, LastSemicolon, GivenList, Given, MoreGiven, Connections, Connection, Connected, MoreConnections, Events, OneEvent, MoreEvents, Inputs, Input, MoreInputs, Locals, Declaration, Statements, FunctionBody, NoWait, Awaited, LoopLabel}
 use Rattle.vast_rows.specs.Events.{Event, Makes, Names}
-use Rattle.vast_rows.specs.Numbers.{Key, Comma, OpenParen, Semicolon, Assign, BeginKey, GenvarKey, CloseParen, InputKey, OutputKey, InOutKey, ParameterKey, LocalparamKey, PosedgeKey, NegedgeKey, OrKey, EndModuleKey, EndKey, IfKey}
+use Rattle.vast_rows.specs.Numbers.{Key, Comma, OpenParen, Semicolon, Assign, BeginKey, CloseParen, InputKey, OutputKey, InOutKey, ParameterKey, LocalparamKey, PosedgeKey, NegedgeKey, OrKey, EndModuleKey, EndKey, IfKey}
 use Rattle.vast_rows.specs.Phrases.{expression, target, loop_head, path}
 use Rattle.vast_rows.specs.Symbols.{key, mark, rule}
 use Rattle.vast_rows.specs.Trace.{read, answer, trace_list, trace_statements, trace_declaration, trace_declarations, trace_expressions, trace_arguments, trace_value, trace_connection, trace_connections, trace_event, trace_events, trace_label, trace_member, trace_members, trace_parameter, trace_parameters, trace_port, trace_ports, trace_item, trace_items}
 use Rattle.vast_rows.proofs.DeclarationsToRows.{declaration_to, net_declared, local_declared}
-use Rattle.vast_rows.proofs.PhraseLaws.{step_of}
 use Rattle.vast_rows.proofs.Spelling.{Node, Spelled, stop, tok, phr, phr_last, nod, at, along, listed, joined_to, closed_by}
-use Rattle.vast_rows.proofs.StatementsToRows.{statements_to, choice_to, lone_to}
+use Rattle.vast_rows.proofs.StatementsToRows.{loop_tokens, statements_to, choice_to, lone_to}
 
 direction_to : (k : Key) (es : List Event) → IsTrue (is_direction k) → Node Direction (Reserved k ∷ []) (Makes (PortOf k) ∷ es) es
 unfolding is_direction
@@ -160,13 +159,6 @@ unclocked_to AlwaysStarWord h p = at Member 10 refl (tok _ refl (tok _ refl (at 
 unclocked_to AlwaysFFWord h p = absurd (cc h)
 unclocked_to AlwaysAtWord h p = absurd (cc h)
 
--- The head of a loop before other tokens.
-loop_tokens : (xs cs us : List Token) (i : List ℕ) →
-    (Mark OpenParen ∷ (Reserved GenvarKey ∷ (Word i ∷ (Mark Assign ∷ (xs ++ (Mark Semicolon ∷ (cs ++ (Mark Semicolon ∷ step_of i [])))))))) ++ us
-    ≡ Mark OpenParen ∷ (Reserved GenvarKey ∷ (Word i ∷ (Mark Assign ∷ (xs ++ (Mark Semicolon ∷ (cs ++ (Mark Semicolon ∷ step_of i us)))))))
-loop_tokens xs cs us i = ap (λ (v : List Token). Mark OpenParen ∷ (Reserved GenvarKey ∷ (Word i ∷ (Mark Assign ∷ v))))
-    (append_assoc xs (Mark Semicolon ∷ (cs ++ (Mark Semicolon ∷ step_of i []))) us ∙ ap (λ (v : List Token). xs ++ (Mark Semicolon ∷ v)) (append_assoc cs (Mark Semicolon ∷ step_of i []) us))
-
 mutual
   unfolding trace_member trace_members trace_arguments trace_list
 
@@ -181,7 +173,7 @@ mutual
   member_to (clocked w h e b) = clocked_to w h (nod (events_to e) (tok _ refl (tok _ refl (statements_to b))))
   member_to (conditional a) = at Member 11 refl (choice_to a)
   member_to (function d i l b) = at Member 12 refl (tok _ refl (tok _ refl (nod (declaration_to d) (tok _ refl (nod (inputs_to i) (tok _ refl (tok _ refl (nod (locals_to l) (nod (function_body_to b) (tok _ refl stop))))))))))
-  member_to (loop {xs = xs} {cs = cs} i p q l m) = at Member 13 refl (tok _ refl (along (loop_tokens xs cs _ i) (phr (loop_head i p q) (tok _ refl (nod (label_to l) (loop_members_to m))))))
+  member_to (loop {xs = xs} {cs = cs} i p q l m) = at Member 13 refl (tok _ refl (tok _ refl (tok _ refl (along (loop_tokens xs cs _ i) (phr (loop_head i p q) (tok _ refl (nod (label_to l) (loop_members_to m))))))))
   member_to (import_member p) = at Member 14 refl (tok _ refl (tok (Word p) refl (tok _ refl (tok _ refl (tok _ refl stop)))))
 
   loop_members_to : {ts : List Token} {m : NormalMembers} {es : List Event} → IsMembers EndKey ts m → Node LoopMembers ts (trace_members m es) es

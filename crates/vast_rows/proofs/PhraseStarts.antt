@@ -154,7 +154,7 @@ operand_starts k small kind h = go (has_or (kinds operands) (kinds signs) kind h
 pub starts : (p : Phrase) (kind : ℕ) → has (firsts p) kind ≡ true → Starts (SpellsPhrase p) kind
 starts Expression kind h = let o = operand_starts 0 (omega arith) kind h in record { first = o.first; others = o.others; kinds = o.kinds; spelled = (IsExpression (o.spelled).0, expression (o.spelled).1) }
 starts Target kind h = let b = headed 13 operands operand_heads kind h in record { first = b.0; others = (b.2).0; kinds = b.1; spelled = (IsExpression (b.2).1, target (b.2).2) }
-starts LoopHead kind h = record { first = Mark OpenParen; others = _; kinds = only_has (token_kind (Mark OpenParen)) kind h; spelled = (_, loop_head [] a_number a_bound) }
+starts LoopHead kind h = record { first = Word []; others = _; kinds = only_has (token_kind (Word [])) kind h; spelled = (_, loop_head [] a_number a_bound) }
 starts Path kind h = record { first = _; others = _; kinds = only_has 8 kind h; spelled = (IsPath [], path []) }
 
 -- No phrase begins with the end.

@@ -1,18 +1,20 @@
 -- What the typed relations say of statements, the page spells and tells.
-use Rattle.std.proofs.Common.{List, [], ◌∷◌, ◌++◌, Bool, true, false, refl, append-nil}
-use Rattle.vast_literal.specs.FileGrammar.{arrow, assignment, IsUnique, unique, not_unique, IsCase, case_word, casez_word, casex_word, IsStatement, simple, assigned, task, choice, cases, IsCases, cased, IsAssign, assigns, IsStatements, done, then, IsChoice, only, otherwise, or, IsLabels, no_labels, label, default, IsBody, body, bare}
+use Rattle.std.proofs.Common.{◌≡◌, ℕ, List, [], ◌∷◌, ◌++◌, Bool, true, false, refl, ap, ◌∙◌, append_assoc, append-nil}
+use Rattle.vast_literal.specs.FileGrammar.{arrow, assignment, IsUnique, unique, not_unique, IsCase, case_word, casez_word, casex_word, IsStatement, simple, assigned, task, choice, cases, counted, IsCases, cased, IsAssign, assigns, IsStatements, done, then, IsChoice, only, otherwise, or, IsLabels, no_labels, label, default, IsBody, body, bare}
 use Rattle.vast_literal.specs.Grammar.{Spells}
 use Rattle.vast_literal.specs.NormalExpr.{NormalExpr}
 use Rattle.vast_literal.specs.NormalFile.{NormalStatement, CaseStatement, NormalStatements, Done, Arms, Labels}
-use Rattle.vast_literal.specs.Tokens.{Token, Reserved, Mark}
+use Rattle.vast_literal.specs.Shape.{counting}
+use Rattle.vast_literal.specs.Tokens.{Token, Reserved, Word, Mark}
 use Rattle.vast_rows.specs.declared.action.Action.TheVariants.{Conditional}
 use Rattle.vast_rows.specs.declared.grammar.Item.{Item}
 use Rattle.vast_rows.specs.declared.rule.Rule.TheVariants.{Statements, Statement, AfterTarget, Assignment, Arrow, Choice, Else, Branch, Unique, CaseKind, CaseArms, BareArms, ArmBody, NoEnd, LoneCase}
 use Rattle.vast_rows.specs.Events.{Event, Makes}
-use Rattle.vast_rows.specs.Numbers.{Key, OpenParen, CloseParen, BeginKey, IfKey, CasezKey}
-use Rattle.vast_rows.specs.Phrases.{expression, target}
+use Rattle.vast_rows.specs.Numbers.{Key, OpenParen, CloseParen, Semicolon, Assign, BeginKey, IfKey, CasezKey}
+use Rattle.vast_rows.specs.Phrases.{expression, target, loop_head}
 use Rattle.vast_rows.specs.Symbols.{key, rule}
 use Rattle.vast_rows.specs.Trace.{read, trace_statement, trace_statements, trace_arms, trace_labels}
+use Rattle.vast_rows.proofs.PhraseLaws.{step_of}
 use Rattle.vast_rows.proofs.Spelling.{Node, Spelled, stop, tok, phr, nod, at, along}
 
 -- What may be unique, and the case after it.
@@ -32,6 +34,11 @@ choice_head : {cs us : List Token} {c : NormalExpr} {es fs : List Event} → Spe
     Node Choice (Reserved IfKey ∷ (Mark OpenParen ∷ (cs ++ (Mark CloseParen ∷ (Reserved BeginKey ∷ us))))) (Makes Conditional ∷ read c ∷ es) fs
 choice_head p rest = at Choice 0 refl (tok _ refl (tok _ refl (phr (expression p) (tok _ refl (tok _ refl rest)))))
 
+-- The head of a loop before other tokens.
+pub loop_tokens : (xs cs us : List Token) (i : List ℕ) → counting i xs cs [] ++ us ≡ counting i xs cs us
+loop_tokens xs cs us i = ap (λ (v : List Token). Word i ∷ (Mark Assign ∷ v))
+    (append_assoc xs (Mark Semicolon ∷ (cs ++ (Mark Semicolon ∷ step_of i []))) us ∙ ap (λ (v : List Token). xs ++ (Mark Semicolon ∷ v)) (append_assoc cs (Mark Semicolon ∷ step_of i []) us))
+
 mutual
   unfolding arrow assignment trace_statement trace_statements trace_arms trace_labels
 
@@ -42,6 +49,7 @@ mutual
   statement_to (assigned p q) = at Statement 1 refl (tok _ refl (phr (target p) (tok _ refl (phr (expression q) (tok _ refl stop)))))
   statement_to (choice a) = at Statement 2 refl (choice_to a)
   statement_to (cases k word c) = case_to word c
+  statement_to (counted {xs = xs} {cs = cs} i p q b) = at Statement 4 refl (tok _ refl (tok _ refl (tok _ refl (along (loop_tokens xs cs _ i) (phr (loop_head i p q) (tok _ refl (statements_to b)))))))
 
   case_to : {k : Key} {z : Bool} {ts : List Token} {s : NormalStatement} {es : List Event} → IsCase k z → IsCases k z ts s → Node Statement ts (trace_statement s es) es
   case_to case_word (cased u p a) = at Statement 3 refl (unique_to _ _ _ _ u (at CaseKind 0 refl (tok _ refl (tok _ refl (phr (expression p) (tok _ refl (arms_to a)))))))

@@ -11,7 +11,7 @@ use Rattle.vast_rows.specs.declared.grammar.Item.TheVariants.{Phrase}
 use Rattle.vast_rows.specs.declared.grammar.Phrase.TheVariants.{Expression, Target, LoopHead, Path}
 use Rattle.vast_rows.specs.Rows.{Row}
 use Rattle.vast_rows.specs.Symbols.{key, mark, op, word, macro_word, include_word, rule, ◌⟶◌, ◌⟹◌}
-use Rattle.vast_rows.specs.declared.action.Action.TheVariants.{Nothing, Yes, No, NoMore, OneMore, ModuleItem, IncludeItem, ImportItem, HeaderParameter, PortOf, DeclarationMember, AssignMember, ParameterMember, ImportMember, MacroMember, InstanceMember, AlwaysMember, ConditionalMember, FunctionMember, LoopMember, KindOf, SignOf, NameBefore, Packaged, Declares, GroupOf, Connects, EdgeOf, ChangeOf, Assigns, AssignsByWord, Chooses, UniqueCase, CaseOf, Conditional, NoArms, Arm, DefaultArm}
+use Rattle.vast_rows.specs.declared.action.Action.TheVariants.{Nothing, Yes, No, NoMore, OneMore, ModuleItem, IncludeItem, ImportItem, HeaderParameter, PortOf, DeclarationMember, AssignMember, ParameterMember, ImportMember, MacroMember, InstanceMember, AlwaysMember, ConditionalMember, FunctionMember, LoopMember, KindOf, SignOf, NameBefore, Packaged, Declares, GroupOf, Connects, EdgeOf, ChangeOf, Assigns, AssignsByWord, Chooses, Repeats, UniqueCase, CaseOf, Conditional, NoArms, Arm, DefaultArm}
 use Rattle.vast_rows.specs.declared.action.Listed.TheVariants as listed
 use Rattle.vast_rows.specs.declared.rule.Rule.TheVariants.{File, FileItem, Parameters, MoreParameters, Parameter, Ports, MorePorts, Port, Direction, ModuleMembers, LoopMembers, Declaration, KindWord, Declarator, SignWord, AfterWord, OwnType, SignedName, GroupedName, AfterGroups, FirstGroups, Groups, BracketGroup, GroupEnd, Member, NetKind, NoWait, Awaited, AnyMacro, MacroArguments, Expressions, MoreExpressions, LastSemicolon, GivenList, Given, MoreGiven, Connections, Connection, Connected, MoreConnections, Events, OneEvent, MoreEvents, Inputs, Input, MoreInputs, Locals, Local, LocalKind, FunctionBody, LoneCase, NoEnd, LoopLabel, Statements, Statement, AfterTarget, Assignment, Arrow, Choice, Else, Branch, Unique, CaseKind, CaseArms, BareArms, ArmBody}
 
@@ -90,7 +90,7 @@ page =
     ∷ (Member ⟶ key AlwaysKey ∷ mark At ∷ rule Awaited ∷ [])
     ∷ (Member ⟶ rule Choice ∷ [] ⟹ ConditionalMember)
     ∷ (Member ⟶ key FunctionKey ∷ key AutomaticKey ∷ rule Declaration ∷ mark OpenParen ∷ rule Inputs ∷ mark CloseParen ∷ mark Semicolon ∷ rule Locals ∷ rule FunctionBody ∷ key EndFunctionKey ∷ [] ⟹ FunctionMember)
-    ∷ (Member ⟶ key ForKey ∷ Phrase LoopHead ∷ key BeginKey ∷ rule LoopLabel ∷ rule LoopMembers ∷ [] ⟹ LoopMember)
+    ∷ (Member ⟶ key ForKey ∷ mark OpenParen ∷ key GenvarKey ∷ Phrase LoopHead ∷ key BeginKey ∷ rule LoopLabel ∷ rule LoopMembers ∷ [] ⟹ LoopMember)
     ∷ (Member ⟶ key ImportKey ∷ word ∷ mark DoubleColon ∷ op Times ∷ mark Semicolon ∷ [] ⟹ ImportMember)
     ∷ (NetKind ⟶ key WireKey ∷ [] ⟹ KindOf WireKey)
     ∷ (NetKind ⟶ key RegKey ∷ [] ⟹ KindOf RegKey)
@@ -150,6 +150,7 @@ page =
     ∷ (Statement ⟶ key AssignKey ∷ L ∷ mark Assign ∷ X ∷ mark Semicolon ∷ [] ⟹ AssignsByWord)
     ∷ (Statement ⟶ rule Choice ∷ [] ⟹ Chooses)
     ∷ (Statement ⟶ rule Unique ∷ rule CaseKind ∷ [])
+    ∷ (Statement ⟶ key ForKey ∷ mark OpenParen ∷ key IntKey ∷ Phrase LoopHead ∷ key BeginKey ∷ rule Statements ∷ [] ⟹ Repeats)
     ∷ (AfterTarget ⟶ rule Arrow ∷ X ∷ mark Semicolon ∷ [])
     ∷ (AfterTarget ⟶ mark Semicolon ∷ [] ⟹ Nothing)
     ∷ (Assignment ⟶ L ∷ rule Arrow ∷ X ∷ mark Semicolon ∷ [] ⟹ Assigns)

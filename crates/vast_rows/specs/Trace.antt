@@ -2,12 +2,12 @@
 use Rattle.std.specs.Prelude.{ℕ, List, [], ◌∷◌, Bool, true, false, codes, Option, Some, None, if◌then◌else◌}
 use Rattle.vast_literal.specs.NormalExpr.{NormalExpr, NormalExprs, NoNormals, MoreNormals}
 use Rattle.vast_literal.specs.NormalFile as normal
-use Rattle.vast_literal.specs.NormalFile.{NormalStatement, BlockingStatement, NonblockingStatement, AssignStatement, TaskStatement, ChoiceStatement, CaseStatement, NormalStatements, Done, Then, Arms, Only, Otherwise, Or, Labels, NoLabels, Label, Group, One, Range, NormalDeclaration, EdgeEvent, NameEvent, NormalConnection, NormalMember, DeclarationPart, AssignPart, ParameterPart, MacroPart, ImportPart, InstancePart, AlwaysPart, ConditionalPart, FunctionPart, LoopPart, NormalMembers, NoParts, MoreParts, NormalParameter, NormalPort, NormalItem, ModulePart, IncludePart, FileImportPart, NormalFile}
+use Rattle.vast_literal.specs.NormalFile.{NormalStatement, BlockingStatement, NonblockingStatement, AssignStatement, TaskStatement, ChoiceStatement, CaseStatement, ForStatement, NormalStatements, Done, Then, Arms, Only, Otherwise, Or, Labels, NoLabels, Label, Group, One, Range, NormalDeclaration, EdgeEvent, NameEvent, NormalConnection, NormalMember, DeclarationPart, AssignPart, ParameterPart, MacroPart, ImportPart, InstancePart, AlwaysPart, ConditionalPart, FunctionPart, LoopPart, NormalMembers, NoParts, MoreParts, NormalParameter, NormalPort, NormalItem, ModulePart, IncludePart, FileImportPart, NormalFile}
 use Rattle.vast_rows.specs.Events.{Event, Makes, Reads, Names}
 use Rattle.vast_rows.specs.Numbers.{Key}
 use Rattle.vast_rows.specs.Phrases.{IsExpression, IsLoop, IsPath}
 use Rattle.vast_rows.specs.declared.action.Action.{Action}
-use Rattle.vast_rows.specs.declared.action.Action.TheVariants.{Nothing, Yes, No, NoMore, OneMore, ModuleItem, IncludeItem, ImportItem, HeaderParameter, PortOf, DeclarationMember, AssignMember, ParameterMember, ImportMember, MacroMember, InstanceMember, AlwaysMember, ConditionalMember, FunctionMember, LoopMember, KindOf, SignOf, NameBefore, Packaged, Declares, GroupOf, Connects, EdgeOf, ChangeOf, Assigns, AssignsByWord, Chooses, UniqueCase, CaseOf, Conditional, NoArms, Arm, DefaultArm}
+use Rattle.vast_rows.specs.declared.action.Action.TheVariants.{Nothing, Yes, No, NoMore, OneMore, ModuleItem, IncludeItem, ImportItem, HeaderParameter, PortOf, DeclarationMember, AssignMember, ParameterMember, ImportMember, MacroMember, InstanceMember, AlwaysMember, ConditionalMember, FunctionMember, LoopMember, KindOf, SignOf, NameBefore, Packaged, Declares, GroupOf, Connects, EdgeOf, ChangeOf, Assigns, AssignsByWord, Chooses, Repeats, UniqueCase, CaseOf, Conditional, NoArms, Arm, DefaultArm}
 use Rattle.vast_rows.specs.declared.action.Listed.{Listed}
 use Rattle.vast_rows.specs.declared.action.Listed.TheVariants as listed
 
@@ -34,6 +34,7 @@ unfoldable mutual
   trace_statement (ChoiceStatement a) es = Makes Chooses ∷ trace_arms a es
   trace_statement (CaseStatement true k x a) es = Makes UniqueCase ∷ Makes (CaseOf k) ∷ read x ∷ trace_labels a es
   trace_statement (CaseStatement false k x a) es = Makes (CaseOf k) ∷ read x ∷ trace_labels a es
+  trace_statement (ForStatement i x e b) es = Makes Repeats ∷ Reads (IsLoop i x e) ∷ trace_statements b es
 
   pub trace_statements : NormalStatements → List Event → List Event
   trace_statements Done es = Makes (NoMore listed.Statement) ∷ es

@@ -99,6 +99,8 @@ pub enum Action {
     AssignsByWord,
     /// A statement of the arms of a conditional.
     Chooses,
+    /// A loop of its head and its statements.
+    Repeats,
     /// The case that follows, which is unique.
     UniqueCase,
     /// A case by that word, of its selector and arms.
@@ -148,6 +150,7 @@ impl Action {
             Action::DefaultArm => 26,
             Action::ImportItem => 27,
             Action::ImportMember => 28,
+            Action::Repeats => 29,
             Action::NoMore(what) => 40 + what as u16,
             Action::OneMore(what) => 50 + what as u16,
             Action::PortOf(key) => 60 + key as u16,

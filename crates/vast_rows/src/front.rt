@@ -58,7 +58,7 @@ pub(crate) fn phrase_kinds(phrase: Phrase) -> u128
     match phrase {
         Phrase::Expression => 0x1b_8003_0800_7200_23fa,
         Phrase::Target => 0x1b_8000_0000_0200_23fa,
-        Phrase::LoopHead => 0x200,
+        Phrase::LoopHead => 0x2,
         Phrase::Path => 0x100,
     }
 }

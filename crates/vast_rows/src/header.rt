@@ -1,4 +1,4 @@
-//! How far the header of a generate loop goes.
+//! How far the header of a loop goes.
 
 ghost use Rattle.std.specs.Prelude.{◌≡◌, ◌∷◌, ℕ, List, Option, true, IfOk, MatchBool, cond};
 ghost use Rattle.std.specs.Prelude.{nat_lt, option_map};
@@ -19,7 +19,7 @@ use crate::reach::{Reach, reach_bound, reach_expression};
 use crate::source::{Fronts, Source};
 use crate::stack::Stack;
 use std::alloc::{AllocError, Global};
-use vast_literal::{Key, Mark, Sign};
+use vast_literal::{Mark, Sign};
 
 /// What is due of a header.
 #[derive(Clone, Copy)]
@@ -48,10 +48,8 @@ const CLOSE: Kind = Kind::Mark(Mark::CloseParen);
 
 const LESS: Kind = Kind::Operator(Sign::Less);
 
-/// A header behind the parenthesis that opens it.
-static HEADER: [Part; 13] = [
-    Part::Token(Kind::Reserved(Key::Genvar)),
-    Part::Variable,
+/// A header behind the variable that it begins with.
+static HEADER: [Part; 11] = [
     Part::Token(Kind::Mark(Mark::Assign)),
     Part::Expression,
     Part::Token(Kind::Mark(Mark::Semicolon)),
@@ -65,7 +63,7 @@ static HEADER: [Part; 13] = [
     Part::Token(CLOSE),
 ];
 
-/// The parts of a header behind the parenthesis that opens it.
+/// The parts of a header behind the variable that it begins with.
 fn header() -> &'static [Part]
     ensures { result.now ≡ header }
 {
@@ -242,12 +240,12 @@ pub(crate) fn reach_loop_head<S: Fronts>(alloc: Global, source: &mut S) -> Resul
     ensures { IfOk result
         (Reaches (SpellsPhrase LoopHead) (S.left source.old) (S.left source.new)) }
 {
-    if !eat(source, OPEN) {
+    let mut variable = None;
+    if !eat_variable(source, &mut variable) {
         return Ok(Reach::Nowhere);
     }
     let mut stack = Stack::new(alloc);
     stack.push_all(header())?;
-    let mut variable = None;
     let mut more = 0;
     'parts: loop {
         let Some(part) = stack.pop() else {

@@ -15,7 +15,7 @@ use Rattle.vast_core.specs.Bench.{type_of}
 use Rattle.vast_core.specs.Growth.{next_logic_ref, with_member, with_assignment}
 use Rattle.vast_core.specs.Artifacts.{next_statement}
 use Rattle.vast_core.specs.Functions.{with_variable}
-use Rattle.vast_core.specs.Containers.{next_block, next_conditional, next_case, with_conditional, with_case, with_statement, with_else_if, with_else, has_else, with_case_arm, with_case_unique}
+use Rattle.vast_core.specs.Containers.{next_block, next_conditional, next_case, with_conditional, with_case, with_statement, with_else_if, with_else, has_else, with_case_arm, with_for, with_case_unique}
 use Rattle.vast_core.specs.Loops.{next_always, next_function}
 use Rattle.xlsynth_vast.specs.AlwaysBlocks.{unless_wrong_event, with_scope_always}
 use Rattle.xlsynth_vast.specs.Cases.{may_be_unique}
@@ -24,13 +24,13 @@ use Rattle.xlsynth_vast.specs.Functions.{may_be_function, with_function_member, 
 use Rattle.xlsynth_vast.specs.Inspections.{block_at, then_block_at, body_at, result_at}
 use Rattle.vast_script.specs.declared.answer.Answer.TheVariants.{VastFunction, LogicRef, VastAlwaysBase, VastStatementBlock, VastStatement, Conditional, CaseStatement, Nothing}
 use Rattle.vast_script.specs.declared.step.StatementStep.{StatementStep}
-use Rattle.vast_script.specs.declared.step.StatementStep.TheVariants.{AddFunction, FunctionAddInput, FunctionAddLogicInput, FunctionAddReg, FunctionAddLogic, FunctionBody, FunctionResult, AddAlwaysFf, AddAlwaysAt, AddAlwaysComb, AddAlwaysStar, AddAlwaysLatch, AddInitial, BlockAddTaskCall, StatementBlock, BlockAddBlockingAssignment, BlockAddNonblockingAssignment, BlockAddContinuousAssignment, BlockAddCommentText, BlockAddInlineText, BlockAddBlankLine, AddConditional, BlockAddCond, ConditionalThenBlock, ConditionalAddElseIf, ConditionalAddElse, BlockAddCase, BlockAddCasez, BlockAddCasex, CaseAddItem, CaseAddDefault, CaseSetUnique}
+use Rattle.vast_script.specs.declared.step.StatementStep.TheVariants.{AddFunction, FunctionAddInput, FunctionAddLogicInput, FunctionAddReg, FunctionAddLogic, FunctionBody, FunctionResult, AddAlwaysFf, AddAlwaysAt, AddAlwaysComb, AddAlwaysStar, AddAlwaysLatch, AddInitial, BlockAddTaskCall, BlockAddFor, StatementBlock, BlockAddBlockingAssignment, BlockAddNonblockingAssignment, BlockAddContinuousAssignment, BlockAddCommentText, BlockAddInlineText, BlockAddBlankLine, AddConditional, BlockAddCond, ConditionalThenBlock, ConditionalAddElseIf, ConditionalAddElse, BlockAddCase, BlockAddCasez, BlockAddCasex, CaseAddItem, CaseAddDefault, CaseSetUnique}
 use Rattle.vast_script.specs.Outcome.{Made, provided, allowed, holding}
 use Rattle.vast_script.specs.Kinds.{a_module, a_function, a_type, an_expr, an_always, a_block, a_conditional, a_case, Kind}
 use Rattle.vast_script.specs.Arguments.{one, two, three, one_and_many}
 use Rattle.xlsynth_vast.proofs.Kept.{keeps-then, keeps-same}
 use Rattle.vast_script.proofs.KeptOutcomes.{CallKeeps, given-keeps, provided-keeps, allowed-keeps, holding-keeps}
-use Rattle.xlsynth_vast.proofs.KeptWords.{scope_always-kept, assignment-kept, case-kept, case_arm-kept, case_unique-kept, conditional-kept, else-kept, else_if-kept, function_member-kept, member-kept, statement-kept, variable-kept}
+use Rattle.xlsynth_vast.proofs.KeptWords.{scope_always-kept, assignment-kept, case-kept, case_arm-kept, case_unique-kept, conditional-kept, else-kept, else_if-kept, for-kept, function_member-kept, member-kept, statement-kept, variable-kept}
 use Rattle.vast_script.specs.Statements.{add_function, function_add_variable, add_always, add_unclocked, block_add_assignment, block_add, block_add_case, statement_call}
 
 add_function-keeps : (owner : ℕ) (name : List ℕ) (type : ℕ) → CallKeeps (add_function owner name type)
@@ -73,6 +73,7 @@ statement-keeps (BlockAddBlockingAssignment block left right) = block_add_assign
 statement-keeps (BlockAddNonblockingAssignment block left right) = block_add_assignment-keeps true block left right
 statement-keeps (BlockAddContinuousAssignment block left right) = λ b answers. given-keeps b (three a_block an_expr an_expr b answers block left right) (λ (block, left, right). Made (VastStatement (next_statement b)) (with_statement block (ContinuousStatement (next_statement b)) (with_assignment (record { lhs = left; rhs = right; nonblocking = false }) b))) (λ (block, left, right). keeps-then b (with_assignment (record { lhs = left; rhs = right; nonblocking = false }) b) _ (assignment-kept (record { lhs = left; rhs = right; nonblocking = false }) b) (statement-kept block (ContinuousStatement (next_statement b)) (with_assignment (record { lhs = left; rhs = right; nonblocking = false }) b)))
 statement-keeps (BlockAddTaskCall block call) = λ b answers. given-keeps b (two a_block an_expr b answers block call) (λ (block, call). Made Nothing (with_statement block (TaskStatement call) b)) (λ (block, call). statement-kept block (TaskStatement call) b)
+statement-keeps (BlockAddFor block name start end) = λ b answers. given-keeps b (three a_block an_expr an_expr b answers block start end) (λ (block, start, end). Made (VastStatementBlock (next_block b)) (with_for block (string_bytes name) start end b)) (λ (block, start, end). for-kept block (string_bytes name) start end b)
 statement-keeps (BlockAddCommentText block text) = block_add-keeps (CommentStatement (string_bytes text)) block
 statement-keeps (BlockAddInlineText block text) = block_add-keeps (InlineStatement (string_bytes text)) block
 statement-keeps (BlockAddBlankLine block) = block_add-keeps BlankStatement block

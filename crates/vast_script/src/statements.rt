@@ -172,6 +172,12 @@ pub(crate) fn replay_statement(
             let (owner, call): (VastStatementBlock, Expr) = two(file, answers, *owner, *call)?;
             nothing(file.block_add_task_call(owner, &call))
         }
+        StatementStep::BlockAddFor(owner, name, start, end) => {
+            let (owner, start, end): (VastStatementBlock, Expr, Expr) = three(
+                file, answers, *owner, *start, *end,
+            )?;
+            block(file.block_add_for(owner, name, &start, &end))
+        }
         StatementStep::BlockAddCommentText(owner, text) => {
             let owner: VastStatementBlock = one(file, answers, *owner)?;
             nothing(file.block_add_comment_text(owner, text))

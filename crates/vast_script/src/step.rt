@@ -191,6 +191,7 @@ pub enum StatementStep {
     AddAlwaysLatch(usize),
     AddInitial(usize),
     BlockAddTaskCall(usize, usize),
+    BlockAddFor(usize, String, usize, usize),
 }
 
 /// Calls of parts that are made beforehand, and that add them to modules.

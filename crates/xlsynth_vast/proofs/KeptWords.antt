@@ -25,6 +25,7 @@ use Rattle.vast_core.specs.declared.node.Member.{Member}
 use Rattle.vast_core.specs.declared.node.ParameterForm.{ParameterForm}
 use Rattle.vast_core.specs.declared.node.Member.TheVariants.{Always as AlwaysEntry}
 use Rattle.vast_core.specs.declared.node.Statement.{Statement}
+use Rattle.vast_core.specs.declared.node.Statement.TheVariants.{For as ForStatement}
 use Rattle.vast_core.specs.declared.node.FunctionVariable.{FunctionVariable}
 use Rattle.vast_core.specs.Bench.{Bench}
 use Rattle.vast_core.specs.Growth.{with_item, next_module, with_module, with_port, with_declaration, with_member, with_assignment, with_fixed_index, with_fixed_slice, with_fixed_replication}
@@ -32,7 +33,7 @@ use Rattle.vast_core.specs.Artifacts.{with_artifact, with_definition, with_insta
 use Rattle.vast_core.specs.Parameters.{with_parameter_port}
 use Rattle.vast_core.specs.Hoisting.{with_hoisted}
 use Rattle.vast_core.specs.Functions.{with_variable}
-use Rattle.vast_core.specs.Containers.{StatementEnters, ElseIfEnters, ElseEnters, CaseArmEnters, MemberEnters, next_block, with_block, with_conditional, new_conditional, with_case, new_case, with_statement, with_else_if, with_else, with_case_arm, with_case_unique}
+use Rattle.vast_core.specs.Containers.{StatementEnters, ElseIfEnters, ElseEnters, CaseArmEnters, MemberEnters, next_block, with_block, with_conditional, new_conditional, with_case, new_case, with_statement, with_else_if, with_else, with_case_arm, with_for, with_case_unique}
 use Rattle.vast_core.specs.Internal.Containers.{PortsGain, InFile, InModule, InFunction, InNest, no_fresh, fresh_assignment, fresh_block}
 use Rattle.vast_core.proofs.Containers.{fresh_container}
 use Rattle.vast_core.specs.Scopes.{with_scope_member, with_scope_parameter}
@@ -123,6 +124,10 @@ case-kept kind selector b = keeps-fresh b (fresh_container (new_case kind select
 pub case_arm-kept : (owner : CaseStatement) (label : Option Expr) (b : Bench) → Keeps b (with_case_arm owner label b)
 case_arm-kept owner label b =
     keeps-then b (with_block b) _ (keeps-fresh b fresh_block) (keeps-listing (with_block b) (InNest owner.id.index (CaseArmEnters (record { label = label; block = next_block b }))))
+
+pub for-kept : (owner : VastStatementBlock) (index : List ℕ) (start end : Expr) (b : Bench) → Keeps b (with_for owner index start end b)
+for-kept owner index start end b =
+    keeps-then b (with_block b) _ (keeps-fresh b fresh_block) (statement-kept owner (ForStatement (record { index = index; start = start; end = end; block = next_block b })) (with_block b))
 
 pub case_unique-kept : (owner : CaseStatement) (unique : Bool) (b : Bench) → Keeps b (with_case_unique owner unique b)
 case_unique-kept owner unique b = keeps-unique b owner.id.index unique

@@ -14,7 +14,7 @@ use Rattle.vast_core.specs.declared.node.Member.TheVariants.{Declaration as Decl
 use Rattle.vast_core.specs.declared.node.ParameterForm.TheVariants.{Plain as PlainForm, Int as IntForm, Defined as DefinedForm}
 use Rattle.vast_core.specs.Nests.{NestRecord, BlockRecord, ConditionalNestRecord, CaseNestRecord, LoopNestRecord, FunctionRecord, AlwaysRecord}
 use Rattle.vast_core.specs.declared.node.Statement.{Statement}
-use Rattle.vast_core.specs.declared.node.Statement.TheVariants.{Assignment as AssignStatement, Continuous as ContinuousStatement, Task as TaskStatement, Conditional as ConditionalStatement, Case as CasesStatement, BlankLine as BlankStatement, Comment as CommentStatement, Inline as InlineStatement}
+use Rattle.vast_core.specs.declared.node.Statement.TheVariants.{Assignment as AssignStatement, Continuous as ContinuousStatement, Task as TaskStatement, Conditional as ConditionalStatement, Case as CasesStatement, For as ForStatement, BlankLine as BlankStatement, Comment as CommentStatement, Inline as InlineStatement}
 use Rattle.vast_core.specs.Bench.{Bench, OwnsBlock, OwnsPort, is_continuous, is_comment, is_inline, is_macro_statement}
 use Rattle.vast_core.specs.Nests.{nest_kind, is_kind, BlockKind, ConditionalKind, CaseStatementKind, LoopKind}
 use Rattle.vast_core.specs.FileTree.{Family, family, families, block_in, conditional_statement, case_statement, conditional_member, loop_member, assignment_member, artifact_member, instance_member, assigned_tree, continuous_tree, function_in, always_in, member_tree, maybe_module_tree}
@@ -164,6 +164,7 @@ module _ (b : Bench) (s : NestsSound b 0 b.nests) where
   statement_is_there i (TaskStatement call) h e = cc
   statement_is_there i (ConditionalStatement c) h e = absurd (chosen_between b (families b) (slice_get b.nests c.id.index) h.0.of_kind (sym (ap conditional_statement (family-at b c.id.index s)) ∙ e))
   statement_is_there i (CasesStatement c) h e = absurd (selected b (families b) (slice_get b.nests c.id.index) h.0.of_kind (sym (ap case_statement (family-at b c.id.index s)) ∙ e))
+  statement_is_there i (ForStatement l) h e = cc
   statement_is_there i BlankStatement h e = refl
   statement_is_there i (CommentStatement text) h e = cc
   statement_is_there i (InlineStatement text) h e = cc

@@ -27,7 +27,7 @@ use Rattle.vast_core.specs.declared.node.Member.TheVariants.{Declaration as Decl
 use Rattle.vast_core.specs.declared.node.ParameterForm.TheVariants.{Plain as PlainForm, Int as IntForm, Defined as DefinedForm}
 use Rattle.vast_core.specs.Nests.{NestRecord, BlockRecord, ConditionalNestRecord, CaseNestRecord, LoopNestRecord, FunctionRecord, AlwaysRecord}
 use Rattle.vast_core.specs.declared.node.Statement.{Statement}
-use Rattle.vast_core.specs.declared.node.Statement.TheVariants.{Assignment as AssignStatement, Continuous as ContinuousStatement, Task as TaskStatement, Conditional as ConditionalStatement, Case as CasesStatement}
+use Rattle.vast_core.specs.declared.node.Statement.TheVariants.{Assignment as AssignStatement, Continuous as ContinuousStatement, Task as TaskStatement, Conditional as ConditionalStatement, Case as CasesStatement, For as ForStatement}
 use Rattle.vast_core.specs.declared.node.FunctionVariable.{FunctionVariable}
 use Rattle.vast_core.specs.Bench.{Bench, OwnsExpr, OwnsType, is_continuous, tree_of, type_of, maybe_tree_of, trees_of}
 use Rattle.vast_core.specs.Sound.{Each, HoldsBlock, EventSound, VariableSound, ConnectionSound, PortSound, ParameterPortSound, AssignmentSound, DefinitionSound, ArtifactSound, InstanceSound, MemberSound, StatementSound, ElseIfSound, CaseArmSound, AlwaysNewer, MemberNewer, LoopMemberSound, NestSound, FunctionSound, AlwaysSound, ModuleSound, RecordsSound}
@@ -171,12 +171,16 @@ variables-alike b c a (x ∷ xs) h = rw (type-alike b c a x.data_type h.0, varia
 pub record Meet (b : Bench) (from : ℕ) (f g : ℕ → Family) : Type 0 where
   pub at : (j : ℕ) → from ≤ j → j < length b.nests → f j ≡ g j
 
+held-alike : (b : Bench) (f g : ℕ → Family) (i : ℕ) → Meet b (suc i) f g → (x : VastStatementBlock) → HoldsBlock b i x → f x.id.index ≡ g x.id.index
+held-alike b f g i q x h = q.at x.id.index h.1 (block-place b x h.0)
+
 statement-alike : (b c : Bench) → Alike b c → (f g : ℕ → Family) (i : ℕ) → Meet b (suc i) f g → (s : Statement) → StatementSound b i s → statement_in c f s ≡ statement_in b g s
 statement-alike b c a f g i q (AssignStatement s) h = let x = statement-at b c a s.id.index h.of_kind in rw (x.here, x.there, x.left, x.right) refl
 statement-alike b c a f g i q (ContinuousStatement s) h = let x = statement-at b c a s.id.index h.of_kind in rw (x.here, x.there, x.left, x.right) refl
 statement-alike b c a f g i q (TaskStatement call) h = ap TaskTree (expr-alike b c a call h)
 statement-alike b c a f g i q (ConditionalStatement x) h = ap conditional_statement (q.at x.id.index h.1 (conditional-place b x h.0))
 statement-alike b c a f g i q (CasesStatement x) h = ap case_statement (q.at x.id.index h.1 (case-place b x h.0))
+statement-alike b c a f g i q (ForStatement l) h = rw (expr-alike b c a l.start h.0.0, expr-alike b c a l.end h.0.1, held-alike b f g i q l.block h.1) refl
 statement-alike b c a f g i q _ h = refl
 
 statements-alike : (b c : Bench) → Alike b c → (f g : ℕ → Family) (i : ℕ) → Meet b (suc i) f g → (ss : List Statement) → Each (StatementSound b i) ss → statements_in c f ss ≡ statements_in b g ss
@@ -184,9 +188,6 @@ statements-alike b c a f g i q [] h = refl
 statements-alike b c a f g i q (s ∷ ss) h =
     ap (λ x. MoreStatements x (statements_in c f ss)) (statement-alike b c a f g i q s h.0)
     ∙ ap (λ x. MoreStatements (statement_in b g s) x) (statements-alike b c a f g i q ss h.1)
-
-held-alike : (b : Bench) (f g : ℕ → Family) (i : ℕ) → Meet b (suc i) f g → (x : VastStatementBlock) → HoldsBlock b i x → f x.id.index ≡ g x.id.index
-held-alike b f g i q x h = q.at x.id.index h.1 (block-place b x h.0)
 
 otherwise-alike : (b : Bench) (f g : ℕ → Family) (i : ℕ) → Meet b (suc i) f g → (o : Option VastStatementBlock) → IfSome o (HoldsBlock b i) → otherwise_in f o ≡ otherwise_in g o
 otherwise-alike b f g i q None h = refl

@@ -1,12 +1,12 @@
-//! Statements of blocks: assignments, calls, comments, texts and blank lines (IEEE 1800-2017, 10.4), as in the crate
-//! `xlsynth-vast`.
+//! Statements of blocks: assignments, comments, texts and blank lines (IEEE 1800-2017, 10.4), as in the crate
+//! `xlsynth-vast`, and calls and loops, which that crate has not.
 
 ghost use Rattle.std.specs.Prelude.{true, false};
 ghost use Rattle.vast_core.specs.Bench.{OwnsBlock, OwnsExpr};
 ghost use Rattle.vast_core.specs.declared.node.Statement.TheVariants.{Assignment as AssignStatement, Continuous as ContinuousStatement, Task as TaskStatement, BlankLine as BlankStatement, Comment as CommentStatement, Inline as InlineStatement};
 ghost use Rattle.vast_core.specs.Growth.{Builds, Leaves, with_assignment};
 ghost use Rattle.vast_core.specs.Artifacts.{next_statement};
-ghost use Rattle.vast_core.specs.Containers.{with_statement};
+ghost use Rattle.vast_core.specs.Containers.{next_block, with_statement, with_for};
 ghost use Rattle.xlsynth_vast.specs.Keeps.{Keeps};
 
 use crate::file::VastFile;
@@ -14,7 +14,7 @@ use std::alloc::AllocError;
 use vast_core::{
     AssignmentForm, Expr, InsertionPoint, Statement, VastStatement, VastStatementBlock,
 };
-use vast_names::Text;
+use vast_names::{Text, Word};
 
 impl VastFile {
     /// The assignment `lhs = rhs`, as the block's last statement.
@@ -105,6 +105,30 @@ impl VastFile {
         ensures kept { Keeps self.old self.new }
     {
         self.ast.append_statement(block, Statement::Task(*call))
+    }
+
+    /// A loop with an empty block, as the block's last statement, whose index of this name runs from `start` on while
+    /// it is below `end`: `for (int i = start; i < end; i = i + 1)`. It returns the loop's block;
+    /// [`VastFile::make_name`] makes the index as an expression. The original crate lacks it.
+    ///
+    /// # Errors
+    /// `AllocError` where a growth was refused; the file is unchanged.
+    pub fn block_add_for(
+        &mut self,
+        block: VastStatementBlock,
+        name: &str,
+        start: &Expr,
+        end: &Expr,
+    ) -> Result<VastStatementBlock, AllocError>
+        requires block { OwnsBlock self.old block }
+        requires start { OwnsExpr self.old start.now }
+        requires end { OwnsExpr self.old end.now }
+        ensures built { Builds self.old self.new result next_block
+            (with_for block name.now start.now end.now) }
+        ensures kept { Keeps self.old self.new }
+    {
+        let index = Word::new(self.ast.allocator(), name)?;
+        self.ast.append_block_for(block, index, *start, *end)
     }
 
     /// A comment, as the block's last statement; each line of the text becomes a line of its own.

@@ -828,6 +828,15 @@ pub fn make(file: &mut VastFile, answers: &Answers, line: &Line) -> Result<Answe
             file.block_add_task_call(block, &call);
             Ok(Answer::Nothing)
         }
+        "BlockAddFor" => {
+            let block = answers.handle(&words[0])?;
+            let name = words[1].text();
+            let start = answers.handle(&words[2])?;
+            let end = answers.handle(&words[3])?;
+            Ok(Answer::VastStatementBlock(
+                file.block_add_for(block, name, &start, &end),
+            ))
+        }
         "MakeDef" => {
             let name = words[0].text();
             let kind = kind_of(&words[1]);

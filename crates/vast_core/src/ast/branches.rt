@@ -1,4 +1,4 @@
-//! Conditionals and case statements.
+//! Conditionals, case statements and loops of blocks.
 
 ghost use Rattle.std.specs.Prelude.{◌≡◌, ◌<◌, ◌^◌, false, Some, slice_get, IfSome};
 ghost use Rattle.vast_core.specs.Nests.{nest_record, conditional_record, case_record, ConditionalNestRecord, CaseNestRecord, CasesStatement};
@@ -7,7 +7,7 @@ ghost use Rattle.vast_core.specs.Sound.{ConditionalSound, CaseSound};
 ghost use Rattle.vast_core.specs.FileTree.{ConditionalFamily, CaseFamily, families, block_tree, alternates_tree, case_arms_tree};
 ghost use Rattle.vast_literal.specs.Tree.{CaseTree};
 ghost use Rattle.vast_core.specs.Growth.{Grows, GrowsBy};
-ghost use Rattle.vast_core.specs.Containers.{new_conditional, with_nest_entry, with_block, with_statement, next_case, with_case, next_block, with_else_if, with_else, with_case_arm, has_else, with_unique, with_case_unique};
+ghost use Rattle.vast_core.specs.Containers.{new_conditional, with_nest_entry, with_block, with_statement, next_case, with_case, next_block, with_else_if, with_else, with_case_arm, with_for, has_else, with_unique, with_case_unique};
 ghost use Rattle.vast_core.specs.Internal.Containers.{InNest, GrowthSound, fresh_block};
 ghost use Rattle.vast_core.specs.Internal.Arrivals.{entry_of};
 ghost use Rattle.vast_core.specs.View.{bench};
@@ -16,9 +16,12 @@ use crate::ast::Ast;
 use crate::ast::arrivals::{Node, Terms};
 use crate::ast::growth::{Entry, Place};
 use crate::handle::{CaseStatement, Conditional, Expr, VastStatementBlock};
-use crate::node::{CaseArm, CaseNode, ConditionalNode, ElseIf, Nest, Statement};
+use crate::node::{
+    CaseArm, CaseNode, ConditionalNode, ElseIf, ForLoop, ForParts, Nest, Statement,
+};
 use std::alloc::AllocError;
 use vast_literal::CaseKind;
+use vast_names::Word;
 
 impl Nest {
     fn set_unique(&mut self, unique: bool)
@@ -166,6 +169,38 @@ impl Ast {
             id: self.next_nest(),
         };
         self.grow_with_block(owner.id.index, Entry::CaseArm(CaseArm { label, block }))?;
+        Ok(block)
+    }
+
+    /// Appends a loop to the block, whose index runs from `start` on while it is below `end`, and returns the loop's
+    /// block, which is empty.
+    ///
+    /// # Errors
+    /// `AllocError` where a growth was refused; nothing changed.
+    #[tactic(auto, using(crate::proofs::Enters::enters))]
+    pub fn append_block_for(
+        &mut self,
+        owner: VastStatementBlock,
+        index: Word,
+        start: Expr,
+        end: Expr,
+    ) -> Result<VastStatementBlock, AllocError>
+        requires owner { OwnsBlock (bench self.old) owner }
+        requires start { OwnsExpr (bench self.old) start }
+        requires end { OwnsExpr (bench self.old) end }
+        ensures { Grows self.old self.new result next_block (with_for owner index start end) }
+    {
+        let block = VastStatementBlock {
+            id: self.next_nest(),
+        };
+        let parts = ForParts {
+            index,
+            start,
+            end,
+            block,
+        };
+        let statement = Statement::For(ForLoop::new(self.alloc, parts)?);
+        self.grow_with_block(owner.id.index, Entry::Statement(statement))?;
         Ok(block)
     }
 

@@ -29,11 +29,21 @@ fn texts(rt: HostRuntime) {
             0,
             "derived\n",
         ),
+        (
+            "module m; initial begin for (int i = 0; i < b; i = i + 1) begin end end endmodule",
+            0,
+            "derived\n",
+        ),
         ("// x", 0, "derived\n"),
         ("module m;", 1, "not derived\n"),
         ("module m; assign a = &&b; endmodule", 1, "not derived\n"),
         (
             "module m; for (genvar i = 0; i < a || b; i = i + 1) begin end endmodule",
+            1,
+            "not derived\n",
+        ),
+        (
+            "module m; for (int i = 0; i < b; i = i + 1) begin end endmodule",
             1,
             "not derived\n",
         ),

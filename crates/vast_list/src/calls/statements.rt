@@ -55,6 +55,7 @@ pub(super) fn statement_step(
         29 => arguments.one(StatementStep::AddAlwaysLatch),
         30 => arguments.one(StatementStep::AddInitial),
         31 => arguments.two(StatementStep::BlockAddTaskCall),
+        32 => arguments.four(StatementStep::BlockAddFor),
         _ => Err(arguments.misfit(Problem::UnknownCall)),
     }
 }

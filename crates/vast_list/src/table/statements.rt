@@ -1,13 +1,13 @@
 //! Calls of functions, always blocks, conditionals and statements.
 
 use super::by_name::{
-    ALWAYS, BLOCK, CALL, CASE, CONDITION, CONDITIONAL, DATA_TYPE, FUNCTION, LHS, NAME, OWNER,
-    PATTERN, RESULT_TYPE, RHS, SELECTOR, SENSITIVITY_LIST, TEXT, UNIQUE,
+    ALWAYS, BLOCK, CALL, CASE, CONDITION, CONDITIONAL, DATA_TYPE, END, FUNCTION, LHS, NAME, OWNER,
+    PATTERN, RESULT_TYPE, RHS, SELECTOR, SENSITIVITY_LIST, START, TEXT, UNIQUE,
 };
 use super::{CallRow, kinds};
 
 /// Calls of functions, always blocks, conditionals and statements.
-pub(crate) static CALLS: [CallRow; 32] = [
+pub(crate) static CALLS: [CallRow; 33] = [
     CallRow("AddFunction", &[OWNER, NAME, RESULT_TYPE], kinds::FUNCTION),
     CallRow(
         "FunctionAddInput",
@@ -72,4 +72,5 @@ pub(crate) static CALLS: [CallRow; 32] = [
     CallRow("AddAlwaysLatch", &[OWNER], kinds::ALWAYS),
     CallRow("AddInitial", &[OWNER], kinds::ALWAYS),
     CallRow("BlockAddTaskCall", &[BLOCK, CALL], kinds::NOTHING),
+    CallRow("BlockAddFor", &[BLOCK, NAME, START, END], kinds::BLOCK),
 ];

@@ -25,6 +25,9 @@ decreases-case::print_case l = height l.c.id.index + 4
 abbrev pub decreases-case::print_arm : goal.decreases-case::print_arm
 decreases-case::print_arm l = height l.arm.block.id.index + 3
 
+abbrev pub decreases-counting::print_for : goal.decreases-counting::print_for
+decreases-counting::print_for l = height l.parts.now.block.id.index + 3
+
 abbrev pub invariant-statement::print_statements-loop-statement : goal.invariant-statement::print_statements-loop-statement
 invariant-statement::print_statements-loop-statement l = LinesLeft l.fn.out l.out (statements_page (block_tree (bench l.ast) l.fn.b)) (statements_page (statements_tree (bench l.ast) (drop l.statement-index l.statement-items)))
 

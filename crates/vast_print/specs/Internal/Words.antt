@@ -67,8 +67,11 @@ function_opening = codes "function automatic "
 unfoldable pub for_opening : List ℕ
 for_opening = codes "for (genvar "
 
+unfoldable pub int_opening : List ℕ
+int_opening = codes "for (int "
+
 unfoldable pub step_word : List ℕ
-step_word = codes " + 1) begin"
+step_word = codes " + 1) "
 
 unfoldable pub endfunction_word : List ℕ
 endfunction_word = codes "endfunction"

@@ -1,17 +1,16 @@
--- The parts of the head of a generate loop.
+-- The parts of the head of a loop.
 use Rattle.std.specs.Prelude.{◌≡◌, ℕ, List, ◌∷◌, ◌++◌, codes, Option, Some, None}
 use Rattle.vast_expressions.specs.Phrases.{IsRead}
 use Rattle.vast_literal.specs.Grammar.{Spells}
 use Rattle.vast_literal.specs.NormalExpr.{NormalExpr}
-use Rattle.vast_literal.specs.Tokens.{Token, Reserved, Word, Number, Operator, Mark}
-use Rattle.vast_literal.specs.declared.token.Key.TheVariants.{Genvar}
-use Rattle.vast_literal.specs.declared.token.Mark.TheVariants.{OpenParen, CloseParen, Semicolon, Assign}
+use Rattle.vast_literal.specs.Tokens.{Token, Word, Number, Operator, Mark}
+use Rattle.vast_literal.specs.declared.token.Mark.TheVariants.{CloseParen, Semicolon, Assign}
 use Rattle.vast_literal.specs.declared.token.Sign.TheVariants.{Plus}
 use Rattle.vast_read.specs.Internal.Readings.{less_than}
 
--- ( genvar i =
+-- i =
 abbrev pub start_of : List ℕ → List Token → List Token
-start_of i us = Mark OpenParen ∷ (Reserved Genvar ∷ (Word i ∷ (Mark Assign ∷ us)))
+start_of i us = Word i ∷ (Mark Assign ∷ us)
 
 -- i = i + 1 )
 abbrev pub step_of : List ℕ → List Token → List Token

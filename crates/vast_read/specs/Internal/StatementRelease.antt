@@ -26,6 +26,7 @@ statement_step (NormalStatement-F.Assign l r) = of_nothing
 statement_step (NormalStatement-F.Task x) = of_nothing
 statement_step (NormalStatement-F.Choice arms last) = of_choice arms (of_last last)
 statement_step (NormalStatement-F.Case unique word selector arms) = of_list arms
+statement_step (NormalStatement-F.For i x e b) = of_list b
 
 abbrev pub arm_step : Arm-F Rounds Rounds Rounds → Rounds
 arm_step a = of_block a.block

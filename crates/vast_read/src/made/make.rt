@@ -13,7 +13,7 @@ use crate::made::members::{
     instance_member, loop_member, macro_member, module_item, parameter_member, port_of,
 };
 use crate::made::statements::{
-    arm, assigns, assigns_by_word, case_of, chooses, conditional, default_arm, unique_case,
+    arm, assigns, assigns_by_word, case_of, chooses, conditional, default_arm, repeats, unique_case,
 };
 use crate::made::value::{Value, Values};
 use std::alloc::{AllocError, Global};
@@ -60,6 +60,7 @@ pub(crate) fn make(alloc: Global, action: Action, values: &mut Values<'_>) -> Re
         Action::Assigns => assigns(values),
         Action::AssignsByWord => assigns_by_word(values),
         Action::Chooses => chooses(values),
+        Action::Repeats => repeats(alloc, values),
         Action::UniqueCase => unique_case(values),
         Action::CaseOf(key) => case_of(alloc, key, values),
         Action::Conditional => conditional(alloc, values),

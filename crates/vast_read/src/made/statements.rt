@@ -13,11 +13,12 @@ ghost use Rattle.vast_read.specs.View.{view};
 use crate::children::Children;
 use crate::macros::wanted;
 use crate::made::part::first;
-use crate::made::value::{Alternatives, Value, Values};
+use crate::made::value::{Alternatives, Range, Value, Values};
 use crate::tree::words::key_word;
 use crate::tree::{Arm, CaseArm, NormalExpr, NormalStatement};
 use std::alloc::{AllocError, Global};
 use vast_literal::Key;
+use vast_names::Word;
 
 /// A statement of its left side and what follows that.
 #[tactic(auto, unfolding(vast_rows::specs::Built::assigned, vast_rows::specs::Built::make, vast_rows::specs::Built::of_one))]
@@ -96,6 +97,17 @@ pub(crate) fn chooses(values: &mut Values<'_>) -> Result<(), AllocError>
     let alternatives = wanted!(first::<Alternatives>(values));
     let (arms, last) = alternatives.in_order()?;
     values.push(Value::Statement(NormalStatement::Choice(arms, last)))
+}
+
+/// A loop of its head and its statements.
+pub(crate) fn repeats(alloc: Global, values: &mut Values<'_>) -> Result<(), AllocError>
+    ensures { IfOk result (λ _. Grown (make action.Repeats (denoted values.old)) values.new) }
+{
+    let range = wanted!(first::<Range<'_>>(values));
+    let block = wanted!(first::<Children<NormalStatement>>(values));
+    let index = Word::new(alloc, range.variable)?;
+    let made = NormalStatement::For(index, range.start, range.end, block.reversed());
+    values.push(Value::Statement(made))
 }
 
 /// The case that follows, which is unique.

@@ -1,4 +1,4 @@
-//! The head of a generate loop.
+//! The head of a loop.
 
 ghost use Rattle.std.specs.Prelude.{◌≡◌, ◌≢◌, ℕ, List, IfOk, MatchOption};
 ghost use Rattle.std.specs.Bool.{MatchBool};
@@ -12,10 +12,10 @@ use crate::phrase::Made;
 use crate::reader::Reader;
 use std::alloc::AllocError;
 use vast_expressions::Token;
-use vast_literal::{Key, Mark, Sign};
+use vast_literal::{Mark, Sign};
 
 impl<'t> Reader<'t> {
-    /// Reads the variable of a loop, its start, its end and its step, in their parentheses.
+    /// Reads the variable of a loop, its start, its end and its step, up to the parenthesis behind them.
     #[tactic(auto, using(crate::proofs::LoopHeads::heads))]
     pub(crate) fn loop_head<B: Build<'t>>(
         &mut self,
@@ -44,9 +44,6 @@ impl<'t> Reader<'t> {
             ((i : List ℕ) (us : List SpecToken) → self.old ≢ start_of i us)
             (λ i. self.old ≡ start_of i.now self.new) }
     {
-        if !self.eat_all(&[Token::Mark(Mark::OpenParen), Token::Reserved(Key::Genvar)]) {
-            return None;
-        }
         match self.first() {
             Some(Token::Word(variable)) => {
                 self.leave_first();

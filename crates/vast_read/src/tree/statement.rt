@@ -29,6 +29,13 @@ pub enum NormalStatement {
     Choice(Children<Arm>, Option<Children<NormalStatement>>),
     /// A case: whether it is unique, its word (`case`, `casez` or `casex`), its selector, its arms.
     Case(bool, Word, Box<NormalExpr>, Children<CaseArm>),
+    /// A loop: its index, what that starts from and what it stays below, and what is done each time.
+    For(
+        Word,
+        Box<NormalExpr>,
+        Box<NormalExpr>,
+        Children<NormalStatement>,
+    ),
 }
 
 /// An arm of a conditional.
@@ -95,6 +102,7 @@ impl NormalStatement {
             | NormalStatement::Assign(_left, _right) => None,
             NormalStatement::Task(_call) => None,
             NormalStatement::Choice(arms, last) => shed_arms(arms, last),
+            NormalStatement::For(_, _start, _end, block) => taken(block),
             NormalStatement::Case(is_unique, word, selector, arms) => match arms.split_last() {
                 None => None,
                 Some((arm, before)) => match before {
@@ -127,6 +135,10 @@ impl NormalStatement {
                     None => Some((rest, None)),
                     Some(last) => Some(ahead(last, rest)),
                 }
+            }
+            NormalStatement::For(index, start, end, own) => {
+                let rest = NormalStatement::For(index, start, end, block);
+                Some(ahead(own, rest))
             }
             NormalStatement::Case(is_unique, word, selector, arms) => {
                 match arms.exchange_first(CaseArm { label: None, block }) {

@@ -1,4 +1,4 @@
--- The header of a generate loop part by part, and what is still to come of it.
+-- The header of a loop part by part, and what is still to come of it.
 use Rattle.std.specs.Prelude.{◌≡◌, ◌<◌, ℕ, List, [], ◌∷◌, ◌++◌, length, Bool, ◌&&◌, nat_lt, true, false, codes, Option, Some, None}
 use Rattle.std.specs.Int.Bits.{bit_or}
 use Rattle.vast_literal.specs.Grammar.{Spells}
@@ -8,7 +8,7 @@ use Rattle.vast_rows.specs.declared.grammar.Phrase.TheVariants.{Expression, Loop
 use Rattle.vast_rows.specs.declared.header.Part.{Part}
 use Rattle.vast_rows.specs.declared.header.Part.TheVariants as part
 use Rattle.vast_rows.specs.declared.kind.Kind.{Kind}
-use Rattle.vast_rows.specs.declared.kind.Kind.TheVariants.{Word, Number, Mark, Operator, Reserved}
+use Rattle.vast_rows.specs.declared.kind.Kind.TheVariants.{Word, Number, Mark, Operator}
 use Rattle.vast_rows.specs.declared.reach.Reach.{Reach}
 use Rattle.vast_rows.specs.declared.reach.Reach.TheVariants as reach
 use Rattle.vast_rows.specs.Fronts.{GoesOn, LongestFront}
@@ -17,7 +17,7 @@ use Rattle.vast_rows.specs.Internal.PhraseKinds.{firsts, stops}
 use Rattle.vast_rows.specs.Internal.Reaches.{IsQuiet, Refuses}
 use Rattle.vast_rows.specs.Internal.Sets.{only}
 use Rattle.vast_rows.specs.Kinds.{has, number, token_kind}
-use Rattle.vast_rows.specs.Numbers.{Less, Plus, OpenParen, CloseParen, Semicolon, Assign, GenvarKey}
+use Rattle.vast_rows.specs.Numbers.{Less, Plus, OpenParen, CloseParen, Semicolon, Assign}
 
 -- An expression of the level.
 abbrev pub IsAt : ℕ → List tokens.Token → Type 0
@@ -59,10 +59,10 @@ pub data Coming : (variable : Option (List ℕ)) → List Part → List tokens.T
   compares : {v : Option (List ℕ)} {s : List Part} {ts : List tokens.Token} (t : tokens.Token) → token_kind t ≡ number (Operator Less) → Coming v (part.Bound ∷ s) ts → Coming v (part.Comparison ∷ s) (t ∷ ts)
   closing : {v : Option (List ℕ)} {s : List Part} {ts : List tokens.Token} (t : tokens.Token) → token_kind t ≡ number (Mark CloseParen) → Coming v s ts → Coming v (part.Closing ∷ s) (t ∷ ts)
 
--- A header, behind the parenthesis that opens it.
+-- A header, behind the variable that it begins with.
 abbrev pub header : List Part
 header =
-    part.Token (Reserved GenvarKey) ∷ part.Variable ∷ part.Token (Mark Assign) ∷ part.Expression ∷ part.Token (Mark Semicolon) ∷ part.Condition ∷ part.Token (Mark Semicolon)
+    part.Token (Mark Assign) ∷ part.Expression ∷ part.Token (Mark Semicolon) ∷ part.Condition ∷ part.Token (Mark Semicolon)
     ∷ part.Variable ∷ part.Token (Mark Assign) ∷ part.Variable ∷ part.Token (Operator Plus) ∷ part.One ∷ part.Token (Mark CloseParen) ∷ []
 
 -- The kinds with which the parts begin.

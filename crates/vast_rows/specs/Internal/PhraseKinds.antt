@@ -29,8 +29,8 @@ operands = word ∷ number_word ∷ based ∷ quoted ∷ system_word ∷ macro_w
 abbrev pub operands_or_signs : List Item
 operands_or_signs = operands ++ op Minus ∷ op BitNot ∷ op LogicNot ∷ op BitAnd ∷ op BitOr ∷ op BitXor ∷ []
 
-abbrev pub parens : List Item
-parens = mark OpenParen ∷ []
+abbrev pub names : List Item
+names = word ∷ []
 
 abbrev pub strings : List Item
 strings = quoted ∷ []
@@ -47,7 +47,7 @@ mask items = set_of (kinds items)
 abbrev pub firsts : Phrase → ℕ
 firsts Expression = mask operands_or_signs
 firsts Target = mask operands
-firsts LoopHead = mask parens
+firsts LoopHead = mask names
 firsts Path = mask strings
 
 -- Kinds that go on with no expression: what reads one stays before them. The last ones go on with an expression, and with no target.

@@ -33,6 +33,7 @@ enum Block {
     Arm,
     Else,
     CaseArm,
+    For,
 }
 
 /// A word.
@@ -147,6 +148,7 @@ fn nest(alloc: Global, part: Block, inner: NormalStatement) -> Result<NormalStat
             })?;
             NormalStatement::Case(false, word(alloc)?, leaf(alloc)?, arms)
         }
+        Block::For => NormalStatement::For(word(alloc)?, leaf(alloc)?, leaf(alloc)?, inner),
     })
 }
 
@@ -212,10 +214,11 @@ fn both_sides(rt: HostRuntime) -> Result<(), Fail> {
 #[test]
 fn statements(rt: HostRuntime) -> Result<(), Fail> {
     let alloc = rt.alloc();
-    for part in [Block::Arm, Block::Else, Block::CaseArm] {
+    for part in [Block::Arm, Block::Else, Block::CaseArm, Block::For] {
         drop(nested(alloc, part, Block::Arm)?);
         drop(nested(alloc, part, Block::Else)?);
         drop(nested(alloc, part, Block::CaseArm)?);
+        drop(nested(alloc, part, Block::For)?);
     }
     Ok(())
 }

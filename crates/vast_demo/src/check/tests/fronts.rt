@@ -19,7 +19,7 @@ type Row = (
     &'static [Kind],
 );
 
-const ROWS: [Row; 15] = [
+const ROWS: [Row; 16] = [
     (
         "",
         "",
@@ -89,6 +89,13 @@ const ROWS: [Row; 15] = [
         false,
         &[Kind::Number],
         &[Kind::Word],
+    ),
+    (
+        "module m; initial begin for (genvar",
+        "module m; initial begin for (",
+        false,
+        &[Kind::Reserved(Key::Int)],
+        &[Kind::Reserved(Key::Genvar), Kind::Word],
     ),
     (
         "`include \"a.svh\" endmodule",

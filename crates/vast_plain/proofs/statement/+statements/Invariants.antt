@@ -23,6 +23,9 @@ decreases-is_plain_case l = height l.c.id.index + 3
 abbrev pub decreases-is_plain_case_arm : goal.decreases-is_plain_case_arm
 decreases-is_plain_case_arm l = height l.arm.block.id.index + 2
 
+abbrev pub decreases-is_plain_for : goal.decreases-is_plain_for
+decreases-is_plain_for l = height l.parts.now.block.id.index + 2
+
 abbrev pub invariant-is_plain_block-loop-statement : goal.invariant-is_plain_block-loop-statement
 invariant-is_plain_block-loop-statement l =
     are_plain_statements (block_tree (bench l.ast) l.fn.b)
