@@ -6,6 +6,7 @@ use crate::handle::{
     InlineVerilogStatement, Instantiation, LogicRef, MacroRef, MacroStatement, ModulePort,
     VastAlwaysBase, VastDataType, VastFunction, VastModule, VastStatement, VastStatementBlock,
 };
+use crate::typedef::Typedef;
 use vast_literal::{
     AlwaysKind, BinaryOperator, CaseKind, DataKind, ModulePortDirection, UnaryOperator,
 };
@@ -133,6 +134,7 @@ pub enum Member {
     Comment(Comment),
     /// The package whose declarations are imported.
     Import(Text),
+    Typedef(Typedef),
     Inline(InlineVerilogStatement),
     Macro(MacroStatement),
     Instantiation(Instantiation),
@@ -168,6 +170,7 @@ pub enum FileItem {
     Include(Text),
     /// The package whose declarations are imported.
     Import(Text),
+    Typedef(Typedef),
     Comment(Text),
     BlankLine,
 }
@@ -210,7 +213,8 @@ pub enum Artifact {
     MacroStatement(MacroRef, bool),
 }
 
-/// What an instantiation gives to a parameter or to a port of this name; an open port has no expression.
+/// What an instantiation gives to a parameter or to a port of this name; an open port has no expression. An entry of an
+/// enumeration with its value.
 #[derive(Drop)]
 pub struct Connection {
     pub name: Text,
