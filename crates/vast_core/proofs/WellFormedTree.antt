@@ -1,6 +1,6 @@
 -- The tree of every file is well formed: induction on what containers unfold to.
 use Rattle.std.proofs.Common.{◌≡◌, ℕ, zero, suc, ◌<◌, true, IsTrue, List, [], ◌∷◌, length, nat_lt, map, arith, Option, Some, None, slice_get, refl}
-use Rattle.std.specs.Prelude.{IfSome, All}
+use Rattle.std.specs.Prelude.{IfSome}
 use Rattle.std.specs.Cmp.Derive.{both_true}
 use Rattle.vast_literal.specs.Tree.{FileItemTree}
 use Rattle.vast_literal.specs.WellFormed.{is_well_formed_type}

@@ -6,8 +6,8 @@ use Rattle.vast_literal.specs.NormalExpr.{NormalExpr, Name, Binary, binary_opera
 use Rattle.vast_literal.specs.NormalFile.{NormalStatements, Group, Event, NormalConnection, AssignPart, EnumPart, InstancePart, NormalMembers}
 use Rattle.vast_literal.specs.Grammar.{Spells, binary, name}
 use Rattle.vast_literal.specs.FileGrammar.{IsMany, no_items, more_items, IsJoined, last_item, next_item, IsList, empty, full, IsStatements, is_kind, IsGroup, absent, present, no_type, IsDeclaration, declares, is_member_kind, is_local_kind, is_parameter_word, is_edge, IsEvent, edge, plain, IsInput, input, IsDeclared, declared, IsGiven, given, IsConnection, connected, unconnected, IsGivenList, no_parameters, with_parameters, IsSemicolon, with_one, without, IsLabel, no_label, labelled, IsEntry, valued, counted, IsField, field, IsTypedef, enumeration, structure, IsMember, declaration, continuous, parameter, macro, macro_with, import_member, typedef_member, instance, unclocked, clocked, conditional, function, loop, IsMembers, closed, and_member}
-use Rattle.vast_literal.specs.Plain.{is_plain_name, is_plain, is_plain_type, are_plain}
-use Rattle.vast_literal.specs.Shape.{right_child_wraps, base_of, base_kind, packed_dimensions, unpacked_dimensions, result_kind}
+use Rattle.vast_literal.specs.Plain.{is_plain_name, is_plain, are_plain}
+use Rattle.vast_literal.specs.Shape.{right_child_wraps, base_of, base_kind, result_kind}
 use Rattle.vast_literal.proofs.ExprTokens.{wrapped_tokens, expr_tokens}
 use Rattle.vast_literal.specs.WellFormed.{is_well_formed, is_well_formed_type}
 use Rattle.vast_literal.specs.NormalTree.{kind_key, package_of, type_name_of, sign_of, normal_declaration, normal_declared, normal_label, parameter_key, normal_parameter_name, normal_arguments, normal_macro, normal_connection, normal_event, normal_events, normal_always, normal_port_declaration, normal_function, normal_typedef, normal_member_before, normal_members}

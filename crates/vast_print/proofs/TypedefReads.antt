@@ -1,25 +1,24 @@
 -- Types that are declared by name have the tokens that the grammar reads.
 use Rattle.std.proofs.Common.{◌≡◌, List, [], ◌∷◌, ◌++◌, map, true, refl, append_assoc, codes}
 use Rattle.vast_literal.specs.Tokens.{key_text, Reserved, Mark, Word}
-use Rattle.vast_literal.specs.declared.token.Mark.TheVariants.{OpenBrace, CloseBrace, Semicolon}
+use Rattle.vast_literal.specs.declared.token.Mark.TheVariants.{OpenBrace, CloseBrace}
 use Rattle.vast_literal.specs.declared.token.Key.TheVariants.{Typedef as TypedefKey, Enum as EnumKey, Struct as StructKey, Packed as PackedKey}
 use Rattle.vast_literal.specs.Tree.{MaybeExpr, NoExpr, SomeExpr, TypeTree, Connection, TypedefTree, EnumTree, StructTree}
 use Rattle.vast_literal.specs.declared.kind.VastFileType.{VastFileType as Dialect}
 use Rattle.vast_literal.specs.Plain.{is_plain_name, is_plain_type}
-use Rattle.vast_literal.specs.PlainFile.{is_plain_maybe, is_plain_declaration, are_plain_connections, is_plain_typedef}
+use Rattle.vast_literal.specs.PlainFile.{is_plain_maybe, are_plain_connections, is_plain_typedef}
 use Rattle.vast_literal.specs.WellFormed.{is_well_formed_type}
 use Rattle.vast_literal.specs.WellFormedFile.{is_well_formed_maybe, are_well_formed_connections, is_well_formed_typedef}
 use Rattle.vast_literal.specs.NormalTree.{kind_key, sign_of}
 use Rattle.vast_literal.specs.Shape.{base_of, base_kind, packed_dimensions}
 use Rattle.vast_literal.specs.Scan.{scan}
-use Rattle.vast_literal.proofs.FileTokens.{maybe_tokens, type_name_tokens, packed_tokens, vector_tokens, separated, entry_value_tokens, each_entry, typedef_tokens}
+use Rattle.vast_literal.proofs.FileTokens.{maybe_tokens, type_name_tokens, packed_tokens, vector_tokens, entry_value_tokens, each_entry, typedef_tokens}
 use Rattle.vast_literal.proofs.TokenReads.{Free, Reads}
-use Rattle.vast_literal.proofs.ScanLaws.{and_left}
 use Rattle.vast_literal.proofs.Pieces.{as_reads, free_free, open_brace}
 use Rattle.vast_literal.proofs.Words.{name_reads}
 use Rattle.vast_print.proofs.FaultLaws.{halves}
-use Rattle.vast_print.specs.Members.{entries_page, entry_text, enum_text, typedef_page}
-use Rattle.vast_print.proofs.TextReads.{Prints, regrouped, stands, rest_none, after, after_free, closed, parted, goes_on, leftward}
+use Rattle.vast_print.specs.Members.{entry_text, enum_text, typedef_page}
+use Rattle.vast_print.proofs.TextReads.{Prints, stands, rest_none, after, after_free, closed, parted, goes_on}
 use Rattle.vast_print.proofs.ExprReads.{expr_reads}
 use Rattle.vast_print.proofs.DeclarationReads.{base_free, named_reads}
 use Rattle.vast_print.proofs.EntryReads.{AllRead, all_none, all_more, entries_whole}

@@ -9,7 +9,7 @@ use Rattle.vast_rows.specs.Events.{Event, Makes, Names}
 use Rattle.vast_rows.specs.Laws.{TraceBuilds, TraceIsOne}
 use Rattle.vast_rows.specs.Numbers.{Key}
 use Rattle.vast_rows.specs.Trace.{answer, trace_list, trace_statement, trace_statements, trace_arms, trace_labels, trace_group, trace_groups, trace_key, trace_package, trace_type, trace_named, trace_declaration, trace_declarations, trace_expressions, trace_arguments, trace_value, trace_connection, trace_connections, trace_event, trace_events, trace_label, trace_base, trace_member, trace_members, trace_parameter, trace_parameters, trace_port, trace_ports, trace_item, trace}
-use Rattle.vast_rows.specs.declared.action.Action.TheVariants.{KindOf, SignOf, Declares, Unnamed}
+use Rattle.vast_rows.specs.declared.action.Action.TheVariants.{KindOf, SignOf, Declares}
 use Rattle.vast_rows.specs.declared.action.Listed.{Listed}
 use Rattle.vast_rows.specs.declared.action.Listed.TheVariants as listed
 

@@ -1,9 +1,9 @@
 -- The rows of members, modules and files make what the typed relations say.
-use Rattle.std.proofs.Common.{[], ◌∷◌, Some, None, refl, append_assoc, append-nil}
+use Rattle.std.proofs.Common.{[], ◌∷◌, Some, refl, append_assoc, append-nil}
 use Rattle.vast_literal.specs.FileGrammar.{is_parameter_word, is_edge, no_items, more_items, empty, full, absent, present, edge, plain, input, declared, given, connected, unconnected, no_parameters, with_parameters, with_one, without, no_label, labelled, block_body, casez_body, valued, counted, field, enumeration, structure, declaration, continuous, parameter, macro, macro_with, import_member, typedef_member, instance, unclocked, clocked, conditional, function, loop, closed, and_member, header_parameter, port, no_header_parameters, header_parameters, no_ports, ports, module_item, include_item, import_item, typedef_item}
 use Rattle.vast_literal.specs.Grammar.{none, some, last, next}
 use Rattle.vast_literal.specs.NormalFile.{LoopPart}
-use Rattle.vast_literal.specs.Tokens.{Reserved, Mark}
+use Rattle.vast_literal.specs.Tokens.{Mark}
 use Rattle.vast_literal.specs.declared.kind.AlwaysKind.TheVariants.{AlwaysFF as AlwaysFFWord, AlwaysAt as AlwaysAtWord, AlwaysComb as AlwaysCombWord, AlwaysStar as AlwaysStarWord, AlwaysLatch as AlwaysLatchWord, Initial as InitialWord}
 use Rattle.vast_rows.specs.declared.rule.Rule.TheVariants.{File, FileItem, Parameters, Parameter, Ports, Port, ModuleMembers, LoopMembers, Member, Awaited, AnyMacro, MacroArguments, Expressions, MoreExpressions, LastSemicolon, GivenList, Given, Connections, Connection, Connected, Events, OneEvent, Inputs, Input, Locals, Local, FunctionBody, LoopLabel, Typedef, TypeForm, BaseSign, BaseGroups, Entries, Entry, EntryValue, Fields, Field}
 use Rattle.vast_rows.specs.Numbers.{CloseParen, ParameterKey, LocalparamKey, PosedgeKey, NegedgeKey, EndModuleKey, EndKey}
