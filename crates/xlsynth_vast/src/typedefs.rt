@@ -37,13 +37,13 @@ impl VastFile {
     }
 
     /// A packed structure of these fields, which stands nowhere yet.
-    fn structure(&self, name: &str, fields: &[&Def]) -> Result<Typedef, AllocError>
-        requires { All (λ d. OwnsDef self.now d.now) fields.now }
-        ensures is { IfOk result (λ t. t ≡ StructType name.now (map (λ d. d.now) fields.now)) }
+    fn structure(&self, name: &str, fields: &[Def]) -> Result<Typedef, AllocError>
+        requires { All (OwnsDef self.now) fields.now }
+        ensures is { IfOk result (λ t. t ≡ StructType name.now fields.now) }
         ensures sound { IfOk result (λ t. TypedefSound self.now t) }
     {
         let alloc = self.ast.allocator();
-        let fields: Vec<Def> = fields.iter().map(|d| **d).collect(alloc)?;
+        let fields: Vec<Def> = fields.iter().copied().collect(alloc)?;
         Typedef::structure(alloc, name, fields)
     }
 
@@ -82,12 +82,12 @@ impl VastFile {
         &mut self,
         owner: VastModule,
         name: &str,
-        fields: &[&Def],
+        fields: &[Def],
     ) -> Result<VastDataType, AllocError>
         requires owner { OwnsModule self.old owner }
-        requires fields { All (λ d. OwnsDef self.old d.now) fields.now }
+        requires fields { All (OwnsDef self.old) fields.now }
         ensures built { Builds self.old self.new result next_type
-            (with_typedef owner (StructType name.now (map (λ d. d.now) fields.now))) }
+            (with_typedef owner (StructType name.now fields.now)) }
         ensures kept { Keeps self.old self.new }
     {
         let typedef = self.structure(name, fields)?;
@@ -125,11 +125,11 @@ impl VastFile {
     pub fn add_file_struct_typedef(
         &mut self,
         name: &str,
-        fields: &[&Def],
+        fields: &[Def],
     ) -> Result<VastDataType, AllocError>
-        requires { All (λ d. OwnsDef self.old d.now) fields.now }
+        requires { All (OwnsDef self.old) fields.now }
         ensures built { Builds self.old self.new result next_type
-            (with_file_typedef (StructType name.now (map (λ d. d.now) fields.now))) }
+            (with_file_typedef (StructType name.now fields.now)) }
         ensures kept { Keeps self.old self.new }
     {
         let typedef = self.structure(name, fields)?;
