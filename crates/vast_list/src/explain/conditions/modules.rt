@@ -28,7 +28,7 @@ pub(crate) fn module_condition(
 }
 
 fn entries_condition(file: &VastFile, names: usize, values: usize) -> Result<String, AllocError> {
-    format!(in file.allocator(); "entries: {names} names, {values} values (one or `-` each)")
+    format!(in file.allocator(); "entries: {names} names, {values} values; each name has one")
 }
 
 fn name_taken(file: &VastFile, name: &str) -> Result<String, AllocError> {
