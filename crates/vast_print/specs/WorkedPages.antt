@@ -68,8 +68,11 @@ pub record WorkedPages : Type 0 where
       (record { name = codes "IDLE"; value = SomeExpr (number (codes "2'd0") (pos 0)) } ∷ record { name = codes "BUSY"; value = NoExpr } ∷ []))))
       ≡ codes "typedef enum logic [1:0] {\n  IDLE = 2'd0,\n  BUSY\n} state_t;\n"
   pub structure :
-      print (layout (record { dialect = SystemVerilogDialect; items = TypedefItem (StructTree (codes "word_t")
-      (record { kind = LogicKind; type = ScalarTree false; name = codes "valid" } ∷ record { kind = LogicKind; type = bits 8 false (codes "8"); name = codes "data" } ∷ [])) ∷ [] }))
+      print (layout (record {
+        dialect = SystemVerilogDialect;
+        items = TypedefItem (StructTree (codes "word_t")
+            (record { kind = LogicKind; type = ScalarTree false; name = codes "valid" } ∷ record { kind = LogicKind; type = bits 8 false (codes "8"); name = codes "data" } ∷ [])) ∷ [];
+      }))
       ≡ codes "typedef struct packed {\n  logic valid;\n  logic [7:0] data;\n} word_t;\n"
   -- Items stand on lines of their own; a comment has its mark before each of its lines.
   pub file_items :

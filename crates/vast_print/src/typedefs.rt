@@ -87,7 +87,13 @@ fn print_field(ast: &Ast, field: Def, out: &mut Writer) -> Result<(), PrintFault
 {
     let declared = ast.definition(field);
     out.next()?;
-    print_declaration(ast, declared.kind, declared.data_type, declared.name.as_str(), out)?;
+    print_declaration(
+        ast,
+        declared.kind,
+        declared.data_type,
+        declared.name.as_str(),
+        out,
+    )?;
     out.word(";")?;
     Ok(())
 }
