@@ -62,6 +62,15 @@ static inline void vast_call_optional_expressions(vast_file *file,
     vast_call_bracket(file, "]");
 }
 
+static inline void vast_call_definitions(vast_file *file, const vast_definition *given,
+                                         size_t count)
+{
+    vast_call_items(file, count);
+    for (size_t at = 0; at < count; at++)
+        vast_call_handle(file, given[at].id);
+    vast_call_bracket(file, "]");
+}
+
 static inline void vast_call_reset(vast_file *file, vast_reset given)
 {
     vast_call_bracket(file, "[");
@@ -1040,6 +1049,64 @@ static inline int32_t vast_add_file_import(vast_file *file, vast_string package)
     vast_call_begin(file, "AddFileImport", 339);
     vast_call_text(file, package);
     return vast_call_make(file, NULL);
+}
+
+/* `typedef enum`, as the module's last member, and the type of its name.
+ * VAST_CONDITION unless: as many values as names. */
+static inline int32_t vast_add_enum_typedef(vast_file *file, vast_module owner, vast_string name,
+                                            vast_type data_type, const vast_string *names,
+                                            size_t names_count,
+                                            const vast_expression *const *values,
+                                            size_t values_count, vast_type *made)
+{
+    vast_call_begin(file, "AddEnumTypedef", 355);
+    vast_call_handle(file, owner.id);
+    vast_call_text(file, name);
+    vast_call_handle(file, data_type.id);
+    vast_call_texts(file, names, names_count);
+    vast_call_optional_expressions(file, values, values_count);
+    return vast_call_make(file, made == NULL ? NULL : &made->id);
+}
+
+/* `typedef struct packed`, as the module's last member, and the type of its name. */
+static inline int32_t vast_add_struct_typedef(vast_file *file, vast_module owner, vast_string name,
+                                              const vast_definition *fields, size_t fields_count,
+                                              vast_type *made)
+{
+    vast_call_begin(file, "AddStructTypedef", 371);
+    vast_call_handle(file, owner.id);
+    vast_call_text(file, name);
+    vast_call_definitions(file, fields, fields_count);
+    return vast_call_make(file, made == NULL ? NULL : &made->id);
+}
+
+/* `typedef enum`, as the last item of the file, and the type of its name, as
+ * `vast_add_enum_typedef` in a module.
+ * VAST_CONDITION unless: as many values as names. */
+static inline int32_t vast_add_file_enum_typedef(vast_file *file, vast_string name,
+                                                 vast_type data_type, const vast_string *names,
+                                                 size_t names_count,
+                                                 const vast_expression *const *values,
+                                                 size_t values_count, vast_type *made)
+{
+    vast_call_begin(file, "AddFileEnumTypedef", 387);
+    vast_call_text(file, name);
+    vast_call_handle(file, data_type.id);
+    vast_call_texts(file, names, names_count);
+    vast_call_optional_expressions(file, values, values_count);
+    return vast_call_make(file, made == NULL ? NULL : &made->id);
+}
+
+/* `typedef struct packed`, as the last item of the file, and the type of its name, as
+ * `vast_add_struct_typedef` in a module. */
+static inline int32_t vast_add_file_struct_typedef(vast_file *file, vast_string name,
+                                                   const vast_definition *fields,
+                                                   size_t fields_count, vast_type *made)
+{
+    vast_call_begin(file, "AddFileStructTypedef", 403);
+    vast_call_text(file, name);
+    vast_call_definitions(file, fields, fields_count);
+    return vast_call_make(file, made == NULL ? NULL : &made->id);
 }
 
 /* Loops */

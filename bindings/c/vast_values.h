@@ -1017,6 +1017,60 @@ static inline void v_add_file_import(vast_file *file, const char *package)
         file->fault = vast_add_file_import(file, vast_str(package));
 }
 
+/* `vast_add_enum_typedef`: `typedef enum`, as the module's last member, and the type of its
+ * name. */
+static inline vast_type v_add_enum_typedef(vast_file *file, vast_module owner, const char *name,
+                                           vast_type data_type, const vast_string *names,
+                                           size_t names_count, const vast_expression *const *values,
+                                           size_t values_count)
+{
+    vast_type answer = {{0, 0}};
+    if (file->fault == VAST_OK)
+        file->fault = vast_add_enum_typedef(file, owner, vast_str(name), data_type, names,
+                                            names_count, values, values_count, &answer);
+    return answer;
+}
+
+/* `vast_add_struct_typedef`: `typedef struct packed`, as the module's last member, and the type
+ * of its name. */
+static inline vast_type v_add_struct_typedef(vast_file *file, vast_module owner, const char *name,
+                                             const vast_definition *fields, size_t fields_count)
+{
+    vast_type answer = {{0, 0}};
+    if (file->fault == VAST_OK)
+        file->fault = vast_add_struct_typedef(file, owner, vast_str(name), fields, fields_count,
+                                              &answer);
+    return answer;
+}
+
+/* `vast_add_file_enum_typedef`: `typedef enum`, as the last item of the file, and the type of
+ * its name, as `vast_add_enum_typedef` in a module. */
+static inline vast_type v_add_file_enum_typedef(vast_file *file, const char *name,
+                                                vast_type data_type, const vast_string *names,
+                                                size_t names_count,
+                                                const vast_expression *const *values,
+                                                size_t values_count)
+{
+    vast_type answer = {{0, 0}};
+    if (file->fault == VAST_OK)
+        file->fault = vast_add_file_enum_typedef(file, vast_str(name), data_type, names,
+                                                 names_count, values, values_count, &answer);
+    return answer;
+}
+
+/* `vast_add_file_struct_typedef`: `typedef struct packed`, as the last item of the file, and the
+ * type of its name, as `vast_add_struct_typedef` in a module. */
+static inline vast_type v_add_file_struct_typedef(vast_file *file, const char *name,
+                                                  const vast_definition *fields,
+                                                  size_t fields_count)
+{
+    vast_type answer = {{0, 0}};
+    if (file->fault == VAST_OK)
+        file->fault = vast_add_file_struct_typedef(file, vast_str(name), fields, fields_count,
+                                                   &answer);
+    return answer;
+}
+
 /* `vast_add_generate_loop`: a generate loop without members, as the module's last member. */
 static inline vast_loop v_add_generate_loop(vast_file *file, vast_module owner, const char *name,
                                             vast_expression start, vast_expression end,

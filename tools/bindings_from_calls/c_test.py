@@ -124,6 +124,8 @@ class Program:
     def has(self, call, parameter):
         """Whether what stands for the parameter is there."""
         form = parameter.type.form
+        if is_definitions(parameter.type):
+            return "definition" in self.numbers
         if form in ("list", "optional"):
             return parameter.type.of.form not in ("handle", "group", "optional") or bool(self.gathered)
         return form != "handle" or self.field(call, parameter) is not None
@@ -207,6 +209,8 @@ class Program:
     def many(self, type):
         """A list or an option in C, and as lists have it."""
         signal, value = self.numbers.get("signal"), self.numbers.get("expression")
+        if is_definitions(type):
+            return "&have->definition, 1", f"[ {self.numbers['definition']} ]"
         rows = f"[ {signal} {value} + {signal} - ] [ {signal} {value} - + {signal} ]"
         return {
             ("list", "handle"): ("have->expressions, 2", f"[ {signal} {signal} ]"),
@@ -246,6 +250,11 @@ class ValueProgram(Program):
     def text(self, text):
         """See `Program`."""
         return c_string(text)
+
+
+def is_definitions(type):
+    """Whether it is a list of definitions."""
+    return type.form == "list" and type.of.form == "handle" and type.of.of == "definition"
 
 
 def value_of(call, parameter):

@@ -121,6 +121,8 @@ class PythonBinding:
 
     def writer(self, type):
         """The function that writes such an argument within a list, an optional or a group."""
+        if type.form == "handle" and type.of != "expression":
+            return f"lambda given: self._own(given, {self.classes(type.of)}).step"
         if type.form == "handle":
             return "self._value_step"
         if type.form == "integer":

@@ -54,6 +54,7 @@ CONDITIONS = {
     "is_castable (type_of data_type)": "`type_can_be_cast`",
     "is_packable (type_of element)": "`type_can_be_packed`",
     "length connection_names ≡ length connection_expressions": "as many connections as their names",
+    "length names ≡ length values": "as many values as names",
     "length parameter_names ≡ length parameter_expressions": "as many parameters as their names",
     "name ≢ []": "name not empty",
     "start ≤ length (members_in owner)": "start at most `module_member_count`",

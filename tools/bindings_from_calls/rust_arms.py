@@ -9,7 +9,7 @@ CALLS_HEAD = '''//! One arm for each call of a list.
 
 use crate::answers::{format_of, kind_of, Answer, Answers, Fault};
 use crate::form::{Argument, Line};
-use xlsynth_vast::{Expr, VastFile, VastFileExtension};
+use xlsynth_vast::{Def, Expr, VastFile, VastFileExtension};
 
 /// Makes the call of the line.
 pub fn make(file: &mut VastFile, answers: &Answers, line: &Line) -> Result<Answer, Fault> {
@@ -44,6 +44,8 @@ def test_argument(place, name, kind, form):
         return f"let {name}: Vec<i64> = words[{place}].list().iter().map(Argument::number).collect();", f"&{name}"
     if kind == "&[&str]":
         return f"let {name}: Vec<&str> = words[{place}].list().iter().map(Argument::text).collect();", f"&{name}"
+    if kind == "&[Def]":
+        return f"let {name}: Vec<Def> = answers.handles({word})?;", f"&{name}"
     if kind == "&[&Expr]":
         return (f"let {name}: Vec<Expr> = answers.handles({word})?;\n"
                 f"let {name}: Vec<&Expr> = {name}.iter().collect();"), f"&{name}"

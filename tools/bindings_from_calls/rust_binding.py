@@ -47,6 +47,7 @@ TELLS = {
     # Asserted before.
     "length parameter_names ≡ length parameter_expressions": "true",
     "length connection_names ≡ length connection_expressions": "true",
+    "length names ≡ length values": "true",
     REFUSALS["make_literal"]: "is_small_literal(text)",
     REFUSALS["make_binary_pattern"]: "is_pattern(bits_msb)",
     REFUSALS["case_set_unique"]: "!unique || self.file_type == VastFileType::SystemVerilog",
@@ -79,8 +80,13 @@ WIDTHS = {
 # Calls that answer a handle of the block which they are given, as the original's do.
 BLOCK_ANSWERS = {"block_add_comment_text", "block_add_blank_line", "block_add_inline_text"}
 
+# What is said of an enumeration's entries.
+ENTRIES = [("names", "values", "enumeration entry names and values must have equal lengths")]
+
 # Calls with lists that go by pairs, and what the original says of other lengths.
 PAIRS = {
+    "add_enum_typedef": ENTRIES,
+    "add_file_enum_typedef": ENTRIES,
     "make_instantiation": [
         ("parameter_names", "parameter_expressions",
          "module-instantiation parameter names and values must have equal lengths"),
@@ -112,7 +118,8 @@ GROUPS = {
 # Calls that the original has none of, which are those of a trait: what it has stays its own. `make_name` and
 # `block_add_casex` came before the trait.
 OWN = {"make_packed_array_type_expr", "make_unpacked_array_type_expr", "block_add_task_call", "block_add_for", "make_member",
-       "add_import", "add_file_import"} | {
+       "add_import", "add_file_import",
+       "add_enum_typedef", "add_struct_typedef", "add_file_enum_typedef", "add_file_struct_typedef"} | {
     f"{scope}add_{block}"
     for scope in ("", "generate_")
     for block in ("always_star", "always_latch", "initial")
@@ -192,6 +199,8 @@ def argument(name, kind, form):
         return f"let {name}_steps = self.own_all({name});", f".steps(&{name}_steps)"
     if kind == "&[Option<&Expr>]":
         return f"let {name}_steps = self.own_any({name});", f".optional_steps(&{name}_steps)"
+    if kind == "&[Def]":
+        return f"let {name}_steps = self.own_definitions({name});", f".steps(&{name}_steps)"
     raise SystemExit(f"no argument of a call is known for {name}: {kind}")
 
 

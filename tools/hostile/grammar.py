@@ -190,12 +190,36 @@ class Reader:
                 self.need_kind("string")
             elif self.take("import"):
                 self.imported()
+            elif self.take("typedef"):
+                self.typed()
             else:
                 self.module()
 
     def imported(self):
         self.need_kind("name")
         self.need("::", "*", ";")
+
+    def typed(self):
+        if self.take("enum"):
+            if not self.take("reg", "wire", "logic", "integer", "int", "genvar"):
+                raise NoFile
+            self.sign_and_groups()
+            self.need("{")
+            self.joined_until(self.entry, "}")
+            self.need_kind("name")
+            self.groups()
+        else:
+            self.need("struct", "packed", "{")
+            while not self.take("}"):
+                self.declaration()
+                self.need(";")
+            self.need_kind("name")
+        self.need(";")
+
+    def entry(self):
+        self.need_kind("name")
+        if self.take("="):
+            self.expression()
 
     def module(self):
         self.need("module")
@@ -272,6 +296,8 @@ class Reader:
             self.function()
         elif self.take("import"):
             self.imported()
+        elif self.take("typedef"):
+            self.typed()
         elif self.sees("assign", "if"):
             self.statement()
         elif self.take("for"):

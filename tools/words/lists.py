@@ -14,6 +14,7 @@ REFUSED = [
     (HEAD + 'n = MakeNot a\nAddAlwaysFf m [ n ]\n', '6: AddAlwaysFf: Unsupported expression type passed to sensitivity list for always_ff at index 0. Only posedge, negedge, or logic-reference expressions are supported.'),
     (HEAD + 'x = AddAlwaysComb m\nb = StatementBlock x\nc = BlockAddCond b a\nConditionalAddElse c\nConditionalAddElse c\n', '9: ConditionalAddElse: the conditional has an `else` already'),
     ('i = MakeInstantiation "c" "u" [ ] [ ] [ "a" ] [ ]\n', '2: MakeInstantiation: ports: 1 names, 0 connections; each name has one'),
+    (HEAD + 't = AddEnumTypedef m "t" bit [ "A" ] [ ]\n', '5: AddEnumTypedef: entries: 1 names, 0 values; each name has one'),
     (HEAD + 'o = AddOutput m "o" bit\ni = MakeIndex a 3\nc = MakeContinuousAssignment o i\nAddMemberContinuousAssignment m c\n', '6: a scalar signal can only be indexed with zero'),
     ('MakeNot 0\n', '2: MakeNot: no such answer: expression is `0`, and no step or helper before this line has that number'),
     ('m = AddModule "m"\nHoistModuleDeclarations m 1\n', '3: HoistModuleDeclarations: the start is 1, and the module has 0 members'),

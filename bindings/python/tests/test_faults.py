@@ -217,6 +217,8 @@ class Conditions(FileTest):
         self.asks(file, file.conditional_add_else_if, conditional, 1)
         self.asks(file, file.make_instantiation, "a", "b", ["P"], [], [], [])
         self.asks(file, file.make_instantiation, "a", "b", [], [], ["p"], [])
+        self.asks(file, file.add_enum_typedef, module, "t", 1, ["A"], [])
+        self.asks(file, file.add_file_enum_typedef, "t", 1, [], [None])
 
     @over_each()
     def test_handles_of_other_files(self, file):

@@ -21,6 +21,36 @@ class Items(FileTest):
         self.assert_file(file, "import p::*;", "module m;", "  import q::*;", "endmodule")
 
     @over_each()
+    def test_types_declared_by_name(self, file):
+        bit = file.make_scalar_type()
+        state = file.add_file_enum_typedef("state_t", 2, ["IDLE", "BUSY"], [0, None])
+        fields = [file.make_def("valid", DataKind.LOGIC, bit), file.make_def("at", DataKind.USER, state)]
+        file.add_file_struct_typedef("word_t", fields)
+        module = file.add_module("m")
+        module.add_enum_typedef("way_t", bit, ["UP", "DOWN"], [None, 0])
+        module.add_struct_typedef("bit_t", fields[:1])
+        self.assert_file(
+            file,
+            "typedef enum logic [1:0] {",
+            "  IDLE = 0,",
+            "  BUSY",
+            "} state_t;",
+            "typedef struct packed {",
+            "  logic valid;",
+            "  state_t at;",
+            "} word_t;",
+            "module m;",
+            "  typedef enum logic {",
+            "    UP,",
+            "    DOWN = 0",
+            "  } way_t;",
+            "  typedef struct packed {",
+            "    logic valid;",
+            "  } bit_t;",
+            "endmodule",
+        )
+
+    @over_each()
     def test_ports(self, file):
         module = file.add_module("m")
         byte = file.make_bit_vector_type(8)

@@ -822,6 +822,68 @@ class Calls(Core):
         """`import PACKAGE::*;`, as the last item of the file."""
         self._later(f"AddFileImport {quoted(package)}")
 
+    def add_enum_typedef(
+        self,
+        owner: Module,
+        name: str,
+        data_type: TypeLike,
+        names: Sequence[str],
+        values: Sequence[Optional[Operand]],
+    ) -> DataType:
+        """`typedef enum`, as the module's last member, and the type of its name.
+
+        Raises `Condition` unless: as many values as names.
+        """
+        if not (isinstance(owner, Module) and owner.file is self):
+            owner = self._own(owner, Module)
+        if not (isinstance(data_type, DataType) and data_type.file is self):
+            data_type = self._type(data_type)
+        return self._now(
+            f"AddEnumTypedef {owner.step} {quoted(name)} {data_type.step} {listed(quoted, names)}"
+            f" {listed(lambda given: optional(self._value_step, given), values)}",
+            DataType,
+        )
+
+    def add_struct_typedef(self, owner: Module, name: str, fields: Sequence[Def]) -> DataType:
+        """`typedef struct packed`, as the module's last member, and the type of its name."""
+        if not (isinstance(owner, Module) and owner.file is self):
+            owner = self._own(owner, Module)
+        return self._later(
+            f"AddStructTypedef {owner.step} {quoted(name)}"
+            f" {listed(lambda given: self._own(given, Def).step, fields)}",
+            DataType,
+        )
+
+    def add_file_enum_typedef(
+        self,
+        name: str,
+        data_type: TypeLike,
+        names: Sequence[str],
+        values: Sequence[Optional[Operand]],
+    ) -> DataType:
+        """`typedef enum`, as the last item of the file, and the type of its name, as
+        `add_enum_typedef` in a module.
+
+        Raises `Condition` unless: as many values as names.
+        """
+        if not (isinstance(data_type, DataType) and data_type.file is self):
+            data_type = self._type(data_type)
+        return self._now(
+            f"AddFileEnumTypedef {quoted(name)} {data_type.step} {listed(quoted, names)}"
+            f" {listed(lambda given: optional(self._value_step, given), values)}",
+            DataType,
+        )
+
+    def add_file_struct_typedef(self, name: str, fields: Sequence[Def]) -> DataType:
+        """`typedef struct packed`, as the last item of the file, and the type of its name, as
+        `add_struct_typedef` in a module.
+        """
+        return self._later(
+            f"AddFileStructTypedef {quoted(name)}"
+            f" {listed(lambda given: self._own(given, Def).step, fields)}",
+            DataType,
+        )
+
     def add_generate_loop(
         self,
         owner: Module,

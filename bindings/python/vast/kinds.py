@@ -376,6 +376,24 @@ class Module(ModuleWords):
         """`File.add_import`: `import PACKAGE::*;`, as the module's last member."""
         return self.file.add_import(self, package)
 
+    def add_enum_typedef(
+        self,
+        name: str,
+        data_type: TypeLike,
+        names: Sequence[str],
+        values: Sequence[Optional[Operand]],
+    ) -> DataType:
+        """`File.add_enum_typedef`: `typedef enum`, as the module's last member, and the type of its
+        name.
+        """
+        return self.file.add_enum_typedef(self, name, data_type, names, values)
+
+    def add_struct_typedef(self, name: str, fields: Sequence[Def]) -> DataType:
+        """`File.add_struct_typedef`: `typedef struct packed`, as the module's last member, and the
+        type of its name.
+        """
+        return self.file.add_struct_typedef(self, name, fields)
+
     def add_generate_loop(
         self,
         name: str,

@@ -6,7 +6,7 @@ use crate::calls::Call;
 use crate::error::VastError;
 use crate::file::VastFile;
 use crate::handles::{
-    Expr, GenerateLoop, VastAlwaysBase, VastDataType, VastModule, VastStatementBlock,
+    Def, Expr, GenerateLoop, VastAlwaysBase, VastDataType, VastModule, VastStatementBlock,
 };
 use crate::known::Width;
 
@@ -44,6 +44,42 @@ pub trait VastFileExtension {
 
     /// `import PACKAGE::*;`, as the last item of the file.
     fn add_file_import(&mut self, package: &str);
+
+    /// `typedef enum`, as the module's last member, and the type of its name: an enumeration over the type,
+    /// with an entry for each name, each with a value or none. The names are not taken in the module.
+    ///
+    /// # Panics
+    /// Where a condition of the call isn't met, with its words.
+    fn add_enum_typedef(
+        &mut self,
+        owner: VastModule,
+        name: &str,
+        data_type: &VastDataType,
+        names: &[&str],
+        values: &[Option<&Expr>],
+    ) -> VastDataType;
+
+    /// `typedef struct packed`, as the module's last member, and the type of its name: a field for each
+    /// definition, with its kind, type and name. The type's name is not taken in the module.
+    fn add_struct_typedef(&mut self, owner: VastModule, name: &str, fields: &[Def])
+        -> VastDataType;
+
+    /// `typedef enum`, as the last item of the file, and the type of its name, as
+    /// [`VastFile::add_enum_typedef`] in a module.
+    ///
+    /// # Panics
+    /// Where a condition of the call isn't met, with its words.
+    fn add_file_enum_typedef(
+        &mut self,
+        name: &str,
+        data_type: &VastDataType,
+        names: &[&str],
+        values: &[Option<&Expr>],
+    ) -> VastDataType;
+
+    /// `typedef struct packed`, as the last item of the file, and the type of its name, as
+    /// [`VastFile::add_struct_typedef`] in a module.
+    fn add_file_struct_typedef(&mut self, name: &str, fields: &[Def]) -> VastDataType;
 
     /// An `always @*` with an empty block, as the loop's last member.
     ///
@@ -148,6 +184,75 @@ impl VastFileExtension for VastFile {
 
     fn add_file_import(&mut self, package: &str) {
         self.later(Call::AddFileImport, |calls| calls.text(package));
+    }
+
+    fn add_enum_typedef(
+        &mut self,
+        owner: VastModule,
+        name: &str,
+        data_type: &VastDataType,
+        names: &[&str],
+        values: &[Option<&Expr>],
+    ) -> VastDataType {
+        assert_eq!(
+            names.len(),
+            values.len(),
+            "enumeration entry names and values must have equal lengths"
+        );
+        let owner_step = self.own(owner.0);
+        let data_type_step = self.own(data_type.0);
+        let values_steps = self.own_any(values);
+        VastDataType(self.later(Call::AddEnumTypedef, |calls| {
+            calls
+                .step(owner_step)
+                .text(name)
+                .step(data_type_step)
+                .texts(names)
+                .optional_steps(&values_steps)
+        }))
+    }
+
+    fn add_struct_typedef(
+        &mut self,
+        owner: VastModule,
+        name: &str,
+        fields: &[Def],
+    ) -> VastDataType {
+        let owner_step = self.own(owner.0);
+        let fields_steps = self.own_definitions(fields);
+        VastDataType(self.later(Call::AddStructTypedef, |calls| {
+            calls.step(owner_step).text(name).steps(&fields_steps)
+        }))
+    }
+
+    fn add_file_enum_typedef(
+        &mut self,
+        name: &str,
+        data_type: &VastDataType,
+        names: &[&str],
+        values: &[Option<&Expr>],
+    ) -> VastDataType {
+        assert_eq!(
+            names.len(),
+            values.len(),
+            "enumeration entry names and values must have equal lengths"
+        );
+        let data_type_step = self.own(data_type.0);
+        let values_steps = self.own_any(values);
+        VastDataType(self.later(Call::AddFileEnumTypedef, |calls| {
+            calls
+                .text(name)
+                .step(data_type_step)
+                .texts(names)
+                .optional_steps(&values_steps)
+        }))
+    }
+
+    fn add_file_struct_typedef(&mut self, name: &str, fields: &[Def]) -> VastDataType {
+        let fields_steps = self.own_definitions(fields);
+        VastDataType(self.later(Call::AddFileStructTypedef, |calls| {
+            calls.text(name).steps(&fields_steps)
+        }))
     }
 
     fn generate_add_always_star(

@@ -2,7 +2,7 @@
 
 use crate::calls::Call;
 use crate::error::VastError;
-use crate::handles::{Expr, Id, IndexableExpr};
+use crate::handles::{Def, Expr, Id, IndexableExpr};
 use crate::kinds::{ModulePortDirection, VastFileType};
 use crate::known::{Known, Port, Width};
 use crate::packed::Calls;
@@ -120,6 +120,14 @@ impl VastFile {
         expressions
             .iter()
             .map(|expression| self.own(expression.0))
+            .collect()
+    }
+
+    /// The steps of the definitions' handles.
+    pub(crate) fn own_definitions(&self, definitions: &[Def]) -> Vec<usize> {
+        definitions
+            .iter()
+            .map(|definition| self.own(definition.0))
             .collect()
     }
 

@@ -11,7 +11,7 @@ pub(crate) struct Row(
     pub(crate) &'static [Form],
 );
 
-pub(crate) static ROWS: [Row; 181] = [
+pub(crate) static ROWS: [Row; 185] = [
     Row(0, "MakeNot", &[Step]),
     Row(16, "MakeBitwiseNot", &[Step]),
     Row(32, "MakeNegate", &[Step]),
@@ -122,6 +122,18 @@ pub(crate) static ROWS: [Row; 181] = [
     Row(307, "HoistModuleDeclarations", &[Step, Count]),
     Row(323, "AddImport", &[Step, Text]),
     Row(339, "AddFileImport", &[Text]),
+    Row(
+        355,
+        "AddEnumTypedef",
+        &[Step, Text, Step, List(&Text), List(&Optional(&Step))],
+    ),
+    Row(371, "AddStructTypedef", &[Step, Text, List(&Step)]),
+    Row(
+        387,
+        "AddFileEnumTypedef",
+        &[Text, Step, List(&Text), List(&Optional(&Step))],
+    ),
+    Row(403, "AddFileStructTypedef", &[Text, List(&Step)]),
     Row(
         4,
         "AddGenerateLoop",

@@ -8,7 +8,7 @@ use vast_rows::{Kind, Next};
 type Word = (Kind, &'static str, &'static [&'static str]);
 
 /// The kinds that are looked for, in the order in which they are told.
-static WORDS: [Word; 51] = [
+static WORDS: [Word; 55] = [
     (Kind::Reserved(Key::AlwaysComb), "a member", &[]),
     (Kind::Reserved(Key::Case), "a statement", &[]),
     (Kind::SystemWord, "a value", &["a statement"]),
@@ -53,6 +53,7 @@ static WORDS: [Word; 51] = [
         &["a member", "a statement", "a value"],
     ),
     (Kind::Reserved(Key::Import), "import", &["a member"]),
+    (Kind::Reserved(Key::Typedef), "typedef", &["a member"]),
     (Kind::Reserved(Key::Begin), "begin", &[]),
     (Kind::Reserved(Key::Else), "else", &[]),
     (Kind::Reserved(Key::If), "if", &["a member", "a statement"]),
@@ -78,6 +79,9 @@ static WORDS: [Word; 51] = [
         &["a kind", "a statement", "a value"],
     ),
     (Kind::Reserved(Key::Automatic), "automatic", &[]),
+    (Kind::Reserved(Key::Enum), "enum", &[]),
+    (Kind::Reserved(Key::Struct), "struct", &[]),
+    (Kind::Reserved(Key::Packed), "packed", &[]),
     (Kind::Reserved(Key::Or), "or", &[]),
     (Kind::Mark(Mark::Dot), "'.'", &["an operator"]),
     (Kind::Mark(Mark::Hash), "'#'", &[]),

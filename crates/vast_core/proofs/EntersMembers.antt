@@ -1,7 +1,8 @@
 -- What calls that add always blocks, loops, conditionals and functions know: what comes, and the member that names it,
 -- are the file's.
 use Rattle.std.proofs.Common.{◌≡◌, ℕ, false, List, [], ◌∷◌, length, Option, Some, All, refl, arith, length-append}
-use Rattle.std.specs.Prelude.{IfSome}
+use Rattle.std.specs.Prelude.{IfSome, String}
+use Rattle.std.specs.declared.alloc.Global.{Global}
 use Rattle.vast_literal.specs.Tree.{NameTree, MaybeType, Untyped, Typed}
 use Rattle.vast_core.specs.Handles.{Expr, VastModule, VastDataType, LogicRef, VastFunction, VastStatementBlock}
 use Rattle.vast_literal.specs.declared.kind.AlwaysKind.{AlwaysKind}
@@ -14,7 +15,7 @@ use Rattle.vast_core.specs.Sound.{EventSound}
 use Rattle.vast_core.specs.Containers.{next_block}
 use Rattle.vast_core.specs.Internal.Containers.{after_growth, MembersGain, InModule, with_fresh, GrowthSound, FreshSound}
 use Rattle.vast_core.specs.Loops.{with_function, next_always, next_loop, next_function, new_always, with_always, new_loop, new_function}
-use Rattle.vast_core.proofs.Loops.{fresh_always, fresh_name, fresh_loop, fresh_function}
+use Rattle.vast_core.proofs.Loops.{fresh_always, fresh_name, fresh_type, fresh_loop, fresh_function}
 use Rattle.vast_core.proofs.Lists.{slice_get-seam, Each-own}
 use Rattle.vast_core.proofs.NodeLaws.{Extends-root, HasExpr-kept, HasType-kept}
 use Rattle.vast_core.proofs.Terms.{last-test}
@@ -69,6 +70,9 @@ loop-comes b variable name start end label h k =
 
 pub name-comes : (b : Bench) (name : List ℕ) (type : Option VastDataType) → IfSome type (OwnsType b) → FreshSound b (with_fresh (fresh_name name type) b) (fresh_name name type)
 name-comes b name type h = record { terms = (h, tt, tt); port = tt; fresh_module = tt; definition = tt; artifact = tt; instance = tt; assignment = tt; container = tt; function = tt; always_block = tt }
+
+pub type-comes : (b : Bench) (name : String Global) → FreshSound b (with_fresh (fresh_type name) b) (fresh_type name)
+type-comes b name = record { terms = (tt, tt, tt); port = tt; fresh_module = tt; definition = tt; artifact = tt; instance = tt; assignment = tt; container = tt; function = tt; always_block = tt }
 
 pub next_continuous_owned : (b : Bench) (lhs rhs : Expr) → OwnsContinuous (with_assignment (record { lhs = lhs; rhs = rhs; nonblocking = false }) b) (next_continuous b)
 next_continuous_owned b lhs rhs = record { of_file = refl; of_kind = rw (slice_get-seam b.assignments (record { lhs = lhs; rhs = rhs; nonblocking = false })) refl }

@@ -1,27 +1,28 @@
 -- What calls know that make a record, or that add to a file, a module's lists or a function's: what comes, and the entry
 -- that names it, are the file's.
 use Rattle.std.proofs.Common.{◌≡◌, ℕ, Bool, List, [], ◌∷◌, length, Option, Some, refl, length-append}
-use Rattle.std.specs.Prelude.{IfSome}
+use Rattle.std.specs.Prelude.{IfSome, String}
+use Rattle.std.specs.declared.alloc.Global.{Global}
 use Rattle.vast_literal.specs.Tree.{NameTree, Typed}
 use Rattle.vast_core.specs.Handles.{LogicRef, ModulePort, VastModule, VastFunction, VastDataType}
 use Rattle.vast_literal.specs.declared.kind.DataKind.{DataKind}
 use Rattle.vast_literal.specs.declared.kind.ModulePortDirection.{ModulePortDirection}
 use Rattle.vast_core.specs.Nodes.{Root, ExprRoot, with_node}
-use Rattle.vast_core.specs.Records.{Assignment, Port, ParameterPort, DeclarationEntry, FileItem, Definition, Artifact, InstanceRecord}
+use Rattle.vast_core.specs.Records.{Assignment, Port, ParameterPort, DeclarationEntry, FileItem, FileTypedefEntry, DeclaredType, Definition, Artifact, InstanceRecord}
 use Rattle.vast_core.specs.Nests.{FunctionVariable}
 use Rattle.vast_core.specs.Bench.{Bench, OwnsExpr, OwnsType, OwnsModule, OwnsFunction, NameIsFree, IsFreeInFunction, type_of}
 use Rattle.vast_core.specs.Growth.{next_port, next_logic_ref}
-use Rattle.vast_core.specs.Sound.{AssignmentSound, EntrySound, DefinitionSound, ArtifactSound, InstanceSound, GivesValues}
+use Rattle.vast_core.specs.Sound.{AssignmentSound, TypedefSound, EntrySound, DefinitionSound, ArtifactSound, InstanceSound, GivesValues}
 use Rattle.vast_core.specs.WrittenKinds.{IsOwnKind, IsVariableKind}
 use Rattle.vast_core.specs.Internal.Containers.{HeaderGains, PortsGain, MembersGain, Nowhere, InFile, InModule, InFunction, GrowthSound, Fresh, no_fresh, fresh_assignment, with_fresh}
-use Rattle.vast_core.proofs.Loops.{fresh_name, name_term}
+use Rattle.vast_core.proofs.Loops.{fresh_name, fresh_type, name_term}
 use Rattle.vast_core.proofs.Lists.{slice_get-seam}
 use Rattle.vast_core.proofs.NodeLaws.{Extends-root, HasType-kept}
-use Rattle.vast_core.proofs.Sound.{MemberSound-kept, ParameterPortSound-kept, ArtifactSound-kept, InstanceSound-kept}
+use Rattle.vast_core.proofs.Sound.{MemberSound-kept, EntrySound-kept, ParameterPortSound-kept, ArtifactSound-kept, InstanceSound-kept}
 use Rattle.vast_core.proofs.Growing.{Grows-fresh}
 use Rattle.vast_core.proofs.Terms.{last-test}
 use Rattle.vast_core.proofs.Enters.{nothing-comes}
-use Rattle.vast_core.proofs.EntersMembers.{name-comes}
+use Rattle.vast_core.proofs.EntersMembers.{name-comes, type-comes}
 
 -- Records that no list names yet.
 
@@ -55,6 +56,10 @@ instance-stands b i h k =
 
 pub item-enters : (b : Bench) (e : FileItem) → EntrySound b e → GrowthSound b (InFile e) no_fresh
 item-enters b e h = record { fresh = nothing-comes b b; listing = h; placed = refl }
+
+pub typedef-item-enters : (b : Bench) (t : DeclaredType) (name : String Global) → TypedefSound b t → GrowthSound b (InFile (FileTypedefEntry t)) (fresh_type name)
+typedef-item-enters b t name h =
+    record { fresh = type-comes b name; listing = EntrySound-kept b (with_fresh (fresh_type name) b) (Grows-fresh b (fresh_type name)) (FileTypedefEntry t) h; placed = refl }
 
 -- Members of a module.
 
@@ -132,4 +137,4 @@ pub variable-enters-as :
     GrowthSound b (InFunction owner local (record { kind = kind; name = own; data_type = t })) (fresh_name name (Some t))
 variable-enters-as b owner local kind n own name t e h suits k free = rw e (variable-enters b owner local (record { kind = kind; name = n; data_type = t }) name t h suits k k free)
 
-pub ruleset enters_records = (assignment-stands, definition-stands, artifact-stands, instance-stands, item-enters, declaration-enters, header-enters, variable-enters)
+pub ruleset enters_records = (assignment-stands, definition-stands, artifact-stands, instance-stands, item-enters, typedef-item-enters, declaration-enters, header-enters, variable-enters)

@@ -1,24 +1,25 @@
 -- What calls know that add a member to a scope: what comes, and the entry that names it, are the file's.
 use Rattle.std.proofs.Common.{◌≡◌, ℕ, ◌<◌, Bool, true, false, List, [], ◌++◌, length, Option, Some, All, refl, ap}
-use Rattle.std.specs.Prelude.{IfSome}
+use Rattle.std.specs.Prelude.{IfSome, String}
+use Rattle.std.specs.declared.alloc.Global.{Global}
 use Rattle.vast_core.specs.declared.ast.scope.Scope.{Scope}
 use Rattle.vast_core.specs.declared.ast.scope.Scope.TheVariants.{Module as ScopeModule, Loop as ScopeLoop}
 use Rattle.vast_core.specs.Handles.{Expr, LogicRef, GenerateLoop, VastDataType, VastStatementBlock}
 use Rattle.vast_literal.specs.declared.kind.AlwaysKind.{AlwaysKind}
-use Rattle.vast_core.specs.Records.{Member, DeclarationEntry, AssignmentEntry, ParameterEntry, FunctionEntry, AlwaysEntry, ConditionalEntry, LoopEntry, ParameterForm}
+use Rattle.vast_core.specs.Records.{Member, DeclarationEntry, AssignmentEntry, ParameterEntry, TypedefEntry, DeclaredType, FunctionEntry, AlwaysEntry, ConditionalEntry, LoopEntry, ParameterForm}
 use Rattle.vast_core.specs.Nests.{LoopNestRecord, FunctionRecord}
 use Rattle.vast_core.specs.Bench.{Bench, OwnsExpr, OwnsType, OwnsBlock}
 use Rattle.vast_core.specs.DeclaredNames.{names_by_member}
 use Rattle.vast_core.specs.Parents.{held_by_member}
 use Rattle.vast_core.specs.WrittenKinds.{HasOwnKind}
-use Rattle.vast_core.specs.Sound.{EventSound, FormSound, MemberSound, MemberNewer}
+use Rattle.vast_core.specs.Sound.{EventSound, FormSound, TypedefSound, MemberSound, MemberNewer}
 use Rattle.vast_core.specs.Growth.{next_logic_ref, next_continuous, with_expr}
 use Rattle.vast_core.specs.Internal.Parameters.{IsDeclaredBy}
 use Rattle.vast_core.specs.Containers.{next_conditional, new_conditional}
 use Rattle.vast_core.specs.Internal.Containers.{Fresh, FreshSound, GrowthSound, with_fresh, after_growth, no_fresh, fresh_assignment, made, held_by_fresh, detached_used}
 use Rattle.vast_core.proofs.Containers.{fresh_container}
 use Rattle.vast_core.specs.Loops.{next_always, next_loop, new_always, new_loop, with_loop}
-use Rattle.vast_core.proofs.Loops.{fresh_always, fresh_loop, fresh_name}
+use Rattle.vast_core.proofs.Loops.{fresh_always, fresh_loop, fresh_name, fresh_type}
 use Rattle.vast_core.specs.Unattached.{always_over}
 use Rattle.vast_core.specs.Scopes.{OwnsScope, IsShared, IsOlder, with_scope_member, with_scope_parameter}
 use Rattle.vast_core.specs.Internal.Scopes.{listing_in}
@@ -26,7 +27,7 @@ use Rattle.vast_core.proofs.Lists.{slice_get-seam}
 use Rattle.vast_core.proofs.Sound.{MemberSound-kept}
 use Rattle.vast_core.proofs.Growing.{Grows-fresh}
 use Rattle.vast_core.proofs.Enters.{loop-place, nothing-comes, conditional-comes, next_conditional_owned}
-use Rattle.vast_core.proofs.EntersMembers.{always-comes, next_always_owned, loop-comes, loop_owned, name-comes, next_continuous_owned}
+use Rattle.vast_core.proofs.EntersMembers.{always-comes, next_always_owned, loop-comes, loop_owned, name-comes, type-comes, next_continuous_owned}
 use Rattle.vast_core.proofs.Unattached.{fresh_over, over-comes, next_over_owned}
 
 -- A member without a name of its own.
@@ -107,6 +108,14 @@ parameter-enters b scope local form value name type o h k m =
     scope-enters b scope (ParameterEntry local form value) f o (name-comes b name type m) (MemberSound-kept b (with_fresh f b) (Grows-fresh b f) (ParameterEntry local form value) (h, k)) tt
     (newer-in b (with_fresh f b) scope (ParameterEntry local form value) o (λ i below. tt)) refl
 
+pub typedef-enters :
+    (b : Bench) (scope : Scope) (t : DeclaredType) (name : String Global) → OwnsScope b scope → TypedefSound b t →
+    GrowthSound b (listing_in scope (TypedefEntry t)) (fresh_type name)
+typedef-enters b scope t name o h =
+    let f : Fresh = fresh_type name in
+    scope-enters b scope (TypedefEntry t) f o (type-comes b name) (MemberSound-kept b (with_fresh f b) (Grows-fresh b f) (TypedefEntry t) h) tt
+    (newer-in b (with_fresh f b) scope (TypedefEntry t) o (λ i below. tt)) refl
+
 -- Members that hold what comes with them.
 
 pub always-enters :
@@ -173,4 +182,4 @@ pub parameter-grown :
 parameter-grown b (ScopeModule owner) local form value name type h = ap (λ t. with_expr t (with_scope_member (ScopeModule owner) (ParameterEntry local form value) b)) h.0
 parameter-grown b (ScopeLoop owner) local form value name type h = ap (λ t. with_expr t (with_scope_member (ScopeLoop owner) (ParameterEntry local form value) b)) h.0
 
-pub ruleset enters_scopes = (shared-enters, parameter-enters, always-enters, always_over-enters, loop-enters)
+pub ruleset enters_scopes = (shared-enters, parameter-enters, typedef-enters, always-enters, always_over-enters, loop-enters)

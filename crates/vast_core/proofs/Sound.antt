@@ -1,13 +1,13 @@
 -- What a file keeps stays true as it grows.
 use Rattle.std.proofs.Common.{◌≡◌, ℕ, suc, ◌<◌, ◌≤◌, Bool, false, IsTrue, List, [], ◌∷◌, length, nat_lt, Option, Some, None, slice_get, refl, sym, ◌∙◌, arith}
-use Rattle.std.specs.Prelude.{IfSome}
-use Rattle.vast_core.specs.Handles.{Id, Expr, VastDataType, ModulePort, ContinuousAssignment, VastStatementBlock}
+use Rattle.std.specs.Prelude.{IfSome, All}
+use Rattle.vast_core.specs.Handles.{Id, Def, Expr, VastDataType, ModulePort, ContinuousAssignment, VastStatementBlock}
 use Rattle.vast_core.specs.Nodes.{IsOwned, is_name, is_macro}
-use Rattle.vast_core.specs.Records.{Assignment, Port, ParameterPort, ModuleRecord, ParameterForm, DefinedForm, Member, DeclarationEntry, AssignmentEntry, ParameterEntry, BlankEntry, CommentEntry, ImportEntry, InlineEntry, MacroEntry, InstanceEntry, FunctionEntry, AlwaysEntry, ConditionalEntry, LoopEntry, FileItem, ModuleEntry, Definition, Artifact, MacroArtifact, Connection, InstanceRecord}
+use Rattle.vast_core.specs.Records.{Assignment, Port, ParameterPort, ModuleRecord, ParameterForm, DefinedForm, Member, DeclarationEntry, AssignmentEntry, ParameterEntry, BlankEntry, CommentEntry, ImportEntry, TypedefEntry, InlineEntry, MacroEntry, InstanceEntry, FunctionEntry, AlwaysEntry, ConditionalEntry, LoopEntry, FileItem, ModuleEntry, FileTypedefEntry, DeclaredType, EnumType, StructType, Definition, Artifact, MacroArtifact, Connection, InstanceRecord}
 use Rattle.vast_core.specs.Nests.{CaseArm, ElseIf, Statement, AssignStatement, ContinuousStatement, TaskStatement, ConditionalStatement, CasesStatement, ForStatement, NestRecord, BlockRecord, ConditionalNestRecord, CaseNestRecord, LoopNestRecord, FunctionVariable, FunctionRecord, AlwaysRecord, NestKind, NoKind, nest_kind, is_kind, BlockKind, ConditionalKind, CaseStatementKind, LoopKind}
 use Rattle.vast_literal.specs.Tree.{ExprTree}
-use Rattle.vast_core.specs.Bench.{Bench, has_root, OwnsExpr, OwnsType, OwnsPort, OwnsContinuous, is_continuous, is_comment, is_inline, is_macro_statement}
-use Rattle.vast_core.specs.Sound.{Each, PortSound, AssignmentSound, DefinitionSound, ArtifactSound, ConnectionSound, InstanceSound, FormSound, MemberSound, ParameterPortSound, ModuleSound, EntrySound, RecordsSound, HoldsBlock, StatementSound, ElseIfSound, CaseArmSound, AlwaysNewer, MemberNewer, LoopMemberSound, NestSound, NestsSound, VariableSound, FunctionSound, EventSound, AlwaysSound}
+use Rattle.vast_core.specs.Bench.{Bench, has_root, OwnsExpr, OwnsType, OwnsPort, OwnsDef, OwnsContinuous, is_continuous, is_comment, is_inline, is_macro_statement}
+use Rattle.vast_core.specs.Sound.{Each, PortSound, AssignmentSound, DefinitionSound, ArtifactSound, ConnectionSound, InstanceSound, FormSound, TypedefSound, MemberSound, ParameterPortSound, ModuleSound, EntrySound, RecordsSound, HoldsBlock, StatementSound, ElseIfSound, CaseArmSound, AlwaysNewer, MemberNewer, LoopMemberSound, NestSound, NestsSound, VariableSound, FunctionSound, EventSound, AlwaysSound}
 use Rattle.vast_core.proofs.Lists.{Each-map, below-of, below-test, none-past}
 use Rattle.vast_core.proofs.NodeLaws.{Extends, HasExpr-kept, HasType-kept, shape-kept, expr_in-kept}
 use Rattle.vast_core.proofs.Nests.{kind-there}
@@ -106,9 +106,19 @@ InstanceSound-kept b c g i h =
       connections = Each-map (ConnectionSound-kept b c g) i.connections h.connections;
     }
 
+def-kept : (b c : Bench) → Grows b c → (d : Def) → OwnsDef b d → OwnsDef c d
+def-kept b c g d h = index-kept b c d.id (length b.definitions) (length c.definitions) g g.definitions h
+
 FormSound-kept : (b c : Bench) → Grows b c → (f : ParameterForm) → FormSound b f → FormSound c f
-FormSound-kept b c g (DefinedForm d) h = index-kept b c d.id (length b.definitions) (length c.definitions) g g.definitions h
+FormSound-kept b c g (DefinedForm d) h = def-kept b c g d h
 FormSound-kept b c g _ h = tt
+
+All-kept : {A : Type 0} {P Q : A → Type 0} → ((x : A) → P x → Q x) → (xs : List A) → All P xs → All Q xs
+All-kept f xs h = λ k d below. f _ (h k d below)
+
+TypedefSound-kept : (b c : Bench) → Grows b c → (t : DeclaredType) → TypedefSound b t → TypedefSound c t
+TypedefSound-kept b c g (EnumType t name entries) h = (HasType-kept b.nodes c.nodes g.nodes t h.0, All-kept (ConnectionSound-kept b c g) entries h.1)
+TypedefSound-kept b c g (StructType name fields) h = All-kept (def-kept b c g) fields h
 
 pub continuous_stays : (b c : Bench) → Grows b c → (a : ContinuousAssignment) → OwnsContinuous b a → OwnsContinuous c a
 continuous_stays b c g a h =
@@ -124,6 +134,7 @@ MemberSound-kept b c g (ParameterEntry local form value) h = (FormSound-kept b c
 MemberSound-kept b c g BlankEntry h = tt
 MemberSound-kept b c g (CommentEntry a) h = artifact-kept is_comment b c a.id g never h
 MemberSound-kept b c g (ImportEntry package_name) h = tt
+MemberSound-kept b c g (TypedefEntry t) h = TypedefSound-kept b c g t h
 MemberSound-kept b c g (InlineEntry a) h = artifact-kept is_inline b c a.id g never h
 MemberSound-kept b c g (MacroEntry a) h = artifact-kept is_macro_statement b c a.id g never h
 MemberSound-kept b c g (InstanceEntry i) h = index-kept b c i.id (length b.instances) (length c.instances) g g.instances h
@@ -232,6 +243,7 @@ AlwaysSound-kept b c g a h = record { events = Each-map (EventSound-kept b c g) 
 
 pub EntrySound-kept : (b c : Bench) → Grows b c → (e : FileItem) → EntrySound b e → EntrySound c e
 EntrySound-kept b c g (ModuleEntry m) h = index-kept b c m.id (length b.modules) (length c.modules) g g.modules h
+EntrySound-kept b c g (FileTypedefEntry t) h = TypedefSound-kept b c g t h
 EntrySound-kept b c g _ h = tt
 
 -- The records of b are sound in c.

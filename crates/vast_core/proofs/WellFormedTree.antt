@@ -4,15 +4,16 @@ use Rattle.std.specs.Prelude.{IfSome}
 use Rattle.std.specs.Cmp.Derive.{both_true}
 use Rattle.vast_literal.specs.Tree.{FileItemTree}
 use Rattle.vast_literal.specs.WellFormed.{is_well_formed_type}
-use Rattle.vast_literal.specs.WellFormedFile.{is_well_formed_parameter_name, are_well_formed_connections, is_given, are_given, are_well_formed_inputs, are_well_formed_locals, is_well_formed_member, are_well_formed_members, are_well_formed_ports, is_well_formed_typed, are_well_formed_parameters, are_well_formed_items, is_well_formed_file}
-use Rattle.vast_core.specs.Handles.{Expr, ModulePort, VastDataType}
+use Rattle.vast_literal.specs.WellFormedFile.{is_well_formed_parameter_name, are_well_formed_connections, is_given, are_given, are_well_formed_inputs, are_well_formed_locals, is_well_formed_typedef, is_well_formed_member, are_well_formed_members, are_well_formed_ports, is_well_formed_typed, are_well_formed_parameters, are_well_formed_items, is_well_formed_file}
+use Rattle.vast_core.specs.Handles.{Def, Expr, ModulePort, VastDataType}
 use Rattle.vast_core.specs.Nodes.{maybe_type_in}
-use Rattle.vast_core.specs.Records.{Assignment, ParameterPort, ModuleRecord, Member, DeclarationEntry, AssignmentEntry, ParameterEntry, BlankEntry, CommentEntry, ImportEntry, InlineEntry, MacroEntry, InstanceEntry, FunctionEntry, AlwaysEntry, ConditionalEntry, LoopEntry, ParameterForm, DefinedForm, FileItem, ModuleEntry, Artifact, MacroArtifact, Connection, InstanceRecord}
+use Rattle.vast_core.specs.Records.{Assignment, ParameterPort, ModuleRecord, Member, DeclarationEntry, AssignmentEntry, ParameterEntry, BlankEntry, CommentEntry, ImportEntry, TypedefEntry, InlineEntry, MacroEntry, InstanceEntry, FunctionEntry, AlwaysEntry, ConditionalEntry, LoopEntry, ParameterForm, DefinedForm, FileItem, ModuleEntry, FileTypedefEntry, DeclaredType, EnumType, StructType, Artifact, MacroArtifact, Connection, InstanceRecord}
 use Rattle.vast_core.specs.Nests.{NestRecord, BlockRecord, ConditionalNestRecord, CaseNestRecord, LoopNestRecord, FunctionVariable, FunctionRecord, AlwaysRecord}
-use Rattle.vast_core.specs.Bench.{Bench, OwnsExpr, OwnsType, OwnsPort, AreWellFormed, maybe_tree_of}
+use Rattle.vast_core.specs.Bench.{Bench, OwnsExpr, OwnsType, OwnsPort, OwnsDef, AreWellFormed, maybe_tree_of}
 use Rattle.vast_core.specs.WrittenKinds.{IsGiven, HasOwnKind, HasLocalKind, HasValue}
-use Rattle.vast_core.specs.Sound.{Each, PortSound, AssignmentSound, DefinitionSound, ArtifactSound, ConnectionSound, InstanceSound, FormSound, MemberSound, LoopMemberSound, MemberNewer, ParameterPortSound, ModuleSound, VariableSound, FunctionSound, AlwaysSound, NestSound, NestsSound, RecordsSound, DeclaresOwnKinds, HasLocalKinds, GivesValues, FileSound}
-use Rattle.vast_core.specs.FileTree.{Family, definition_tree, form_tree, assignment_member, artifact_member, connection_tree, instance_member, always_in, variable_tree, function_in, member_in, members_in, family, unfolded, families, maybe_port_tree, port_tree, parameter_port_tree, maybe_module_tree, item_tree, tree}
+use Rattle.vast_core.specs.Sound.{Each, PortSound, AssignmentSound, DefinitionSound, ArtifactSound, ConnectionSound, InstanceSound, FormSound, TypedefSound, MemberSound, LoopMemberSound, MemberNewer, ParameterPortSound, ModuleSound, EntrySound, VariableSound, FunctionSound, AlwaysSound, NestSound, NestsSound, RecordsSound, DeclaresOwnKinds, HasLocalKinds, GivesValues, FileSound}
+use Rattle.vast_core.specs.FileTree.{Family, definition_tree, form_tree, assignment_member, artifact_member, connection_tree, field_tree, typedef_tree, instance_member, always_in, variable_tree, function_in, member_in, members_in, family, unfolded, families, maybe_port_tree, port_tree, parameter_port_tree, maybe_module_tree, item_tree, tree}
+use Rattle.vast_core.proofs.Lists.{Each-own}
 use Rattle.vast_core.proofs.WellFormedParts.{Each-read, expr-good, type-good, maybe-good, macro-is, macro-good, events-good, IsGood, block-good, conditional_member-good, loop_member-good, statements-good, alternates-good, arms-good}
 
 -- What a place of a list holds, where the place is in the list.
@@ -26,9 +27,12 @@ Each-there P Q f xs i h there = let below : i < length xs = grind (arith, there)
 
 -- Parts of members.
 
-form-good : (b : Bench) → AreWellFormed b → RecordsSound b → (form : ParameterForm) → FormSound b form → is_well_formed_parameter_name (form_tree b form) ≡ true
-form-good b w r (DefinedForm d) h =
+def-good : (b : Bench) → AreWellFormed b → RecordsSound b → (d : Def) → OwnsDef b d → is_well_formed_type (field_tree b d).type ≡ true
+def-good b w r d h =
     Each-there (DefinitionSound b) (λ o. is_well_formed_type (definition_tree b o).type ≡ true) (λ x k. type-good b w x.data_type k) b.definitions d.id.index r.definitions h.of_kind
+
+form-good : (b : Bench) → AreWellFormed b → RecordsSound b → (form : ParameterForm) → FormSound b form → is_well_formed_parameter_name (form_tree b form) ≡ true
+form-good b w r (DefinedForm d) h = def-good b w r d h
 form-good b w r _ h = refl
 
 assignment-good : (b : Bench) → AreWellFormed b → (o : Option Assignment) → IfSome o (AssignmentSound b) → is_well_formed_member (assignment_member b o) ≡ true
@@ -43,6 +47,14 @@ artifact-good b w (Some _) h = refl
 connections-good : (b : Bench) → AreWellFormed b → (cs : List Connection) → Each (ConnectionSound b) cs → are_well_formed_connections (map (connection_tree b) cs) ≡ true
 connections-good b w [] h = refl
 connections-good b w (c ∷ cs) h = both_true (maybe-good b w c.value h.0) (connections-good b w cs h.1)
+
+fields-good : (b : Bench) → AreWellFormed b → RecordsSound b → (ds : List Def) → Each (OwnsDef b) ds → are_well_formed_inputs (map (field_tree b) ds) ≡ true
+fields-good b w r [] h = refl
+fields-good b w r (d ∷ ds) h = both_true (def-good b w r d h.0) (fields-good b w r ds h.1)
+
+typedef-good : (b : Bench) → AreWellFormed b → RecordsSound b → (t : DeclaredType) → TypedefSound b t → is_well_formed_typedef (typedef_tree b t) ≡ true
+typedef-good b w r (EnumType t name entries) h = both_true (type-good b w t h.0) (connections-good b w entries (Each-own (ConnectionSound b) entries h.1))
+typedef-good b w r (StructType name fields) h = fields-good b w r fields (Each-own (OwnsDef b) fields h)
 
 given-good : (b : Bench) → AreWellFormed b → (cs : List Connection) → Each (ConnectionSound b) cs → Each HasValue cs → are_given (map (connection_tree b) cs) ≡ true
 given-good b w [] h k = refl
@@ -86,6 +98,7 @@ member-good b w s f g (ParameterEntry local form value) h k = both_true (form-go
 member-good b w s f g BlankEntry h k = refl
 member-good b w s f g (CommentEntry a) h k = artifact-good b w (slice_get b.artifacts a.id.index) (Each-read (ArtifactSound b) b.artifacts a.id.index s.records.artifacts)
 member-good b w s f g (ImportEntry package_name) h k = refl
+member-good b w s f g (TypedefEntry t) h k = typedef-good b w s.records t h
 member-good b w s f g (InlineEntry a) h k = artifact-good b w (slice_get b.artifacts a.id.index) (Each-read (ArtifactSound b) b.artifacts a.id.index s.records.artifacts)
 member-good b w s f g (MacroEntry a) h k = artifact-good b w (slice_get b.artifacts a.id.index) (Each-read (ArtifactSound b) b.artifacts a.id.index s.records.artifacts)
 member-good b w s f g (InstanceEntry i) h k =
@@ -154,13 +167,14 @@ module_item-good b w s None h k items e = e
 module_item-good b w s (Some m) h k items e =
     both_true (both_true (parameters-good b w m.parameters h.parameters) (both_true (ports-good b w s.records m.ports h.ports) (members-good b w s (families b) (families-good b w s) m.members h.members k))) e
 
-items-good : (b : Bench) → AreWellFormed b → FileSound b → (es : List FileItem) → are_well_formed_items (map (item_tree b) es) ≡ true
-items-good b w s [] = refl
-items-good b w s (ModuleEntry m ∷ es) =
+items-good : (b : Bench) → AreWellFormed b → FileSound b → (es : List FileItem) → Each (EntrySound b) es → are_well_formed_items (map (item_tree b) es) ≡ true
+items-good b w s [] h = refl
+items-good b w s (ModuleEntry m ∷ es) h =
     module_item-good b w s (slice_get b.modules m.id.index) (Each-read (ModuleSound b) b.modules m.id.index s.records.modules) (Each-read DeclaresOwnKinds b.modules m.id.index s.kinds.declarations) (map (item_tree b) es)
-    (items-good b w s es)
-items-good b w s (_ ∷ es) = items-good b w s es
+    (items-good b w s es h.1)
+items-good b w s (FileTypedefEntry t ∷ es) h = both_true (typedef-good b w s.records t h.0) (items-good b w s es h.1)
+items-good b w s (_ ∷ es) h = items-good b w s es h.1
 
 pub tree-good : (b : Bench) → AreWellFormed b → FileSound b → is_well_formed_file (tree b) ≡ true
 unfolding tree
-tree-good b w s = items-good b w s b.items
+tree-good b w s = items-good b w s b.items s.records.items

@@ -1,16 +1,16 @@
 -- The tree of a file, without handles.
 use Rattle.std.specs.Prelude.{ℕ, zero, suc, Bool, true, false, List, [], ◌∷◌, map, length, Option, Some, None, slice_get}
-use Rattle.vast_literal.specs.Tree.{ExprTree, StatementTree, AssignTree, TaskTree, CommentTree, BlankTree, InlineTree, ConditionalTree, CaseTree, ForTree, Statements, NoStatements, MoreStatements, Alternates, NoElse, ElseIf, Else, CaseArms, NoCaseArms, CaseArm, MemberTree, DeclarationMember, AssignMember, ParameterMember, CommentMember, BlankMember, ImportMember, InlineMember, MacroMember, InstanceMember, AlwaysMember, ConditionalMember, FunctionMember, LoopMember, Members, NoMembers, MoreMembers, MissingType, Declaration, ParameterName, PlainParameter, IntParameter, DefinedParameter, Connection as ConnectionTree, PortTree, ParameterPortTree, ModuleTree, FileItemTree, ModuleItem, IncludeItem, ImportItem, CommentItem, BlankItem, FileTree}
+use Rattle.vast_literal.specs.Tree.{ExprTree, StatementTree, AssignTree, TaskTree, CommentTree, BlankTree, InlineTree, ConditionalTree, CaseTree, ForTree, Statements, NoStatements, MoreStatements, Alternates, NoElse, ElseIf, Else, CaseArms, NoCaseArms, CaseArm, MemberTree, DeclarationMember, AssignMember, ParameterMember, CommentMember, BlankMember, ImportMember, TypedefMember, InlineMember, MacroMember, InstanceMember, AlwaysMember, ConditionalMember, FunctionMember, LoopMember, Members, NoMembers, MoreMembers, MissingType, Declaration, ParameterName, PlainParameter, IntParameter, DefinedParameter, TypedefTree, EnumTree, StructTree, Connection as ConnectionTree, PortTree, ParameterPortTree, ModuleTree, FileItemTree, ModuleItem, IncludeItem, ImportItem, TypedefItem, CommentItem, BlankItem, FileTree}
 use Rattle.vast_literal.specs.declared.kind.AssignmentForm.{AssignmentForm as AssignForm}
 use Rattle.vast_literal.specs.declared.kind.AssignmentForm.TheVariants.{Blocking, Nonblocking, Continuous}
 use Rattle.vast_literal.specs.declared.kind.DataKind.TheVariants.{Wire as WireKind}
 use Rattle.vast_literal.specs.declared.kind.ModulePortDirection.TheVariants.{Input as InputDirection}
-use Rattle.vast_core.specs.Handles.{VastDataType, ModulePort, VastStatementBlock}
+use Rattle.vast_core.specs.Handles.{Def, VastDataType, ModulePort, VastStatementBlock}
 use Rattle.vast_literal.specs.declared.kind.DataKind.{DataKind}
 use Rattle.vast_core.specs.declared.node.ElseIf.{ElseIf as ElseIfNode}
 use Rattle.vast_core.specs.declared.node.CaseArm.{CaseArm as CaseArmNode}
 use Rattle.vast_core.specs.Nodes.{maybe_type_in, maybe_expr_in}
-use Rattle.vast_core.specs.Records.{Assignment, Port, ParameterPort, ModuleRecord, ParameterForm, PlainForm, IntForm, DefinedForm, Member, DeclarationEntry, AssignmentEntry, ParameterEntry, BlankEntry, CommentEntry, ImportEntry, InlineEntry, MacroEntry, InstanceEntry, FunctionEntry, AlwaysEntry, ConditionalEntry, LoopEntry, FileItem, ModuleEntry, IncludeEntry, FileImportEntry, FileCommentEntry, FileBlankEntry, Definition, Artifact, BlankArtifact, CommentArtifact, InlineArtifact, MacroArtifact, Connection, InstanceRecord}
+use Rattle.vast_core.specs.Records.{Assignment, Port, ParameterPort, ModuleRecord, ParameterForm, PlainForm, IntForm, DefinedForm, Member, DeclarationEntry, AssignmentEntry, ParameterEntry, BlankEntry, CommentEntry, ImportEntry, TypedefEntry, InlineEntry, MacroEntry, InstanceEntry, FunctionEntry, AlwaysEntry, ConditionalEntry, LoopEntry, FileItem, ModuleEntry, IncludeEntry, FileImportEntry, FileTypedefEntry, FileCommentEntry, FileBlankEntry, DeclaredType, EnumType, StructType, Definition, Artifact, BlankArtifact, CommentArtifact, InlineArtifact, MacroArtifact, Connection, InstanceRecord}
 use Rattle.vast_core.specs.Nests.{Statement, AssignStatement, ContinuousStatement, TaskStatement, ConditionalStatement, CasesStatement, ForStatement, BlankStatement, CommentStatement, InlineStatement, NestRecord, BlockRecord, ConditionalNestRecord, CaseNestRecord, LoopNestRecord, FunctionVariable, FunctionRecord, AlwaysRecord}
 use Rattle.vast_core.specs.Bench.{Bench, tree_of, type_of, maybe_tree_of, trees_of}
 
@@ -47,6 +47,13 @@ connection_tree b c = record { name = c.name; value = maybe_expr_in b.nodes c.va
 abbrev pub instance_member : Bench → Option InstanceRecord → MemberTree
 instance_member b None = BlankMember
 instance_member b (Some i) = InstanceMember (record { module_name = i.module_name; instance_name = i.instance_name; parameters = map (connection_tree b) i.parameters; connections = map (connection_tree b) i.connections })
+
+abbrev pub field_tree : Bench → Def → Declaration
+field_tree b d = definition_tree b (slice_get b.definitions d.id.index)
+
+abbrev pub typedef_tree : Bench → DeclaredType → TypedefTree
+typedef_tree b (EnumType data_type name entries) = EnumTree (type_of b data_type) name (map (connection_tree b) entries)
+typedef_tree b (StructType name fields) = StructTree name (map (field_tree b) fields)
 
 -- Statements, containers and members are made of older parts and of newer containers; f has the trees of the containers.
 
@@ -136,6 +143,7 @@ member_in b f (ParameterEntry local form value) = ParameterMember local (form_tr
 member_in b f BlankEntry = BlankMember
 member_in b f (CommentEntry a) = artifact_member b (slice_get b.artifacts a.id.index)
 member_in b f (ImportEntry package_name) = ImportMember package_name
+member_in b f (TypedefEntry t) = TypedefMember (typedef_tree b t)
 member_in b f (InlineEntry a) = artifact_member b (slice_get b.artifacts a.id.index)
 member_in b f (MacroEntry a) = artifact_member b (slice_get b.artifacts a.id.index)
 member_in b f (InstanceEntry i) = instance_member b (slice_get b.instances i.id.index)
@@ -206,6 +214,7 @@ abbrev pub item_tree : Bench → FileItem → FileItemTree
 item_tree b (ModuleEntry m) = maybe_module_tree b (slice_get b.modules m.id.index)
 item_tree b (IncludeEntry path) = IncludeItem path
 item_tree b (FileImportEntry package_name) = ImportItem package_name
+item_tree b (FileTypedefEntry t) = TypedefItem (typedef_tree b t)
 item_tree b (FileCommentEntry text) = CommentItem text
 item_tree b FileBlankEntry = BlankItem
 

@@ -2,14 +2,14 @@
 use Rattle.std.specs.Prelude.{◌≡◌, ℕ, ℤ, Bool, List, [], ◌∷◌, ◌++◌, length, Some, Result, Ok, Err}
 use Rattle.std.specs.Fmt.{signed_decimal}
 use Rattle.std.specs.declared.alloc.AllocError.{AllocError}
-use Rattle.vast_literal.specs.Tree.{ExprTree, NameTree, LiteralTree, IndexTree, SliceTree, ConcatTree, SomeExpr, Exprs, NoExprs, MoreExprs, TypeTree, VectorTree, Typed}
+use Rattle.vast_literal.specs.Tree.{ExprTree, NameTree, LiteralTree, IndexTree, SliceTree, ConcatTree, SomeExpr, Exprs, NoExprs, MoreExprs, TypeTree, VectorTree, ExternalTree, Typed}
 use Rattle.vast_core.specs.Handles.{Id, Expr, LogicRef, IndexableExpr, Index, Slice, VastDataType, VastModule, ModulePort, ContinuousAssignment}
 use Rattle.vast_literal.specs.declared.kind.ModulePortDirection.{ModulePortDirection}
 use Rattle.vast_literal.specs.declared.kind.DataKind.{DataKind}
 use Rattle.vast_core.specs.ArenaState.{ArenaState}
 use Rattle.vast_core.specs.View.{bench}
 use Rattle.vast_core.specs.Nodes.{Root, ExprRoot, TypeRoot, with_node}
-use Rattle.vast_core.specs.Records.{Assignment, FileItem, ModuleEntry, Member, DeclarationEntry, new_module, with_listed_port, with_listed_member, with_listed_name, changed_at}
+use Rattle.vast_core.specs.Records.{Assignment, FileItem, ModuleEntry, FileTypedefEntry, Member, DeclarationEntry, TypedefEntry, DeclaredType, declared_name, new_module, with_listed_port, with_listed_member, with_listed_name, changed_at}
 use Rattle.vast_core.specs.Bench.{Bench, tree_of, trees_of, type_of}
 
 -- The call returns this and leaves this, both of what the file held; or memory was refused and nothing changed.
@@ -140,3 +140,10 @@ with_declaration m kind name data_type b = with_expr (NameTree name (Typed (type
 -- An item more at the end of the file.
 abbrev pub with_item : FileItem → Bench → Bench
 with_item entry b = record b { items = b.items ++ entry ∷ [] }
+
+-- A type that is declared by name, at the end of the module's members or of the file, and the type of that name.
+abbrev pub with_typedef : VastModule → DeclaredType → Bench → Bench
+with_typedef m t b = with_member m (TypedefEntry t) (with_type (ExternalTree (declared_name t)) b)
+
+abbrev pub with_file_typedef : DeclaredType → Bench → Bench
+with_file_typedef t b = with_item (FileTypedefEntry t) (with_type (ExternalTree (declared_name t)) b)

@@ -10,10 +10,12 @@ pub use Rattle.vast_core.specs.declared.node.Assignment.{Assignment}
 pub use Rattle.vast_core.specs.declared.node.ParameterForm.{ParameterForm}
 pub use Rattle.vast_core.specs.declared.node.ParameterForm.TheVariants.{Plain as PlainForm, Int as IntForm, Defined as DefinedForm}
 pub use Rattle.vast_core.specs.declared.node.Member.{Member}
-pub use Rattle.vast_core.specs.declared.node.Member.TheVariants.{Declaration as DeclarationEntry, ContinuousAssignment as AssignmentEntry, Parameter as ParameterEntry, BlankLine as BlankEntry, Comment as CommentEntry, Import as ImportEntry, Inline as InlineEntry, Macro as MacroEntry, Instantiation as InstanceEntry, Function as FunctionEntry, Always as AlwaysEntry, Conditional as ConditionalEntry, Loop as LoopEntry}
+pub use Rattle.vast_core.specs.declared.node.Member.TheVariants.{Declaration as DeclarationEntry, ContinuousAssignment as AssignmentEntry, Parameter as ParameterEntry, BlankLine as BlankEntry, Comment as CommentEntry, Import as ImportEntry, Typedef as TypedefEntry, Inline as InlineEntry, Macro as MacroEntry, Instantiation as InstanceEntry, Function as FunctionEntry, Always as AlwaysEntry, Conditional as ConditionalEntry, Loop as LoopEntry}
 pub use Rattle.vast_core.specs.declared.node.ParameterPort.{ParameterPort}
 pub use Rattle.vast_core.specs.declared.node.FileItem.{FileItem}
-pub use Rattle.vast_core.specs.declared.node.FileItem.TheVariants.{Module as ModuleEntry, Include as IncludeEntry, Import as FileImportEntry, Comment as FileCommentEntry, BlankLine as FileBlankEntry}
+pub use Rattle.vast_core.specs.declared.node.FileItem.TheVariants.{Module as ModuleEntry, Include as IncludeEntry, Import as FileImportEntry, Typedef as FileTypedefEntry, Comment as FileCommentEntry, BlankLine as FileBlankEntry}
+pub use Rattle.vast_core.specs.declared.typedef.DeclaredType.{DeclaredType}
+pub use Rattle.vast_core.specs.declared.typedef.DeclaredType.TheVariants.{Enum as EnumType, Struct as StructType}
 pub use Rattle.vast_core.specs.declared.node.Definition.{Definition}
 pub use Rattle.vast_core.specs.declared.node.Artifact.{Artifact}
 pub use Rattle.vast_core.specs.declared.node.Artifact.TheVariants.{BlankLine as BlankArtifact, Comment as CommentArtifact, Inline as InlineArtifact, MacroStatement as MacroArtifact}
@@ -51,6 +53,11 @@ module_record m = record { name = string_bytes m.name; parameters = m.parameters
 
 abbrev pub instance_record : Instance → InstanceRecord
 instance_record i = record { module_name = string_bytes i.module_name; instance_name = string_bytes i.instance_name; parameters = i.parameters.items; connections = i.connections.items }
+
+-- The name of a type that is declared.
+abbrev pub declared_name : DeclaredType → List ℕ
+declared_name (EnumType data_type name entries) = name
+declared_name (StructType name fields) = name
 
 -- No name of the set is this one.
 abbrev pub IsFree : List ℕ → List (List ℕ) → Type 0

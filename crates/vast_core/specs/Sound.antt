@@ -1,10 +1,10 @@
 -- What every file keeps: children are older, each expression and type fits, and each handle in its records and lists
 -- is its own.
-use Rattle.std.specs.Prelude.{◌↔◌, ℕ, suc, ◌<◌, Bool, true, false, IsTrue, List, [], ◌∷◌, Option, Some, None, slice_get, IfSome}
+use Rattle.std.specs.Prelude.{◌↔◌, ℕ, suc, ◌<◌, Bool, true, false, IsTrue, List, [], ◌∷◌, Option, Some, None, slice_get, IfSome, All}
 use Rattle.vast_literal.specs.Tree.{ExprTree, NameTree, PosEdgeTree, NegEdgeTree}
 use Rattle.vast_core.specs.Handles.{Expr, VastStatementBlock}
 use Rattle.vast_core.specs.Nests.{CaseArm, ElseIf, Statement, AssignStatement, ContinuousStatement, TaskStatement, ConditionalStatement, CasesStatement, ForStatement, ConditionalRecord, CaseRecord, LoopRecord, NestRecord, BlockRecord, ConditionalNestRecord, CaseNestRecord, LoopNestRecord, FunctionVariable, FunctionRecord, AlwaysRecord, declared_names}
-use Rattle.vast_core.specs.Records.{Assignment, Port, ParameterPort, ModuleRecord, ParameterForm, PlainForm, IntForm, DefinedForm, Member, DeclarationEntry, AssignmentEntry, ParameterEntry, BlankEntry, CommentEntry, ImportEntry, InlineEntry, MacroEntry, InstanceEntry, FunctionEntry, AlwaysEntry, ConditionalEntry, LoopEntry, FileItem, ModuleEntry, Definition, Artifact, MacroArtifact, Connection, InstanceRecord, IsFree}
+use Rattle.vast_core.specs.Records.{Assignment, Port, ParameterPort, ModuleRecord, ParameterForm, PlainForm, IntForm, DefinedForm, Member, DeclarationEntry, AssignmentEntry, ParameterEntry, BlankEntry, CommentEntry, ImportEntry, TypedefEntry, InlineEntry, MacroEntry, InstanceEntry, FunctionEntry, AlwaysEntry, ConditionalEntry, LoopEntry, FileItem, ModuleEntry, FileTypedefEntry, DeclaredType, EnumType, StructType, Definition, Artifact, MacroArtifact, Connection, InstanceRecord, IsFree}
 use Rattle.vast_core.specs.Bench.{Bench, OwnsExpr, OwnsType, OwnsLogicRef, OwnsPort, OwnsContinuous, OwnsModule, OwnsDef, OwnsMacroRef, OwnsComment, OwnsInline, OwnsMacroStatement, OwnsInstantiation, OwnsFunction, OwnsAlways, OwnsStatement, OwnsBlock, OwnsConditional, OwnsCase, OwnsLoop, tree_of}
 use Rattle.vast_core.specs.DeclaredNames.{NamesSound}
 use Rattle.vast_core.specs.Parents.{HasOneParent}
@@ -39,6 +39,10 @@ FormSound b (PlainForm name) = Unit {0}
 FormSound b (IntForm name) = Unit {0}
 FormSound b (DefinedForm d) = OwnsDef b d
 
+abbrev pub TypedefSound : Bench → DeclaredType → Type 0
+TypedefSound b (EnumType data_type name entries) = OwnsType b data_type × All (ConnectionSound b) entries
+TypedefSound b (StructType name fields) = All (OwnsDef b) fields
+
 abbrev pub MemberSound : Bench → Member → Type 0
 MemberSound b (DeclarationEntry kind name data_type) = OwnsType b data_type
 MemberSound b (AssignmentEntry a) = OwnsContinuous b a
@@ -46,6 +50,7 @@ MemberSound b (ParameterEntry local form value) = FormSound b form × OwnsExpr b
 MemberSound b BlankEntry = Unit {0}
 MemberSound b (CommentEntry a) = OwnsComment b a
 MemberSound b (ImportEntry package_name) = Unit {0}
+MemberSound b (TypedefEntry t) = TypedefSound b t
 MemberSound b (InlineEntry a) = OwnsInline b a
 MemberSound b (MacroEntry a) = OwnsMacroStatement b a
 MemberSound b (InstanceEntry i) = OwnsInstantiation b i
@@ -163,6 +168,7 @@ pub record ModuleSound (b : Bench) (m : ModuleRecord) : Type 0 where
 
 abbrev pub EntrySound : Bench → FileItem → Type 0
 EntrySound b (ModuleEntry m) = OwnsModule b m
+EntrySound b (FileTypedefEntry t) = TypedefSound b t
 EntrySound b _ = Unit {0}
 
 pub record RecordsSound (b : Bench) : Type 0 where

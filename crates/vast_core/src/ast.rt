@@ -41,6 +41,7 @@ mod places;
 mod ports;
 pub(crate) mod scope;
 mod terms;
+mod typedefs;
 mod types;
 mod variables;
 

@@ -10,6 +10,7 @@ mod file_ids;
 mod handle;
 mod node;
 mod shape;
+mod typedef;
 
 pub use ast::Ast;
 pub use ast::insertion_point::InsertionPoint;
@@ -28,6 +29,7 @@ pub use node::{
     Dimension, ElseIf, ExprNode, FileItem, ForLoop, ForParts, Function, FunctionVariable, Instance,
     LoopNode, Member, Module, PackageName, ParameterForm, ParameterPort, Port, Statement, TypeNode,
 };
+pub use typedef::{DeclaredType, NodeList, Typedef};
 pub use vast_literal::{
     AlwaysKind, AssignmentForm, BinaryOperator, CaseKind, DataKind, ModulePortDirection,
     UnaryOperator, VastFileType, is_system_verilog_keyword,

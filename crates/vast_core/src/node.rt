@@ -10,6 +10,7 @@ use crate::handle::{
 };
 use std::alloc::{AllocError, Global};
 use std::marker::Model;
+use crate::typedef::Typedef;
 use vast_literal::{
     AlwaysKind, BinaryOperator, CaseKind, DataKind, ModulePortDirection, UnaryOperator,
 };
@@ -137,6 +138,7 @@ pub enum Member {
     Comment(Comment),
     /// The package whose declarations are imported.
     Import(Text),
+    Typedef(Typedef),
     Inline(InlineVerilogStatement),
     Macro(MacroStatement),
     Instantiation(Instantiation),
@@ -172,6 +174,7 @@ pub enum FileItem {
     Include(Text),
     /// The package whose declarations are imported.
     Import(Text),
+    Typedef(Typedef),
     Comment(Text),
     BlankLine,
 }
@@ -214,7 +217,8 @@ pub enum Artifact {
     MacroStatement(MacroRef, bool),
 }
 
-/// What an instantiation gives to a parameter or to a port of this name; an open port has no expression.
+/// What an instantiation gives to a parameter or to a port of this name; an open port has no expression. An entry of an
+/// enumeration with its value.
 #[derive(Drop)]
 pub struct Connection {
     pub name: Text,

@@ -60,7 +60,7 @@ pub(crate) fn artifact(
 }
 
 /// Whether two of the names are the same.
-fn is_any_twice(alloc: Global, names: &[String]) -> Result<bool, AllocError> {
+pub(crate) fn is_any_twice(alloc: Global, names: &[String]) -> Result<bool, AllocError> {
     let mut known = BTreeSet::new(alloc);
     for name in names {
         let name = String::from_str(alloc, name)?;

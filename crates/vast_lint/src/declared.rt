@@ -7,6 +7,9 @@ use crate::words::name_rule;
 use std::alloc::{AllocError, Global};
 use std::collections::BTreeSet;
 
+/// The file, in the place of a module's number: no answer has it.
+pub(crate) const FILE: usize = usize::MAX;
+
 /// The names so far, each with the number of the module or the loop that declares it, and `default`
 /// with that of a case.
 #[derive(Drop)]

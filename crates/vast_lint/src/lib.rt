@@ -22,6 +22,7 @@ mod rule;
 mod sides;
 mod statements;
 mod tools;
+mod typedefs;
 mod types;
 mod warning;
 mod words;

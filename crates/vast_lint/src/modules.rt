@@ -6,6 +6,7 @@ use crate::facts::{Fact, Known};
 use crate::forms::TypeForm;
 use crate::parameters::{defined_parameter, parameter, typed_rule};
 use crate::rule::Rule;
+use crate::typedefs::typedef;
 use crate::warning::StepFindings;
 use crate::words::{comment_rule, name_rule};
 use std::alloc::AllocError;
@@ -34,6 +35,10 @@ pub(crate) fn module(
         ModuleStep::AddImport(_, package) | ModuleStep::AddFileImport(package) => {
             imported(known, package, told)
         }
+        ModuleStep::AddEnumTypedef(_, _, _, _, _)
+        | ModuleStep::AddStructTypedef(_, _, _)
+        | ModuleStep::AddFileEnumTypedef(_, _, _, _)
+        | ModuleStep::AddFileStructTypedef(_, _) => typedef(known, declared, step, told),
         ModuleStep::AddModule(name) => {
             declare_module(known, declared, name, told)?;
             Ok(Fact::Other)

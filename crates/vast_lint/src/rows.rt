@@ -64,6 +64,17 @@ pub(crate) fn row_of(rule: Rule) -> Row {
         Rule::UnpackedPort => ("a port that is an unpacked array", Tools::Yosys),
         Rule::UnpackedInput => ("a function's input that is an unpacked array", Tools::IcarusAndYosys),
         Rule::PackageResult => ("a function with a package's type as its result", Tools::Icarus),
+        Rule::EmptyTypedef => {
+            ("an enumeration without entries and a structure without fields are no SystemVerilog", Tools::All)
+        }
+        Rule::EnumBase => ("an enumeration over a type's name or a packed array", Tools::IcarusAndYosys),
+        Rule::EnumArray => ("an unpacked array that declares its enumeration", Tools::Yosys),
+        Rule::SignalEntry => {
+            ("a value of an enumeration that is not constant is no SystemVerilog", Tools::IcarusAndVerilator)
+        }
+        Rule::FieldKind => ("a field of such a kind is no SystemVerilog", Tools::All),
+        Rule::FieldTwice => ("a second field of the name is no SystemVerilog", Tools::Verilator),
+        Rule::NamedField => ("a field of a package's type, or of a packed array of a type's name", Tools::Yosys),
         Rule::WireParameter => ("a parameter of the kind `wire` or `genvar` is no SystemVerilog", Tools::All),
         Rule::RegParameter => ("a parameter of the kind `reg`", Tools::Icarus),
         Rule::IntegerRange => {
@@ -134,6 +145,7 @@ pub(crate) fn row_of(rule: Rule) -> Row {
         Rule::VerilogPattern => ("an assignment pattern is no Verilog", Tools::All),
         Rule::VerilogType => ("a type's name in a declaration is no Verilog", Tools::All),
         Rule::VerilogImport => ("an import of a package is no Verilog", Tools::All),
+        Rule::VerilogTypedef => ("a type that is declared by name is no Verilog", Tools::All),
     };
     Row { why, tools }
 }

@@ -48,6 +48,14 @@ pub enum Rule {
     UnpackedPort,
     UnpackedInput,
     PackageResult,
+    // Types that are declared by name
+    EmptyTypedef,
+    EnumBase,
+    EnumArray,
+    SignalEntry,
+    FieldKind,
+    FieldTwice,
+    NamedField,
     // Parameters
     WireParameter,
     RegParameter,
@@ -100,6 +108,7 @@ pub enum Rule {
     VerilogPattern,
     VerilogType,
     VerilogImport,
+    VerilogTypedef,
 }
 
 impl Rule {

@@ -179,7 +179,7 @@ unfolding integer_sign is_sign
 integer_sign_spelled true = absent
 integer_sign_spelled false = present UnsignedKey refl
 
-sign_spelled : (base : TypeTree) → IsMaybe is_sign (maybe_tokens (sign_of base)) (sign_of base)
+pub sign_spelled : (base : TypeTree) → IsMaybe is_sign (maybe_tokens (sign_of base)) (sign_of base)
 unfolding sign_of
 sign_spelled (ScalarTree signed) = scalar_sign_spelled signed
 sign_spelled (VectorTree w v signed) = scalar_sign_spelled signed
@@ -187,12 +187,18 @@ sign_spelled (IntegerTree signed) = integer_sign_spelled signed
 sign_spelled (IntTree signed) = integer_sign_spelled signed
 sign_spelled _ = absent
 
+pub groups_spelled : (t : TypeTree) → is_plain_type t ≡ true → is_well_formed_type t ≡ true → IsMany IsGroup (packed_tokens (packed_dimensions t) ++ vector_tokens (base_of t)) (packed_groups (packed_dimensions t) ++ vector_groups (base_of t))
+groups_spelled t l f = many_append (packed_spelled (packed_dimensions t) (packed_plain t l) (packed_formed t f)) (vector_spelled (base_of t) (base_plain t l) (base_formed t f))
+
+pub behind_spelled : (dialect : Dialect) (t : TypeTree) → is_plain_type t ≡ true → is_well_formed_type t ≡ true → IsMany IsGroup (unpacked_tokens dialect (unpacked_dimensions t)) (unpacked_groups dialect (unpacked_dimensions t))
+behind_spelled dialect t l f = unpacked_spelled dialect (unpacked_dimensions t) (unpacked_plain t l) (unpacked_formed t f)
+
 -- The tokens of a declaration spell its written parts.
 pub declaration_spelled : (dialect : Dialect) (kind : Kind) (t : TypeTree) (n : List ℕ) → is_plain_type t ≡ true → is_well_formed_type t ≡ true → IsDeclaration (declaration_tokens dialect kind t n) (normal_declaration dialect kind t n)
 unfolding declaration_tokens normal_declaration
-declaration_spelled dialect kind t n l f = declares n (kind_spelled kind) (type_spelled (base_of t)) (sign_spelled (base_of t)) (many_append (packed_spelled (packed_dimensions t) (packed_plain t l) (packed_formed t f)) (vector_spelled (base_of t) (base_plain t l) (base_formed t f))) (unpacked_spelled dialect (unpacked_dimensions t) (unpacked_plain t l) (unpacked_formed t f))
+declaration_spelled dialect kind t n l f = declares n (kind_spelled kind) (type_spelled (base_of t)) (sign_spelled (base_of t)) (groups_spelled t l f) (behind_spelled dialect t l f)
 
-declared_type : (t : TypeTree) (n : List ℕ) → is_plain_declaration t n ≡ true → is_plain_type t ≡ true
+pub declared_type : (t : TypeTree) (n : List ℕ) → is_plain_declaration t n ≡ true → is_plain_type t ≡ true
 declared_type t n p = and_right (is_plain_name n) (is_plain_type t) p
 
 pub declared_spelled : (dialect : Dialect) (d : Declaration) → is_plain_declared d ≡ true → is_well_formed_type d.type ≡ true → IsDeclaration (declared_tokens dialect d) (normal_declared dialect d)

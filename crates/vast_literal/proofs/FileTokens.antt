@@ -1,14 +1,14 @@
 -- The tokens that the printed page of a file has.
 use Rattle.std.specs.Prelude.{ℕ, ℤ, pos, ◌-ℤ◌, Bool, true, false, List, [], ◌∷◌, ◌++◌, codes, Option, Some, None, cond, if◌then◌else◌}
 use Rattle.std.specs.Fmt.{signed_decimal}
-use Rattle.vast_literal.specs.Tokens.{Less, LessEqual, Minus, Key, IfKey, ElseKey, EndCaseKey, DefaultKey, UniqueKey, BeginKey, EndKey, AssignKey, IntKey, GenvarKey, ModuleKey, EndModuleKey, ParameterKey, OrKey, FunctionKey, AutomaticKey, EndFunctionKey, InputKey}
-use Rattle.vast_literal.specs.Tokens.{OpenParen, CloseParen, OpenBracket, CloseBracket, Comma, Colon, Semicolon, Dot, Hash, DoubleColon, Assign, Token, Reserved, Word, MacroWord, Number, Quoted, Operator, Mark}
+use Rattle.vast_literal.specs.Tokens.{Less, LessEqual, Minus, Key, IfKey, ElseKey, EndCaseKey, DefaultKey, UniqueKey, BeginKey, EndKey, AssignKey, IntKey, GenvarKey, ModuleKey, EndModuleKey, ParameterKey, OrKey, FunctionKey, AutomaticKey, EndFunctionKey, InputKey, TypedefKey, EnumKey, StructKey, PackedKey}
+use Rattle.vast_literal.specs.Tokens.{OpenParen, CloseParen, OpenBracket, CloseBracket, OpenBrace, CloseBrace, Comma, Colon, Semicolon, Dot, Hash, DoubleColon, Assign, Token, Reserved, Word, MacroWord, Number, Quoted, Operator, Mark}
 use Rattle.vast_literal.specs.Tree.{Dialect, VerilogDialect, SystemVerilogDialect, ExprTree, Exprs, NoExprs, MoreExprs, MaybeExpr, NoExpr, SomeExpr, MaybeType, Untyped, Typed}
 use Rattle.vast_literal.specs.Tree.{LtOp, TypeTree, VectorTree, ExternalTree, PackageTree, Kind, Declaration}
 use Rattle.vast_literal.specs.Tree.{AssignForm, Blocking, Nonblocking, Continuous, CaseWord, StatementTree, AssignTree, TaskTree, CommentTree, BlankTree, InlineTree, ConditionalTree, CaseTree, ForTree, Statements, NoStatements, MoreStatements, Alternates, NoElse, ElseIf, Else, CaseArms, NoCaseArms, CaseArm}
-use Rattle.vast_literal.specs.Tree.{AlwaysWord, ParameterName, PlainParameter, IntParameter, DefinedParameter, Connection, InstanceTree, FunctionTree}
-use Rattle.vast_literal.specs.Tree.{MemberTree, DeclarationMember, AssignMember, ParameterMember, CommentMember, BlankMember, InlineMember, ImportMember, MacroMember, InstanceMember, AlwaysMember, ConditionalMember, FunctionMember, LoopMember, Members, NoMembers, MoreMembers}
-use Rattle.vast_literal.specs.Tree.{PortTree, ParameterPortTree, ModuleTree, FileItemTree, ModuleItem, IncludeItem, ImportItem, CommentItem, BlankItem, FileTree}
+use Rattle.vast_literal.specs.Tree.{AlwaysWord, ParameterName, PlainParameter, IntParameter, DefinedParameter, Connection, InstanceTree, FunctionTree, TypedefTree, EnumTree, StructTree}
+use Rattle.vast_literal.specs.Tree.{MemberTree, DeclarationMember, AssignMember, ParameterMember, CommentMember, BlankMember, InlineMember, ImportMember, TypedefMember, MacroMember, InstanceMember, AlwaysMember, ConditionalMember, FunctionMember, LoopMember, Members, NoMembers, MoreMembers}
+use Rattle.vast_literal.specs.Tree.{PortTree, ParameterPortTree, ModuleTree, FileItemTree, ModuleItem, IncludeItem, ImportItem, TypedefItem, CommentItem, BlankItem, FileTree}
 use Rattle.vast_literal.proofs.LiteralToken.{literal_tokens}
 use Rattle.vast_literal.specs.Shape.{right_child_wraps, highest_index_wraps, literal_value, base_of, packed_dimensions, unpacked_dimensions, port_kind, base_kind, result_kind, is_bare_arm, name_alone, is_one_casez, always_words, has_events, import_words, loop_words}
 use Rattle.vast_literal.proofs.ExprTokens.{called_token, wrapped_tokens, expr_tokens}
@@ -200,6 +200,23 @@ unfoldable pub loop_label_tokens : Option (List ℕ) → List Token
 loop_label_tokens None = []
 loop_label_tokens (Some label) = Mark Colon ∷ (Word label ∷ [])
 
+unfoldable pub entry_value_tokens : MaybeExpr → List Token
+entry_value_tokens NoExpr = []
+entry_value_tokens (SomeExpr value) = Mark Assign ∷ expr_tokens value
+
+unfoldable pub each_entry : List Connection → List (List Token)
+each_entry [] = []
+each_entry (c ∷ cs) = (Word c.name ∷ entry_value_tokens c.value) ∷ each_entry cs
+
+-- Before the entries stands a declaration without its name.
+unfoldable pub typedef_tokens : Dialect → TypedefTree → List Token
+typedef_tokens dialect (EnumTree type name entries) =
+    Reserved TypedefKey ∷ (Reserved EnumKey ∷ (maybe_tokens (kind_key (base_kind (base_of type))) ++ (type_name_tokens (base_of type) ++ (maybe_tokens (sign_of (base_of type)) ++
+    ((packed_tokens (packed_dimensions type) ++ vector_tokens (base_of type)) ++ (Mark OpenBrace ∷ (separated (each_entry entries) ++
+    (Mark CloseBrace ∷ (Word name ∷ (unpacked_tokens dialect (unpacked_dimensions type) ++ (Mark Semicolon ∷ [])))))))))))
+typedef_tokens dialect (StructTree name fields) =
+    Reserved TypedefKey ∷ (Reserved StructKey ∷ (Reserved PackedKey ∷ (Mark OpenBrace ∷ (local_tokens dialect fields ++ (Mark CloseBrace ∷ (Word name ∷ (Mark Semicolon ∷ [])))))))
+
 unfoldable mutual
   pub member_tokens : Dialect → MemberTree → List Token
   member_tokens dialect (DeclarationMember d) = declared_tokens dialect d ++ (Mark Semicolon ∷ [])
@@ -209,6 +226,7 @@ unfoldable mutual
   member_tokens dialect BlankMember = []
   member_tokens dialect (InlineMember text) = []
   member_tokens dialect (ImportMember package_name) = import_words package_name
+  member_tokens dialect (TypedefMember t) = typedef_tokens dialect t
   member_tokens dialect (MacroMember call semicolon) = expr_tokens call ++ semicolon_tokens semicolon
   member_tokens dialect (InstanceMember i) = instance_tokens i
   member_tokens dialect (AlwaysMember word events body) = always_tokens word events (block_tokens (statements_tokens body))
@@ -253,6 +271,7 @@ unfoldable pub item_tokens : Dialect → FileItemTree → List Token
 item_tokens dialect (ModuleItem m) = module_tokens dialect m
 item_tokens dialect (IncludeItem path) = MacroWord (codes "include") ∷ (Quoted (34 ∷ (path ++ (34 ∷ []))) ∷ [])
 item_tokens dialect (ImportItem package_name) = import_words package_name
+item_tokens dialect (TypedefItem t) = typedef_tokens dialect t
 item_tokens dialect (CommentItem text) = []
 item_tokens dialect BlankItem = []
 

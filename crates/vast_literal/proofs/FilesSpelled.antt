@@ -1,20 +1,20 @@
 -- The tokens of a file's page spell its normal form.
 use Rattle.std.proofs.Common.{◌≡◌, ℕ, List, [], ◌∷◌, ◌++◌, map, true, ◌&&◌, IsTrue, refl}
 use Rattle.vast_literal.specs.Tokens.{Assign, EndModuleKey, ParameterKey, Reserved, Mark}
-use Rattle.vast_literal.specs.Tree.{Dialect, MaybeType, Untyped, Typed, PortDirection, InputDirection, PortTree, ParameterPortTree, ModuleTree, FileItemTree, ModuleItem, IncludeItem, ImportItem, CommentItem, BlankItem, FileTree}
+use Rattle.vast_literal.specs.Tree.{Dialect, MaybeType, Untyped, Typed, PortDirection, InputDirection, PortTree, ParameterPortTree, ModuleTree, FileItemTree, ModuleItem, IncludeItem, ImportItem, TypedefItem, CommentItem, BlankItem, FileTree}
 use Rattle.vast_literal.specs.NormalFile.{ModulePart}
-use Rattle.vast_literal.specs.FileGrammar.{IsMany, no_items, more_items, absent, no_type, IsDeclaration, declares, is_direction, IsParameter, header_parameter, IsPort, port, IsParameters, no_header_parameters, header_parameters, IsPorts, no_ports, ports, IsItem, module_item, include_item, import_item, IsFile, file}
+use Rattle.vast_literal.specs.FileGrammar.{IsMany, no_items, more_items, absent, no_type, IsDeclaration, declares, is_direction, IsParameter, header_parameter, IsPort, port, IsParameters, no_header_parameters, header_parameters, IsPorts, no_ports, ports, IsItem, module_item, include_item, import_item, typedef_item, IsFile, file}
 use Rattle.vast_literal.specs.Plain.{is_plain_name, is_plain}
 use Rattle.vast_literal.proofs.ExprTokens.{expr_tokens}
 use Rattle.vast_literal.specs.WellFormed.{is_well_formed, is_well_formed_type}
 use Rattle.vast_literal.specs.Shape.{base_of, base_kind}
 use Rattle.vast_literal.specs.NormalTree.{direction_key, normal_port, normal_typed, normal_parameter, normal_module, normal_item_before, normal_items, normal_file}
 use Rattle.vast_literal.proofs.FileTokens.{port_declaration_tokens, each_port, typed_tokens, each_parameter, header_parameter_tokens, header_port_tokens, module_tokens, item_tokens, items_tokens, file_tokens}
-use Rattle.vast_literal.specs.PlainFile.{is_plain_declared, are_plain_members, are_plain_ports, is_plain_typed, are_plain_parameters, is_plain_module, is_path_byte, are_plain_items, is_plain_file}
-use Rattle.vast_literal.specs.WellFormedFile.{are_well_formed_members, are_well_formed_ports, is_well_formed_typed, are_well_formed_parameters, is_well_formed_module, are_well_formed_items, is_well_formed_file}
+use Rattle.vast_literal.specs.PlainFile.{is_plain_declared, is_plain_typedef, are_plain_members, are_plain_ports, is_plain_typed, are_plain_parameters, is_plain_module, is_path_byte, are_plain_items, is_plain_file}
+use Rattle.vast_literal.specs.WellFormedFile.{is_well_formed_typedef, are_well_formed_members, are_well_formed_ports, is_well_formed_typed, are_well_formed_parameters, is_well_formed_module, are_well_formed_items, is_well_formed_file}
 use Rattle.vast_literal.proofs.ScanLaws.{and_left, and_right}
 use Rattle.vast_literal.proofs.DeclarationSpelled.{value_spelled, port_declaration_spelled, named_spelled}
-use Rattle.vast_literal.proofs.MembersSpelled.{Each, each_none, each_more, each_joined, members_spelled}
+use Rattle.vast_literal.proofs.MembersSpelled.{Each, each_none, each_more, each_joined, typedef_spelled, members_spelled}
 use Rattle.vast_literal.specs.LiteralToken.{every}
 
 direction_spelled : (d : PortDirection) → IsTrue (is_direction (direction_key d))
@@ -76,6 +76,7 @@ items_spelled dialect [] h w = no_items
 items_spelled dialect (ModuleItem m ∷ is) h w = more_items (module_spelled dialect m (and_left _ _ h) (and_left _ _ w)) (items_spelled dialect is (and_right (is_plain_module m) (are_plain_items is) h) (and_right (is_well_formed_module m) (are_well_formed_items is) w))
 items_spelled dialect (IncludeItem path ∷ is) h w = more_items (include_item path) (items_spelled dialect is (and_right (every is_path_byte path) (are_plain_items is) h) w)
 items_spelled dialect (ImportItem package_name ∷ is) h w = more_items (import_item package_name) (items_spelled dialect is (and_right (is_plain_name package_name) (are_plain_items is) h) w)
+items_spelled dialect (TypedefItem t ∷ is) h w = more_items (typedef_item (typedef_spelled dialect t (and_left _ _ h) (and_left _ _ w))) (items_spelled dialect is (and_right (is_plain_typedef t) (are_plain_items is) h) (and_right (is_well_formed_typedef t) (are_well_formed_items is) w))
 items_spelled dialect (CommentItem text ∷ is) h w = items_spelled dialect is h w
 items_spelled dialect (BlankItem ∷ is) h w = items_spelled dialect is h w
 

@@ -1,22 +1,22 @@
 -- The tokens of a member's page spell its normal form.
 use Rattle.std.proofs.Common.{◌≡◌, ℕ, List, [], ◌∷◌, ◌++◌, map, Bool, true, false, ◌&&◌, Option, Some, None, IsTrue, refl, append_assoc, append-nil}
-use Rattle.vast_literal.specs.Tokens.{OpenParen, CloseParen, Comma, Semicolon, Dot, Key, BeginKey, EndKey, WireKey, RegKey, LogicKey, IntKey, PosedgeKey, NegedgeKey, OrKey, Token, Reserved, Word, Mark}
-use Rattle.vast_literal.specs.Tree.{Dialect, ExprTree, NameTree, PosEdgeTree, NegEdgeTree, MacroTree, MaybeExpr, NoExpr, SomeExpr, Exprs, NoExprs, MoreExprs, NoArguments, SomeArguments, Kind, RegKind, WireKind, LogicKind, Declaration, Continuous, AlwaysWord, AlwaysFFWord, AlwaysAtWord, AlwaysCombWord, AlwaysStarWord, AlwaysLatchWord, InitialWord, ParameterName, PlainParameter, IntParameter, DefinedParameter, Connection, InstanceTree, FunctionTree, MemberTree, DeclarationMember, AssignMember, ParameterMember, CommentMember, BlankMember, InlineMember, ImportMember, MacroMember, InstanceMember, AlwaysMember, ConditionalMember, FunctionMember, LoopMember, Members, NoMembers, MoreMembers}
+use Rattle.vast_literal.specs.Tokens.{OpenParen, CloseParen, OpenBrace, CloseBrace, Comma, Semicolon, Dot, Key, BeginKey, EndKey, WireKey, RegKey, LogicKey, IntegerKey, IntKey, TypedefKey, EnumKey, PosedgeKey, NegedgeKey, OrKey, Token, Reserved, Word, Mark}
+use Rattle.vast_literal.specs.Tree.{Dialect, ExprTree, NameTree, PosEdgeTree, NegEdgeTree, MacroTree, TypeTree, ScalarTree, VectorTree, IntegerTree, IntTree, PackedTree, UnpackedTree, MaybeExpr, NoExpr, SomeExpr, Exprs, NoExprs, MoreExprs, NoArguments, SomeArguments, Kind, RegKind, WireKind, LogicKind, Declaration, Continuous, AlwaysWord, AlwaysFFWord, AlwaysAtWord, AlwaysCombWord, AlwaysStarWord, AlwaysLatchWord, InitialWord, ParameterName, PlainParameter, IntParameter, DefinedParameter, Connection, InstanceTree, FunctionTree, TypedefTree, EnumTree, StructTree, MemberTree, DeclarationMember, AssignMember, ParameterMember, CommentMember, BlankMember, InlineMember, ImportMember, TypedefMember, MacroMember, InstanceMember, AlwaysMember, ConditionalMember, FunctionMember, LoopMember, Members, NoMembers, MoreMembers}
 use Rattle.vast_literal.specs.NormalExpr.{NormalExpr}
-use Rattle.vast_literal.specs.NormalFile.{NormalStatements, Event, AssignPart, InstancePart, NormalMembers}
+use Rattle.vast_literal.specs.NormalFile.{NormalStatements, Group, Event, NormalConnection, AssignPart, EnumPart, InstancePart, NormalMembers}
 use Rattle.vast_literal.specs.Grammar.{Spells, name}
-use Rattle.vast_literal.specs.FileGrammar.{IsMany, no_items, more_items, IsJoined, last_item, next_item, IsList, empty, full, IsStatements, is_kind, absent, present, no_type, IsDeclaration, declares, is_member_kind, is_local_kind, is_parameter_word, is_edge, IsEvent, edge, plain, IsInput, input, IsDeclared, declared, IsGiven, given, IsConnection, connected, unconnected, IsGivenList, no_parameters, with_parameters, IsSemicolon, with_one, without, IsLabel, no_label, labelled, IsMember, declaration, continuous, parameter, macro, macro_with, import_member, instance, unclocked, clocked, conditional, function, loop, IsMembers, closed, and_member}
+use Rattle.vast_literal.specs.FileGrammar.{IsMany, no_items, more_items, IsJoined, last_item, next_item, IsList, empty, full, IsStatements, is_kind, IsGroup, absent, present, no_type, IsDeclaration, declares, is_member_kind, is_local_kind, is_parameter_word, is_edge, IsEvent, edge, plain, IsInput, input, IsDeclared, declared, IsGiven, given, IsConnection, connected, unconnected, IsGivenList, no_parameters, with_parameters, IsSemicolon, with_one, without, IsLabel, no_label, labelled, IsEntry, valued, counted, IsField, field, IsTypedef, enumeration, structure, IsMember, declaration, continuous, parameter, macro, macro_with, import_member, typedef_member, instance, unclocked, clocked, conditional, function, loop, IsMembers, closed, and_member}
 use Rattle.vast_literal.specs.Plain.{is_plain_name, is_plain, are_plain}
-use Rattle.vast_literal.specs.Shape.{result_kind}
+use Rattle.vast_literal.specs.Shape.{base_of, base_kind, result_kind}
 use Rattle.vast_literal.proofs.ExprTokens.{expr_tokens}
 use Rattle.vast_literal.specs.WellFormed.{is_well_formed, is_well_formed_type}
-use Rattle.vast_literal.specs.NormalTree.{kind_key, normal_declaration, normal_declared, normal_label, parameter_key, normal_parameter_name, normal_arguments, normal_macro, normal_connection, normal_event, normal_events, normal_always, normal_port_declaration, normal_function, normal_member_before, normal_members}
-use Rattle.vast_literal.proofs.FileTokens.{declared_tokens, assignment_tokens, separated, parameter_name_tokens, semicolon_tokens, value_tokens, connection_tokens, each_connection, given_tokens, instance_tokens, more_event_tokens, event_tokens, always_tokens, each_input, local_tokens, function_tokens, loop_label_tokens, member_tokens, members_tokens}
-use Rattle.vast_literal.specs.PlainFile.{is_plain_maybe, is_left_side, is_plain_declaration, is_plain_declared, are_plain_statements, are_plain_alternates, is_plain_event, are_plain_events, are_plain_awaited, is_plain_parameter_name, are_plain_connections, is_plain_instance, is_plain_function, is_plain_label, is_plain_member, are_plain_members}
-use Rattle.vast_literal.specs.WellFormedFile.{is_well_formed_maybe, is_own_kind, is_local_word, is_macro, are_well_formed_statements, are_well_formed_alternates, is_well_formed_event, are_well_formed_events, is_well_formed_parameter_name, are_well_formed_connections, is_given, are_given, are_well_formed_inputs, are_well_formed_locals, is_well_formed_function, is_well_formed_member, are_well_formed_members}
+use Rattle.vast_literal.specs.NormalTree.{kind_key, package_of, type_name_of, sign_of, normal_declaration, normal_declared, normal_label, parameter_key, normal_parameter_name, normal_arguments, normal_macro, normal_connection, normal_event, normal_events, normal_always, normal_port_declaration, normal_function, normal_typedef, normal_member_before, normal_members}
+use Rattle.vast_literal.proofs.FileTokens.{maybe_tokens, type_name_tokens, declared_tokens, assignment_tokens, separated, parameter_name_tokens, semicolon_tokens, value_tokens, connection_tokens, each_connection, given_tokens, instance_tokens, more_event_tokens, event_tokens, always_tokens, each_input, local_tokens, function_tokens, loop_label_tokens, entry_value_tokens, each_entry, typedef_tokens, member_tokens, members_tokens}
+use Rattle.vast_literal.specs.PlainFile.{is_plain_maybe, is_left_side, is_plain_declaration, is_plain_declared, are_plain_statements, are_plain_alternates, is_plain_event, are_plain_events, are_plain_awaited, is_plain_parameter_name, are_plain_connections, is_plain_instance, is_plain_function, is_plain_label, is_built_in, is_plain_typedef, is_plain_member, are_plain_members}
+use Rattle.vast_literal.specs.WellFormedFile.{is_well_formed_maybe, is_own_kind, is_local_word, is_macro, are_well_formed_statements, are_well_formed_alternates, is_well_formed_event, are_well_formed_events, is_well_formed_parameter_name, are_well_formed_connections, is_given, are_given, are_well_formed_inputs, are_well_formed_locals, is_well_formed_function, is_well_formed_typedef, is_well_formed_member, are_well_formed_members}
 use Rattle.vast_literal.proofs.ScanLaws.{and_left, and_right}
 use Rattle.vast_literal.proofs.Spelled.{list_spells, each_spelled}
-use Rattle.vast_literal.proofs.DeclarationSpelled.{value_spelled, left_spelled, test_spelled, declared_spelled, port_declaration_spelled, named_spelled}
+use Rattle.vast_literal.proofs.DeclarationSpelled.{value_spelled, left_spelled, test_spelled, sign_spelled, groups_spelled, behind_spelled, declared_type, declared_spelled, port_declaration_spelled, named_spelled}
 use Rattle.vast_literal.proofs.StatementsSpelled.{statements_spelled, choice_spelled, function_body_spelled}
 use Rattle.vast_literal.specs.LiteralToken.{every}
 
@@ -157,6 +157,49 @@ function_spelled dialect f p w =
     function (named_spelled dialect f.result (result_kind dialect f.result) f.name (and_left _ _ p) (and_left _ _ w)) (each_list (inputs_spelled dialect f.inputs (and_left _ _ p1) (and_left _ _ w1)))
     (locals_spelled dialect f.locals (and_left _ _ p2) (and_left _ _ w2)) (function_body_spelled f.body (and_right (every is_plain_declared f.locals) (are_plain_statements f.body) p2) (and_right (are_well_formed_locals f.locals) (are_well_formed_statements f.body) w2))
 
+-- types that are declared by name
+
+entry_spelled : (n : List ℕ) (v : MaybeExpr) → is_plain_maybe v ≡ true → is_well_formed_maybe v ≡ true → IsEntry (Word n ∷ entry_value_tokens v) (record { name = n; value = normal_label v })
+unfolding entry_value_tokens normal_label
+entry_spelled n NoExpr p w = counted n
+entry_spelled n (SomeExpr e) p w = valued n (value_spelled e p w)
+
+entries_spelled : (cs : List Connection) → are_plain_connections cs ≡ true → are_well_formed_connections cs ≡ true → Each IsEntry (each_entry cs) (map normal_connection cs)
+unfolding each_entry normal_connection
+entries_spelled [] p w = each_none
+entries_spelled (c ∷ cs) p w = each_more (entry_spelled c.name c.value (and_right (is_plain_name c.name) (is_plain_maybe c.value) (and_left _ _ p)) (and_left _ _ w))
+    (entries_spelled cs (and_right (is_plain_name c.name && is_plain_maybe c.value) (are_plain_connections cs) p) (and_right (is_well_formed_maybe c.value) (are_well_formed_connections cs) w))
+
+fields_spelled : (dialect : Dialect) (ds : List Declaration) → every is_plain_declared ds ≡ true → are_well_formed_inputs ds ≡ true → IsMany IsField (local_tokens dialect ds) (map (normal_declared dialect) ds)
+unfolding local_tokens
+fields_spelled dialect [] p w = no_items
+fields_spelled dialect (d ∷ ds) p w = more_items (field (declared_spelled dialect d (and_left _ _ p) (and_left _ _ w))) (fields_spelled dialect ds (and_right (is_plain_declared d) (every is_plain_declared ds) p) (and_right (is_well_formed_type d.type) (are_well_formed_inputs ds) w))
+
+built_in_base : (t : TypeTree) → is_built_in t ≡ true → is_built_in (base_of t) ≡ true
+built_in_base (PackedTree t ds) h = absurd (cc h)
+built_in_base (UnpackedTree t ds) h = absurd (cc h)
+built_in_base _ h = h
+
+enum_spelled : (base : TypeTree) (n : List ℕ) {gs es hs : List Token} {g h : List Group} {e : List NormalConnection} → is_built_in base ≡ true → IsMany IsGroup gs g → IsList IsEntry (Mark Comma) es e → IsMany IsGroup hs h →
+    IsTypedef (Reserved TypedefKey ∷ (Reserved EnumKey ∷ (maybe_tokens (kind_key (base_kind base)) ++ (type_name_tokens base ++ (maybe_tokens (sign_of base) ++ (gs ++ (Mark OpenBrace ∷ (es ++ (Mark CloseBrace ∷ (Word n ∷ (hs ++ (Mark Semicolon ∷ []))))))))))))
+    (EnumPart (record { kind = kind_key (base_kind base); package_name = package_of base; type_name = type_name_of base; sign = sign_of base; groups = g; name = n; behind = h }) e)
+unfolding kind_key type_name_tokens package_of type_name_of is_kind
+enum_spelled (ScalarTree signed) n b g e h = enumeration LogicKey n refl (sign_spelled (ScalarTree signed)) g e h
+enum_spelled (VectorTree width value signed) n b g e h = enumeration LogicKey n refl (sign_spelled (VectorTree width value signed)) g e h
+enum_spelled (IntegerTree signed) n b g e h = enumeration IntegerKey n refl (sign_spelled (IntegerTree signed)) g e h
+enum_spelled (IntTree signed) n b g e h = enumeration IntKey n refl (sign_spelled (IntTree signed)) g e h
+enum_spelled _ n b g e h = absurd (cc b)
+
+pub typedef_spelled : (dialect : Dialect) (t : TypedefTree) → is_plain_typedef t ≡ true → is_well_formed_typedef t ≡ true → IsTypedef (typedef_tokens dialect t) (normal_typedef dialect t)
+unfolding typedef_tokens normal_typedef normal_declaration
+typedef_spelled dialect (EnumTree type n es) p w =
+    let l = declared_type type n (and_left _ _ p) in
+    let f = and_left _ _ w in
+    let q = and_right (is_plain_declaration type n) (is_built_in type && are_plain_connections es) p in
+    enum_spelled (base_of type) n (built_in_base type (and_left _ _ q)) (groups_spelled type l f)
+    (each_list (entries_spelled es (and_right (is_built_in type) (are_plain_connections es) q) (and_right (is_well_formed_type type) (are_well_formed_connections es) w))) (behind_spelled dialect type l f)
+typedef_spelled dialect (StructTree n ds) p w = structure n (fields_spelled dialect ds (and_right (is_plain_name n) (every is_plain_declared ds) p) w)
+
 -- parameters, macros and loops
 
 parameter_name_spelled : (dialect : Dialect) (n : ParameterName) → is_plain_parameter_name n ≡ true → is_well_formed_parameter_name n ≡ true → IsDeclaration (parameter_name_tokens dialect n) (normal_parameter_name dialect n)
@@ -207,6 +250,7 @@ mutual
   before_spelled dialect BlankMember p w rest = rest
   before_spelled dialect (InlineMember text) p w rest = rest
   before_spelled dialect (ImportMember package_name) p w rest = and_member (import_member package_name) rest
+  before_spelled dialect (TypedefMember t) p w rest = and_member (typedef_member (typedef_spelled dialect t p w)) rest
   before_spelled dialect (MacroMember e s) p w rest = and_member (macro_spelled e s p w) rest
   before_spelled dialect (InstanceMember i) p w rest = and_member (instance_spelled i p w) rest
   before_spelled dialect (AlwaysMember word es b) p w rest =

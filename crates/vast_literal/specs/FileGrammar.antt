@@ -1,12 +1,12 @@
 -- The grammar of files, over that of expressions: which token lists spell which statements, declarations, members, modules and files.
 use Rattle.std.specs.Prelude.{◌≡◌, ℕ, List, [], ◌∷◌, ◌++◌, Bool, true, false, codes, Option, Some, None, IsTrue, if◌then◌else◌}
-use Rattle.vast_literal.specs.Tokens.{Less, LessEqual, Key, IfKey, ElseKey, CaseKey, CasezKey, CasexKey, EndCaseKey, DefaultKey, UniqueKey, BeginKey, EndKey, AssignKey, WireKey, RegKey, LogicKey, IntegerKey, IntKey, GenvarKey, SignedKey, UnsignedKey, ModuleKey, EndModuleKey, ParameterKey, LocalparamKey, PosedgeKey, NegedgeKey, OrKey, FunctionKey, AutomaticKey, EndFunctionKey, InputKey, OutputKey, InOutKey}
-use Rattle.vast_literal.specs.Tokens.{OpenParen, CloseParen, OpenBracket, CloseBracket, Comma, Colon, Semicolon, Dot, Hash, DoubleColon, Assign, Token, Reserved, Word, MacroWord, Quoted, Operator, Mark}
+use Rattle.vast_literal.specs.Tokens.{Less, LessEqual, Key, IfKey, ElseKey, CaseKey, CasezKey, CasexKey, EndCaseKey, DefaultKey, UniqueKey, BeginKey, EndKey, AssignKey, WireKey, RegKey, LogicKey, IntegerKey, IntKey, GenvarKey, SignedKey, UnsignedKey, ModuleKey, EndModuleKey, ParameterKey, LocalparamKey, PosedgeKey, NegedgeKey, OrKey, FunctionKey, AutomaticKey, EndFunctionKey, InputKey, OutputKey, InOutKey, TypedefKey, EnumKey, StructKey, PackedKey}
+use Rattle.vast_literal.specs.Tokens.{OpenParen, CloseParen, OpenBracket, CloseBracket, OpenBrace, CloseBrace, Comma, Colon, Semicolon, Dot, Hash, DoubleColon, Assign, Token, Reserved, Word, MacroWord, Quoted, Operator, Mark}
 use Rattle.vast_literal.specs.Tree.{AlwaysWord}
 use Rattle.vast_literal.specs.Shape.{always_words, has_events, import_words, loop_words}
 use Rattle.vast_literal.specs.Lexemes.{Lexes}
 use Rattle.vast_literal.specs.NormalExpr.{NormalExpr, Name, Binary, NormalExprs}
-use Rattle.vast_literal.specs.NormalFile.{NormalStatement, BlockingStatement, NonblockingStatement, AssignStatement, TaskStatement, ChoiceStatement, CaseStatement, ForStatement, NormalStatements, Done, Then, Arms, Only, Otherwise, Or, Labels, NoLabels, Label, Group, One, Range, NormalDeclaration, Event, EdgeEvent, NameEvent, NormalConnection, NormalMember, DeclarationPart, AssignPart, ParameterPart, MacroPart, ImportPart, InstancePart, AlwaysPart, ConditionalPart, FunctionPart, LoopPart, NormalMembers, NoParts, MoreParts, NormalParameter, NormalPort, NormalItem, ModulePart, IncludePart, FileImportPart, NormalFile}
+use Rattle.vast_literal.specs.NormalFile.{NormalStatement, BlockingStatement, NonblockingStatement, AssignStatement, TaskStatement, ChoiceStatement, CaseStatement, ForStatement, NormalStatements, Done, Then, Arms, Only, Otherwise, Or, Labels, NoLabels, Label, Group, One, Range, NormalDeclaration, Event, EdgeEvent, NameEvent, NormalConnection, NormalMember, DeclarationPart, AssignPart, ParameterPart, MacroPart, ImportPart, EnumPart, StructPart, InstancePart, AlwaysPart, ConditionalPart, FunctionPart, LoopPart, NormalMembers, NoParts, MoreParts, NormalParameter, NormalPort, NormalItem, ModulePart, IncludePart, FileImportPart, MemberPart, NormalFile}
 use Rattle.vast_literal.specs.Grammar.{Spells, SpellsList}
 
 -- Lists.
@@ -188,6 +188,25 @@ pub data IsFunctionBody : List Token → NormalStatements → Type 0 where
   block_body : {bs : List Token} {b : NormalStatements} → IsStatements bs b → IsFunctionBody (Reserved BeginKey ∷ bs) b
   casez_body : {ts : List Token} {s : NormalStatement} → IsCases CasezKey true ts s → IsFunctionBody ts (Then s Done)
 
+-- E = X and E
+pub data IsEntry : List Token → NormalConnection → Type 0 where
+  valued : {xs : List Token} {x : NormalExpr} (n : List ℕ) → Spells 0 xs x → IsEntry (Word n ∷ (Mark Assign ∷ xs)) (record { name = n; value = Some x })
+  counted : (n : List ℕ) → IsEntry (Word n ∷ []) (record { name = n; value = None })
+
+-- decl ;
+pub data IsField : List Token → NormalDeclaration → Type 0 where
+  field : {ds : List Token} {d : NormalDeclaration} → IsDeclaration ds d → IsField (ds ++ (Mark Semicolon ∷ [])) d
+
+pub data IsTypedef : List Token → NormalMember → Type 0 where
+  -- typedef enum K sign groups { entries } N groups ;
+  enumeration : {ss gs es hs : List Token} {s : Option Key} {g h : List Group} {e : List NormalConnection} (k : Key) (n : List ℕ) →
+      IsTrue (is_kind k) → IsMaybe is_sign ss s → IsMany IsGroup gs g → IsList IsEntry (Mark Comma) es e → IsMany IsGroup hs h →
+      IsTypedef (Reserved TypedefKey ∷ (Reserved EnumKey ∷ (Reserved k ∷ (ss ++ (gs ++ (Mark OpenBrace ∷ (es ++ (Mark CloseBrace ∷ (Word n ∷ (hs ++ (Mark Semicolon ∷ [])))))))))))
+      (EnumPart (record { kind = Some k; package_name = None; type_name = None; sign = s; groups = g; name = n; behind = h }) e)
+  -- typedef struct packed { fields } N ;
+  structure : {ds : List Token} {d : List NormalDeclaration} (n : List ℕ) → IsMany IsField ds d →
+      IsTypedef (Reserved TypedefKey ∷ (Reserved StructKey ∷ (Reserved PackedKey ∷ (Mark OpenBrace ∷ (ds ++ (Mark CloseBrace ∷ (Word n ∷ (Mark Semicolon ∷ [])))))))) (StructPart n d)
+
 mutual
   -- The tokens spell the member.
   pub data IsMember : List Token → NormalMember → Type 0 where
@@ -203,6 +222,7 @@ mutual
         IsMember (MacroWord m ∷ (Mark OpenParen ∷ (ts ++ (Mark CloseParen ∷ ss)))) (MacroPart m (Some xs) s)
     -- import P :: * ;
     import_member : (p : List ℕ) → IsMember (import_words p) (ImportPart p)
+    typedef_member : {ts : List Token} {m : NormalMember} → IsTypedef ts m → IsMember ts m
     -- M # ( .. ) I ( .. ) ;
     instance : {ps cs : List Token} {p c : List NormalConnection} (m i : List ℕ) → IsGivenList ps p → IsList IsConnection (Mark Comma) cs c →
         IsMember (Word m ∷ (ps ++ (Word i ∷ (Mark OpenParen ∷ (cs ++ (Mark CloseParen ∷ (Mark Semicolon ∷ []))))))) (InstancePart m p i c)
@@ -255,6 +275,7 @@ pub data IsItem : List Token → NormalItem → Type 0 where
   include_item : (path : List ℕ) → IsItem (MacroWord (codes "include") ∷ (Quoted (34 ∷ (path ++ (34 ∷ []))) ∷ [])) (IncludePart path)
   -- import P :: * ;
   import_item : (p : List ℕ) → IsItem (import_words p) (FileImportPart p)
+  typedef_item : {ts : List Token} {m : NormalMember} → IsTypedef ts m → IsItem ts (MemberPart m)
 
 -- The tokens spell the file.
 pub data IsFile : List Token → NormalFile → Type 0 where

@@ -48,7 +48,7 @@ pub data Event : Type 0 where
   EdgeEvent : (edge : Key) → NormalExpr → Event
   NameEvent : (name : List ℕ) → Event
 
--- What an instantiation gives to a parameter or a port by name; an open port has no value.
+-- What an instantiation gives to a parameter or a port by name; an open port has no value. An entry of an enumeration.
 pub record NormalConnection : Type 0 where
   pub name : List ℕ
   pub value : Option NormalExpr
@@ -61,6 +61,9 @@ mutual
     ParameterPart : (word : Key) → NormalDeclaration → (value : NormalExpr) → NormalMember
     MacroPart : (name : List ℕ) (arguments : Option NormalExprs) (semicolon : Bool) → NormalMember
     ImportPart : (package_name : List ℕ) → NormalMember
+    -- An enumeration: the declaration of its name, and its entries. A packed structure.
+    EnumPart : NormalDeclaration → (entries : List NormalConnection) → NormalMember
+    StructPart : (name : List ℕ) (fields : List NormalDeclaration) → NormalMember
     InstancePart : (module_name : List ℕ) (parameters : List NormalConnection) (instance_name : List ℕ) (connections : List NormalConnection) → NormalMember
     AlwaysPart : AlwaysWord → List Event → (body : NormalStatements) → NormalMember
     ConditionalPart : Arms → NormalMember
@@ -91,6 +94,8 @@ pub data NormalItem : Type 0 where
   ModulePart : NormalModule → NormalItem
   IncludePart : (path : List ℕ) → NormalItem
   FileImportPart : (package_name : List ℕ) → NormalItem
+  -- A member that stands in no module.
+  MemberPart : NormalMember → NormalItem
 
 -- A file's items, in their order.
 pub record NormalFile : Type 0 where

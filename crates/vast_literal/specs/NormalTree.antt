@@ -7,12 +7,12 @@ use Rattle.vast_literal.specs.Tree.{Dialect, VerilogDialect, SystemVerilogDialec
 use Rattle.vast_literal.specs.Tree.{TypeTree, ScalarTree, VectorTree, IntegerTree, IntTree, ExternalTree, PackageTree}
 use Rattle.vast_literal.specs.Tree.{Kind, RegKind, WireKind, LogicKind, IntegerKind, IntKind, GenvarKind, Declaration}
 use Rattle.vast_literal.specs.Tree.{AssignForm, Blocking, Nonblocking, Continuous, CaseWord, CaseExact, CaseZ, CaseX, StatementTree, AssignTree, TaskTree, ConditionalTree, CaseTree, ForTree, Statements, NoStatements, MoreStatements, Alternates, NoElse, ElseIf, Else, CaseArms, NoCaseArms, CaseArm}
-use Rattle.vast_literal.specs.Tree.{AlwaysWord, ParameterName, PlainParameter, IntParameter, DefinedParameter, Connection, FunctionTree}
-use Rattle.vast_literal.specs.Tree.{MemberTree, DeclarationMember, AssignMember, ParameterMember, ImportMember, MacroMember, InstanceMember, AlwaysMember, ConditionalMember, FunctionMember, LoopMember, Members, NoMembers, MoreMembers}
-use Rattle.vast_literal.specs.Tree.{PortDirection, InputDirection, OutputDirection, InOutDirection, PortTree, ParameterPortTree, ModuleTree, FileItemTree, ModuleItem, IncludeItem, ImportItem, FileTree}
+use Rattle.vast_literal.specs.Tree.{AlwaysWord, ParameterName, PlainParameter, IntParameter, DefinedParameter, Connection, FunctionTree, TypedefTree, EnumTree, StructTree}
+use Rattle.vast_literal.specs.Tree.{MemberTree, DeclarationMember, AssignMember, ParameterMember, ImportMember, TypedefMember, MacroMember, InstanceMember, AlwaysMember, ConditionalMember, FunctionMember, LoopMember, Members, NoMembers, MoreMembers}
+use Rattle.vast_literal.specs.Tree.{PortDirection, InputDirection, OutputDirection, InOutDirection, PortTree, ParameterPortTree, ModuleTree, FileItemTree, ModuleItem, IncludeItem, ImportItem, TypedefItem, FileTree}
 use Rattle.vast_literal.specs.Shape.{literal_value, base_of, packed_dimensions, unpacked_dimensions, port_kind, base_kind, result_kind, name_alone, has_events}
 use Rattle.vast_literal.specs.NormalExpr.{NormalExpr, Name, Literal, Binary, NormalExprs, normal_literal, scalar_sign, integer_sign, normal, normals}
-use Rattle.vast_literal.specs.NormalFile.{NormalStatement, BlockingStatement, NonblockingStatement, AssignStatement, TaskStatement, ChoiceStatement, CaseStatement, ForStatement, NormalStatements, Done, Then, Arms, Only, Otherwise, Or, Labels, NoLabels, Label, Group, One, Range, NormalDeclaration, Event, EdgeEvent, NameEvent, NormalConnection, NormalMember, DeclarationPart, AssignPart, ParameterPart, MacroPart, ImportPart, InstancePart, AlwaysPart, ConditionalPart, FunctionPart, LoopPart, NormalMembers, NoParts, MoreParts, NormalParameter, NormalPort, NormalModule, NormalItem, ModulePart, IncludePart, FileImportPart, NormalFile}
+use Rattle.vast_literal.specs.NormalFile.{NormalStatement, BlockingStatement, NonblockingStatement, AssignStatement, TaskStatement, ChoiceStatement, CaseStatement, ForStatement, NormalStatements, Done, Then, Arms, Only, Otherwise, Or, Labels, NoLabels, Label, Group, One, Range, NormalDeclaration, Event, EdgeEvent, NameEvent, NormalConnection, NormalMember, DeclarationPart, AssignPart, ParameterPart, MacroPart, ImportPart, EnumPart, StructPart, InstancePart, AlwaysPart, ConditionalPart, FunctionPart, LoopPart, NormalMembers, NoParts, MoreParts, NormalParameter, NormalPort, NormalModule, NormalItem, ModulePart, IncludePart, FileImportPart, MemberPart, NormalFile}
 
 -- Declarations.
 
@@ -180,6 +180,11 @@ normal_always word events body = AlwaysPart word (if has_events word then normal
 unfoldable pub normal_function : Dialect → FunctionTree → NormalMember
 normal_function dialect f = FunctionPart (normal_declaration dialect (result_kind dialect f.result) f.result f.name) (map (normal_port_declaration dialect) f.inputs) (map (normal_declared dialect) f.locals) (normal_statements f.body)
 
+-- An enumeration is a declaration of its type's kind, with entries.
+unfoldable pub normal_typedef : Dialect → TypedefTree → NormalMember
+normal_typedef dialect (EnumTree type name entries) = EnumPart (normal_declaration dialect (base_kind (base_of type)) type name) (map normal_connection entries)
+normal_typedef dialect (StructTree name fields) = StructPart name (map (normal_declared dialect) fields)
+
 unfoldable mutual
   -- A member before others.
   pub normal_member_before : Dialect → MemberTree → NormalMembers → NormalMembers
@@ -187,6 +192,7 @@ unfoldable mutual
   normal_member_before dialect (AssignMember left right) rest = MoreParts (AssignPart (normal left) (normal right)) rest
   normal_member_before dialect (ParameterMember local parameter value) rest = MoreParts (ParameterPart (parameter_key local) (normal_parameter_name dialect parameter) (normal value)) rest
   normal_member_before dialect (ImportMember package_name) rest = MoreParts (ImportPart package_name) rest
+  normal_member_before dialect (TypedefMember t) rest = MoreParts (normal_typedef dialect t) rest
   normal_member_before dialect (MacroMember call semicolon) rest = MoreParts (normal_macro call semicolon) rest
   normal_member_before dialect (InstanceMember i) rest = MoreParts (InstancePart i.module_name (map normal_connection i.parameters) i.instance_name (map normal_connection i.connections)) rest
   normal_member_before dialect (AlwaysMember word events body) rest = MoreParts (normal_always word events (normal_statements body)) rest
@@ -225,6 +231,7 @@ unfoldable pub normal_item_before : Dialect → FileItemTree → List NormalItem
 normal_item_before dialect (ModuleItem m) rest = ModulePart (normal_module dialect m) ∷ rest
 normal_item_before dialect (IncludeItem path) rest = IncludePart path ∷ rest
 normal_item_before dialect (ImportItem package_name) rest = FileImportPart package_name ∷ rest
+normal_item_before dialect (TypedefItem t) rest = MemberPart (normal_typedef dialect t) ∷ rest
 normal_item_before dialect _ rest = rest
 
 unfoldable pub normal_items : Dialect → List FileItemTree → List NormalItem

@@ -1,11 +1,11 @@
 -- Plain files: all names that are printed are identifiers and no keywords, and nothing stands where it has no meaning.
 use Rattle.std.specs.Prelude.{ℕ, List, [], ◌∷◌, Bool, true, false, not, ◌&&◌, ◌||◌, eqb, Option, Some, None, if◌then◌else◌}
-use Rattle.vast_literal.specs.Tree.{ExprTree, NameTree, IndexTree, SliceTree, PartSelectTree, MemberOfTree, ConcatTree, PosEdgeTree, NegEdgeTree, MacroTree, CallTree, TypeTree}
+use Rattle.vast_literal.specs.Tree.{ExprTree, NameTree, IndexTree, SliceTree, PartSelectTree, MemberOfTree, ConcatTree, PosEdgeTree, NegEdgeTree, MacroTree, CallTree, TypeTree, ScalarTree, VectorTree, IntegerTree, IntTree}
 use Rattle.vast_literal.specs.Tree.{MaybeExpr, NoExpr, SomeExpr, Exprs, NoExprs, MoreExprs, MaybeType, Untyped, Typed, Declaration}
 use Rattle.vast_literal.specs.Tree.{StatementTree, AssignTree, TaskTree, InlineTree, ConditionalTree, CaseTree, ForTree, Statements, NoStatements, MoreStatements, Alternates, NoElse, ElseIf, Else, CaseArms, NoCaseArms, CaseArm}
-use Rattle.vast_literal.specs.Tree.{AlwaysWord, ParameterName, PlainParameter, IntParameter, DefinedParameter, Connection, InstanceTree, FunctionTree}
-use Rattle.vast_literal.specs.Tree.{MemberTree, DeclarationMember, AssignMember, ParameterMember, InlineMember, ImportMember, MacroMember, InstanceMember, AlwaysMember, ConditionalMember, FunctionMember, LoopMember, Members, NoMembers, MoreMembers}
-use Rattle.vast_literal.specs.Tree.{PortTree, ParameterPortTree, ModuleTree, FileItemTree, ModuleItem, IncludeItem, ImportItem, FileTree}
+use Rattle.vast_literal.specs.Tree.{AlwaysWord, ParameterName, PlainParameter, IntParameter, DefinedParameter, Connection, InstanceTree, FunctionTree, TypedefTree, EnumTree, StructTree}
+use Rattle.vast_literal.specs.Tree.{MemberTree, DeclarationMember, AssignMember, ParameterMember, InlineMember, ImportMember, TypedefMember, MacroMember, InstanceMember, AlwaysMember, ConditionalMember, FunctionMember, LoopMember, Members, NoMembers, MoreMembers}
+use Rattle.vast_literal.specs.Tree.{PortTree, ParameterPortTree, ModuleTree, FileItemTree, ModuleItem, IncludeItem, ImportItem, TypedefItem, FileTree}
 use Rattle.vast_literal.specs.LiteralToken.{every}
 use Rattle.vast_literal.specs.Shape.{has_events}
 use Rattle.vast_literal.specs.Plain.{is_plain_name, is_plain, is_plain_type}
@@ -87,6 +87,14 @@ abbrev pub is_plain_label : Option (List ℕ) → Bool
 is_plain_label None = true
 is_plain_label (Some label) = is_plain_name label
 
+-- A bit, a vector or an integer.
+abbrev pub is_built_in : TypeTree → Bool
+is_built_in type = elim type [ ScalarTree signed ↦ true | VectorTree width value signed ↦ true | IntegerTree signed ↦ true | IntTree signed ↦ true | _ ↦ false ]
+
+abbrev pub is_plain_typedef : TypedefTree → Bool
+is_plain_typedef (EnumTree type name entries) = is_plain_declaration type name && (is_built_in type && are_plain_connections entries)
+is_plain_typedef (StructTree name fields) = is_plain_name name && every is_plain_declared fields
+
 abbrev mutual
   pub is_plain_member : MemberTree → Bool
   is_plain_member (DeclarationMember d) = is_plain_declared d
@@ -94,6 +102,7 @@ abbrev mutual
   is_plain_member (ParameterMember local parameter value) = is_plain_parameter_name parameter && is_plain value
   is_plain_member (InlineMember text) = false
   is_plain_member (ImportMember package_name) = is_plain_name package_name
+  is_plain_member (TypedefMember t) = is_plain_typedef t
   is_plain_member (MacroMember call semicolon) = is_plain call
   is_plain_member (InstanceMember i) = is_plain_instance i
   is_plain_member (AlwaysMember word events body) = are_plain_awaited word events && are_plain_statements body
@@ -128,10 +137,11 @@ are_plain_items [] = true
 are_plain_items (ModuleItem m ∷ items) = is_plain_module m && are_plain_items items
 are_plain_items (IncludeItem path ∷ items) = every is_path_byte path && are_plain_items items
 are_plain_items (ImportItem package_name ∷ items) = is_plain_name package_name && are_plain_items items
+are_plain_items (TypedefItem t ∷ items) = is_plain_typedef t && are_plain_items items
 are_plain_items (_ ∷ items) = are_plain_items items
 
 -- The names of the file's modules, instances, ports, connections, parameters, labels, loops, packages, types and macros are plain, no
 -- inline text stands in it, edges stand only in the lists of events, left sides are names, selects, members and concatenations, and what
--- stands as a statement by itself is a call. What isn't printed is not asked: the types of names, and events that aren't listed.
+-- stands as a statement by itself is a call, and enumerations are over bits, vectors and integers. What isn't printed is not asked: the types of names, and events that aren't listed.
 abbrev pub is_plain_file : FileTree → Bool
 is_plain_file f = are_plain_items f.items

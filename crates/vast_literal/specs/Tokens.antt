@@ -9,7 +9,7 @@ pub use Rattle.vast_literal.specs.declared.token.Sign.TheVariants.{LogicOr, Logi
 pub use Rattle.vast_literal.specs.declared.token.Mark.{Mark as Punct}
 pub use Rattle.vast_literal.specs.declared.token.Mark.TheVariants.{OpenParen, CloseParen, OpenBracket, CloseBracket, OpenBrace, CloseBrace, Comma, Colon, Semicolon, Dot, Hash, At, Question, DoubleColon, PlusColon, Assign, Apostrophe}
 pub use Rattle.vast_literal.specs.declared.token.Key.{Key}
-pub use Rattle.vast_literal.specs.declared.token.Key.TheVariants.{If as IfKey, Else as ElseKey, Case as CaseKey, Casez as CasezKey, Casex as CasexKey, EndCase as EndCaseKey, Default as DefaultKey, Unique as UniqueKey, Begin as BeginKey, End as EndKey, Assign as AssignKey, Wire as WireKey, Reg as RegKey, Logic as LogicKey, Integer as IntegerKey, Int as IntKey, Genvar as GenvarKey, Signed as SignedKey, Unsigned as UnsignedKey, Module as ModuleKey, EndModule as EndModuleKey, Parameter as ParameterKey, Localparam as LocalparamKey, AlwaysComb as AlwaysCombKey, AlwaysFF as AlwaysFFKey, Always as AlwaysKey, Posedge as PosedgeKey, Negedge as NegedgeKey, Or as OrKey, Function as FunctionKey, Automatic as AutomaticKey, EndFunction as EndFunctionKey, Input as InputKey, Output as OutputKey, InOut as InOutKey, For as ForKey, AlwaysLatch as AlwaysLatchKey, Initial as InitialKey, Import as ImportKey}
+pub use Rattle.vast_literal.specs.declared.token.Key.TheVariants.{If as IfKey, Else as ElseKey, Case as CaseKey, Casez as CasezKey, Casex as CasexKey, EndCase as EndCaseKey, Default as DefaultKey, Unique as UniqueKey, Begin as BeginKey, End as EndKey, Assign as AssignKey, Wire as WireKey, Reg as RegKey, Logic as LogicKey, Integer as IntegerKey, Int as IntKey, Genvar as GenvarKey, Signed as SignedKey, Unsigned as UnsignedKey, Module as ModuleKey, EndModule as EndModuleKey, Parameter as ParameterKey, Localparam as LocalparamKey, AlwaysComb as AlwaysCombKey, AlwaysFF as AlwaysFFKey, Always as AlwaysKey, Posedge as PosedgeKey, Negedge as NegedgeKey, Or as OrKey, Function as FunctionKey, Automatic as AutomaticKey, EndFunction as EndFunctionKey, Input as InputKey, Output as OutputKey, InOut as InOutKey, For as ForKey, AlwaysLatch as AlwaysLatchKey, Initial as InitialKey, Import as ImportKey, Typedef as TypedefKey, Enum as EnumKey, Struct as StructKey, Packed as PackedKey}
 
 -- How an operator is written, and how tightly it binds its two operands (IEEE Std 1800, operator precedence); 0 for one that
 -- only stands before.
@@ -90,6 +90,10 @@ key_text ForKey = codes "for"
 key_text AlwaysLatchKey = codes "always_latch"
 key_text InitialKey = codes "initial"
 key_text ImportKey = codes "import"
+key_text TypedefKey = codes "typedef"
+key_text EnumKey = codes "enum"
+key_text StructKey = codes "struct"
+key_text PackedKey = codes "packed"
 
 -- The keywords that the grammar uses, in one list.
 unfoldable pub reserved_keys : List Key
@@ -97,7 +101,8 @@ reserved_keys =
     IfKey ∷ ElseKey ∷ CaseKey ∷ CasezKey ∷ CasexKey ∷ EndCaseKey ∷ DefaultKey ∷ UniqueKey ∷ BeginKey ∷ EndKey ∷ AssignKey ∷
     WireKey ∷ RegKey ∷ LogicKey ∷ IntegerKey ∷ IntKey ∷ GenvarKey ∷ SignedKey ∷ UnsignedKey ∷
     ModuleKey ∷ EndModuleKey ∷ ParameterKey ∷ LocalparamKey ∷ AlwaysCombKey ∷ AlwaysFFKey ∷ AlwaysKey ∷ PosedgeKey ∷ NegedgeKey ∷ OrKey ∷
-    FunctionKey ∷ AutomaticKey ∷ EndFunctionKey ∷ InputKey ∷ OutputKey ∷ InOutKey ∷ ForKey ∷ AlwaysLatchKey ∷ InitialKey ∷ ImportKey ∷ []
+    FunctionKey ∷ AutomaticKey ∷ EndFunctionKey ∷ InputKey ∷ OutputKey ∷ InOutKey ∷ ForKey ∷ AlwaysLatchKey ∷ InitialKey ∷ ImportKey ∷
+    TypedefKey ∷ EnumKey ∷ StructKey ∷ PackedKey ∷ []
 
 -- The first of the keywords that is written as `word`.
 abbrev pub key_written : List Key → List ℕ → Option Key

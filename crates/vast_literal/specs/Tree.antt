@@ -108,7 +108,8 @@ pub data ParameterName : Type 0 where
   PlainParameter IntParameter : (name : List ℕ) → ParameterName
   DefinedParameter : Declaration → ParameterName
 
--- What an instantiation gives to a parameter or to a port, by name; an open port has no expression.
+-- What an instantiation gives to a parameter or to a port, by name; an open port has no expression. An entry of an enumeration, whose
+-- value is counted where it has no expression.
 pub record Connection : Type 0 where
   pub name : List ℕ
   pub value : MaybeExpr
@@ -126,6 +127,11 @@ pub record FunctionTree : Type 0 where
   pub locals : List Declaration
   pub body : Statements
 
+-- A type that is declared by name: an enumeration over a type, or a packed structure.
+pub data TypedefTree : Type 0 where
+  EnumTree : (type : TypeTree) (name : List ℕ) (entries : List Connection) → TypedefTree
+  StructTree : (name : List ℕ) (fields : List Declaration) → TypedefTree
+
 -- Members of a module or of a generate loop.
 mutual
   pub data MemberTree : Type 0 where
@@ -136,6 +142,7 @@ mutual
     BlankMember : MemberTree
     -- All that a package declares.
     ImportMember : (package_name : List ℕ) → MemberTree
+    TypedefMember : TypedefTree → MemberTree
     MacroMember : (call : ExprTree) (semicolon : Bool) → MemberTree
     InstanceMember : InstanceTree → MemberTree
     AlwaysMember : AlwaysWord → (events : Exprs) (body : Statements) → MemberTree
@@ -168,6 +175,7 @@ pub data FileItemTree : Type 0 where
   ModuleItem : ModuleTree → FileItemTree
   IncludeItem : (path : List ℕ) → FileItemTree
   ImportItem : (package_name : List ℕ) → FileItemTree
+  TypedefItem : TypedefTree → FileItemTree
   CommentItem : (text : List ℕ) → FileItemTree
   BlankItem : FileItemTree
 

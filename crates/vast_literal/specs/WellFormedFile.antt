@@ -3,9 +3,9 @@ use Rattle.std.specs.Prelude.{List, [], ◌∷◌, Bool, true, false, ◌&&◌}
 use Rattle.vast_literal.specs.Tree.{ExprTree, NameTree, PosEdgeTree, NegEdgeTree, MacroTree, Kind, WireKind, RegKind, LogicKind}
 use Rattle.vast_literal.specs.Tree.{MaybeExpr, NoExpr, SomeExpr, Exprs, NoExprs, MoreExprs, MaybeType, Untyped, Typed, Declaration}
 use Rattle.vast_literal.specs.Tree.{StatementTree, AssignTree, TaskTree, ConditionalTree, CaseTree, ForTree, Statements, NoStatements, MoreStatements, Alternates, NoElse, ElseIf, Else, CaseArms, NoCaseArms, CaseArm}
-use Rattle.vast_literal.specs.Tree.{ParameterName, PlainParameter, IntParameter, DefinedParameter, Connection, FunctionTree}
-use Rattle.vast_literal.specs.Tree.{MemberTree, DeclarationMember, AssignMember, ParameterMember, MacroMember, InstanceMember, AlwaysMember, ConditionalMember, FunctionMember, LoopMember, Members, NoMembers, MoreMembers}
-use Rattle.vast_literal.specs.Tree.{PortTree, ParameterPortTree, ModuleTree, FileItemTree, ModuleItem, IncludeItem, ImportItem, CommentItem, BlankItem, FileTree}
+use Rattle.vast_literal.specs.Tree.{ParameterName, PlainParameter, IntParameter, DefinedParameter, Connection, FunctionTree, TypedefTree, EnumTree, StructTree}
+use Rattle.vast_literal.specs.Tree.{MemberTree, DeclarationMember, AssignMember, ParameterMember, TypedefMember, MacroMember, InstanceMember, AlwaysMember, ConditionalMember, FunctionMember, LoopMember, Members, NoMembers, MoreMembers}
+use Rattle.vast_literal.specs.Tree.{PortTree, ParameterPortTree, ModuleTree, FileItemTree, ModuleItem, IncludeItem, ImportItem, TypedefItem, CommentItem, BlankItem, FileTree}
 use Rattle.vast_literal.specs.WellFormed.{is_well_formed, is_well_formed_type}
 
 abbrev pub is_well_formed_maybe : MaybeExpr → Bool
@@ -90,11 +90,16 @@ are_well_formed_locals (d ∷ ds) = (is_local_word d.kind && is_well_formed_type
 abbrev pub is_well_formed_function : FunctionTree → Bool
 is_well_formed_function f = is_well_formed_type f.result && (are_well_formed_inputs f.inputs && (are_well_formed_locals f.locals && are_well_formed_statements f.body))
 
+abbrev pub is_well_formed_typedef : TypedefTree → Bool
+is_well_formed_typedef (EnumTree type name entries) = is_well_formed_type type && are_well_formed_connections entries
+is_well_formed_typedef (StructTree name fields) = are_well_formed_inputs fields
+
 abbrev mutual
   pub is_well_formed_member : MemberTree → Bool
   is_well_formed_member (DeclarationMember d) = is_own_kind d.kind && is_well_formed_type d.type
   is_well_formed_member (AssignMember left right) = is_well_formed left && is_well_formed right
   is_well_formed_member (ParameterMember local parameter value) = is_well_formed_parameter_name parameter && is_well_formed value
+  is_well_formed_member (TypedefMember t) = is_well_formed_typedef t
   is_well_formed_member (MacroMember call semicolon) = is_macro call && is_well_formed call
   is_well_formed_member (InstanceMember i) = are_given i.parameters && are_well_formed_connections i.connections
   is_well_formed_member (AlwaysMember word events body) = are_well_formed_events events && are_well_formed_statements body
@@ -127,6 +132,7 @@ are_well_formed_items [] = true
 are_well_formed_items (ModuleItem m ∷ items) = is_well_formed_module m && are_well_formed_items items
 are_well_formed_items (IncludeItem path ∷ items) = are_well_formed_items items
 are_well_formed_items (ImportItem package_name ∷ items) = are_well_formed_items items
+are_well_formed_items (TypedefItem t ∷ items) = is_well_formed_typedef t && are_well_formed_items items
 are_well_formed_items (CommentItem text ∷ items) = are_well_formed_items items
 are_well_formed_items (BlankItem ∷ items) = are_well_formed_items items
 

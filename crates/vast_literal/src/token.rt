@@ -98,6 +98,10 @@ pub enum Key {
     AlwaysLatch,
     Initial,
     Import,
+    Typedef,
+    Enum,
+    Struct,
+    Packed,
 }
 
 impl Sign {

@@ -3,9 +3,9 @@ use Rattle.std.proofs.Common.{◌≡◌, ℕ, Bool, true, false, List, [], ◌�
 use Rattle.std.specs.Prelude.{◌&&◌}
 use Rattle.std.specs.List.{list_all}
 use Rattle.vast_literal.specs.LiteralToken.{every}
-use Rattle.vast_literal.specs.Tree.{FileItemTree, ModuleItem, IncludeItem, ImportItem, CommentItem, BlankItem}
+use Rattle.vast_literal.specs.Tree.{FileItemTree, ModuleItem, IncludeItem, ImportItem, TypedefItem, CommentItem, BlankItem}
 use Rattle.vast_literal.specs.Plain.{is_plain_name}
-use Rattle.vast_literal.specs.PlainFile.{is_plain_module, is_path_byte, are_plain_items, is_plain_file}
+use Rattle.vast_literal.specs.PlainFile.{is_plain_typedef, is_plain_module, is_path_byte, are_plain_items, is_plain_file}
 use Rattle.vast_core.specs.Bench.{Bench}
 use Rattle.vast_core.specs.FileTree.{item_tree, tree}
 use Rattle.std.proofs.lemmas.List.{drop_more, drop_all}
@@ -32,6 +32,7 @@ pub item-step : (x : FileItemTree) (xs : List FileItemTree) → are_plain_items 
 item-step (ModuleItem m) xs = one-item (is_plain_module m) (are_plain_items xs)
 item-step (IncludeItem path) xs = one-item (every is_path_byte path) (are_plain_items xs)
 item-step (ImportItem package_name) xs = one-item (is_plain_name package_name) (are_plain_items xs)
+item-step (TypedefItem t) xs = one-item (is_plain_typedef t) (are_plain_items xs)
 item-step (CommentItem text) xs = refl
 item-step BlankItem xs = refl
 

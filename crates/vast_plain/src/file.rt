@@ -9,6 +9,7 @@ ghost use Rattle.vast_plain.specs.Internal.Values.{Answers};
 
 use crate::module::is_plain_module;
 use crate::names::{is_plain_name, is_plain_path};
+use crate::typedefs::is_plain_typedef;
 use std::alloc::AllocError;
 use vast_core::{Ast, FileItem};
 
@@ -22,6 +23,7 @@ fn is_plain_item(ast: &Ast, item: &FileItem) -> Result<bool, AllocError>
         FileItem::Module(m) => is_plain_module(ast, ast.module(*m)),
         FileItem::Include(path) => Ok(is_plain_path(path.as_str())),
         FileItem::Import(package) => Ok(is_plain_name(package.as_str())),
+        FileItem::Typedef(typedef) => is_plain_typedef(ast, typedef),
         FileItem::Comment(_) => Ok(true),
         FileItem::BlankLine => Ok(true),
     }

@@ -8,6 +8,7 @@ mod module;
 mod names;
 mod parts;
 mod statement;
+mod typedefs;
 mod types;
 
 pub use file::is_plain_file;

@@ -14,6 +14,7 @@ use crate::expression::is_plain_value;
 use crate::names::{is_plain_label, is_plain_name};
 use crate::parts::{is_plain_always, is_plain_function, is_plain_instance, is_plain_parameter};
 use crate::statement::{is_plain_assignment, is_plain_conditional};
+use crate::typedefs::is_plain_typedef;
 use crate::types::is_plain_declaration;
 use std::alloc::AllocError;
 use vast_core::{Ast, GenerateLoop, LoopNode, Member};
@@ -33,6 +34,7 @@ fn is_plain_member(ast: &Ast, member: &Member) -> Result<bool, AllocError>
         Member::BlankLine => Ok(true),
         Member::Comment(_) => Ok(true),
         Member::Import(package) => Ok(is_plain_name(package.as_str())),
+        Member::Typedef(typedef) => is_plain_typedef(ast, typedef),
         Member::Inline(_) => Ok(false),
         Member::Macro(a) => {
             let (call, _) = ast.macro_statement(*a);

@@ -63,7 +63,10 @@ fn is_plain_connection(ast: &Ast, connection: &Connection) -> Result<bool, Alloc
 }
 
 /// Whether each connection's name and value are plain.
-fn are_plain_connections(ast: &Ast, connections: &[Connection]) -> Result<bool, AllocError>
+pub(crate) fn are_plain_connections(
+    ast: &Ast,
+    connections: &[Connection],
+) -> Result<bool, AllocError>
     requires { All (ConnectionSound (bench ast.now)) connections.now }
     ensures { Answers
         (are_plain_connections

@@ -23,8 +23,8 @@ use Rattle.vast_print.specs.Layout.{body_page, header_page, ports_page, paramete
 use Rattle.vast_print.proofs.OutputLaws.{inline-then, inline-word, indented-stopped, inline-stopped, whole-page, whole-fault, line-text, line-fault}
 use Rattle.vast_print.proofs.Lines.{word-stopped, next-stopped}
 use Rattle.vast_print.proofs.DeclarationLaws.{inline-declaration, inline-port, inline-untyped-parameter, inline-typed-parameter}
-use Rattle.vast_print.proofs.MemberLaws.{indented-members-none, indented-members, indented-declaration, indented-import, indented-macro, indented-parameter, inline-plain-parameter, inline-int-parameter, indented-instance, indented-instance-head, indented-instance-parameters, indented-no-connections, indented-connections, inline-connection, inline-open-connection}
-use Rattle.vast_print.proofs.ModuleLaws.{indented-body-none, indented-body, indented-header-bare, indented-header-ports, indented-header-parameters, indented-header-both, indented-module, indented-include, indented-import-item, indented-comment-item, indented-blank-item, indented-items, indented-items-none, ports-are-entries, parameters-are-entries}
+use Rattle.vast_print.proofs.MemberLaws.{indented-members-none, indented-members, indented-declaration, indented-import, indented-enum, indented-struct, inline-entry, inline-bare-entry, indented-local, indented-macro, indented-parameter, inline-plain-parameter, inline-int-parameter, indented-instance, indented-instance-head, indented-instance-parameters, indented-no-connections, indented-connections, inline-connection, inline-open-connection}
+use Rattle.vast_print.proofs.ModuleLaws.{indented-body-none, indented-body, indented-header-bare, indented-header-ports, indented-header-parameters, indented-header-both, indented-module, indented-include, indented-import-item, indented-typedef-item, indented-comment-item, indented-blank-item, indented-items, indented-items-none, ports-are-entries, parameters-are-entries}
 use Rattle.vast_print.proofs.ListLaws.{indented-no-entries, indented-entries, more-left}
 use Rattle.vast_print.proofs.Left.{left}
 
@@ -130,7 +130,9 @@ pub ruleset instances = (indented-instance, indented-head-bare, indented-head-pa
 
 pub ruleset imports = (indented-import, stops)
 
-pub ruleset items = (indented-include, indented-import-item, indented-comment-item, indented-blank-item, stops)
+pub ruleset typedefs = (indented-enum, indented-struct, inline-entry, inline-bare-entry, indented-local, declarations)
+
+pub ruleset items = (indented-include, indented-import-item, indented-typedef-item, indented-comment-item, indented-blank-item, stops)
 
 -- what a call returns that prints
 

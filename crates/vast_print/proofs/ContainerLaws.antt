@@ -29,7 +29,7 @@ use Rattle.vast_print.proofs.OutputLaws.{inline-word, indented-blank, indented-w
 use Rattle.vast_print.proofs.StatementLaws.{indented-for, inline-counting, indented-assign, inline-assign, indented-task, indented-arm, indented-comment, indented-blank-statement, indented-inline, indented-conditional, indented-case, inline-no-else, inline-else, inline-block-none, inline-block, inline-arm-block, inline-else-if-arm, indented-arms, indented-arms-none}
 use Rattle.vast_print.proofs.ListLaws.{indented-no-statements, indented-statements, indented-no-locals, indented-locals}
 use Rattle.vast_print.proofs.SeparatedLaws.{inline-no-inputs, inline-inputs, inline-no-events, inline-events}
-use Rattle.vast_print.proofs.MemberLaws.{indented-always, inline-always-events, inline-always-alone, indented-declaration, indented-comment-member, indented-blank-member, indented-import-member, indented-inline-member, indented-macro, indented-local, indented-function, indented-function-member, indented-body-block, indented-body-casez, indented-loop, inline-loop, inline-label-text, inline-no-label, inline-input-text}
+use Rattle.vast_print.proofs.MemberLaws.{indented-always, inline-always-events, inline-always-alone, indented-declaration, indented-comment-member, indented-blank-member, indented-import-member, indented-typedef-member, indented-inline-member, indented-macro, indented-local, indented-function, indented-function-member, indented-body-block, indented-body-casez, indented-loop, inline-loop, inline-label-text, inline-no-label, inline-input-text}
 use Rattle.vast_print.proofs.ArenaLaws.{stops, declarations, listed}
 use Rattle.vast_print.proofs.Left.{left}
 
@@ -226,4 +226,4 @@ unfolding member_page statement_page
 indented-held-conditional-same d k dialect (BlockFamily held) = refl
 indented-held-conditional-same d k dialect _ = refl
 
-pub ruleset members = (indented-declaration, indented-assign-same, indented-comment-member, indented-blank-member, indented-import-member, indented-inline-member, indented-macro, indented-held-conditional-same, stops)
+pub ruleset members = (indented-declaration, indented-assign-same, indented-comment-member, indented-blank-member, indented-import-member, indented-typedef-member, indented-inline-member, indented-macro, indented-held-conditional-same, stops)

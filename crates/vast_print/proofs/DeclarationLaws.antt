@@ -21,7 +21,7 @@ use Rattle.vast_print.proofs.OutputLaws.{inline-then, inline-empty, inline-word}
 
 -- the kind word, the type and the name
 
-inline-kind : (d : ℕ) (k : Output) (kind : Kind) → inline d k (written (spaced (plain_text (kind_word kind)))) ≡ word k (kind_opening kind)
+pub inline-kind : (d : ℕ) (k : Output) (kind : Kind) → inline d k (written (spaced (plain_text (kind_word kind)))) ≡ word k (kind_opening kind)
 unfolding inline written spaced plain_text ◌⊕◌ written_lines beside_lines inline_lines indented_lines stop
 inline-kind d k RegKind = refl
 inline-kind d k _ = refl

@@ -2,7 +2,7 @@
 use Rattle.std.proofs.Common.{◌≡◌, ℕ, ℤ, pos, ◌-ℤ◌, List, [], ◌∷◌, ◌++◌, Bool, true, false, Option, Some, None, refl, sym, subst, ap, ◌∙◌, append_assoc, append-nil, codes}
 use Rattle.std.proofs.lemmas.Option.{same_Some}
 use Rattle.std.specs.Fmt.{signed_decimal}
-use Rattle.vast_literal.specs.Tokens.{Token, key_text, Mark, Number}
+use Rattle.vast_literal.specs.Tokens.{Token, key_text, Word, Mark, Number}
 use Rattle.vast_literal.specs.declared.token.Sign.TheVariants.{Minus}
 use Rattle.vast_literal.specs.declared.token.Mark.TheVariants.{CloseBracket, Colon}
 use Rattle.vast_literal.specs.declared.token.Key.TheVariants.{Wire as WireKey, Reg as RegKey, Logic as LogicKey, Integer as IntegerKey, Int as IntKey, Genvar as GenvarKey, Signed as SignedKey, Unsigned as UnsignedKey}
@@ -186,9 +186,17 @@ kind_told GenvarKind = key_reads GenvarKey
 kind_told UserKind = nothing_reads
 kind_told UntypedEnumKind = nothing_reads
 
+-- what stands before a declared name, and the name
+pub base_free : (kind : Kind) (t : TypeTree) → is_plain_type t ≡ true → is_well_formed_type t ≡ true → Prints Free (spaced (plain_text (kind_word kind)) ⊕ spaced (type_text t))
+    (maybe_tokens (kind_key kind) ++ (type_name_tokens (base_of t) ++ (maybe_tokens (sign_of (base_of t)) ++ (packed_tokens (packed_dimensions t) ++ vector_tokens (base_of t)))))
+base_free kind t p w = after_free (spaced_free (stands _ (kind_told kind))) (spaced_free (type_told t p w))
+
+pub named_reads : (dialect : Dialect) (t : TypeTree) (n : List ℕ) → is_plain_declaration t n ≡ true → is_well_formed_type t ≡ true → Prints Reads (name_text dialect t n) (Word n ∷ unpacked_tokens dialect (unpacked_dimensions t))
+unfolding name_text
+named_reads dialect t n p w = goes_on (stands _ (name_reads n (search halves))) (unpacked_told dialect (unpacked_dimensions t) (unpacked_plain t (and_right (is_plain_name n) (is_plain_type t) p)) (unpacked_formed t w))
+
 -- The text of a declaration reads as its tokens.
 pub declaration_reads : (dialect : Dialect) (kind : Kind) (t : TypeTree) (n : List ℕ) → is_plain_declaration t n ≡ true → is_well_formed_type t ≡ true → Prints Reads (declaration_text dialect kind t n) (declaration_tokens dialect kind t n)
-unfolding declaration_text declaration_tokens name_text
+unfolding declaration_text declaration_tokens
 declaration_reads dialect kind t n p w =
-    regrouped (after (after_free (spaced_free (stands _ (kind_told kind))) (spaced_free (type_told t (search halves) w)))
-    (goes_on (stands _ (name_reads n (search halves))) (unpacked_told dialect (unpacked_dimensions t) (unpacked_plain t (and_right (is_plain_name n) (is_plain_type t) p)) (unpacked_formed t w)))) (simp append_assoc)
+    regrouped (after (base_free kind t (search halves) w) (named_reads dialect t n p w)) (simp append_assoc)

@@ -21,7 +21,7 @@ use Rattle.vast_print.proofs.DeclarationReads.{declaration_reads}
 use Rattle.vast_print.proofs.ExprReads.{expr_reads}
 use Rattle.vast_print.proofs.PageReads.{Whole, page_regrouped, whole_above, whole_inner, whole_none, whole_line, whole_written, whole_blank, space_divides, equals, semicolon, key_space, whole_comment}
 use Rattle.vast_literal.specs.WellFormedFile.{are_well_formed_ports, is_well_formed_typed, are_well_formed_parameters, is_well_formed_module, are_well_formed_items, is_well_formed_file}
-use Rattle.vast_literal.specs.Tree.{Members, NoMembers, MoreMembers, MaybeType, Untyped, Typed, PortTree, ParameterPortTree, ModuleTree, FileItemTree, ModuleItem, IncludeItem, ImportItem, CommentItem, BlankItem, FileTree}
+use Rattle.vast_literal.specs.Tree.{Members, NoMembers, MoreMembers, MaybeType, Untyped, Typed, PortTree, ParameterPortTree, ModuleTree, FileItemTree, ModuleItem, IncludeItem, ImportItem, TypedefItem, CommentItem, BlankItem, FileTree}
 use Rattle.vast_print.specs.Members.{members_page}
 use Rattle.vast_literal.specs.declared.kind.ModulePortDirection.{ModulePortDirection as PortDirection}
 use Rattle.vast_literal.specs.declared.kind.ModulePortDirection.TheVariants.{Input as InputDirection, Output as OutputDirection, InOut as InOutDirection}
@@ -34,6 +34,7 @@ use Rattle.vast_print.specs.Layout.{direction_word, port_text, typed_text, param
 use Rattle.vast_print.proofs.PageLines.{print_tokens}
 use Rattle.vast_print.proofs.EntryReads.{AllRead, all_none, all_more, entries_whole, hash_open, list_closed}
 use Rattle.vast_print.proofs.FunctionReads.{port_reads}
+use Rattle.vast_print.proofs.TypedefReads.{typedef_whole}
 use Rattle.vast_print.proofs.MemberReads.{import_reads, members_whole}
 
 -- ports
@@ -132,6 +133,7 @@ items_whole dialect [] p w = whole_none
 items_whole dialect (ModuleItem m ∷ is) p w = whole_above (module_whole dialect m (search halves) (search halves)) (items_whole dialect is (search halves) (search halves))
 items_whole dialect (IncludeItem path ∷ is) p w = whole_above (whole_written (include_reads path (search halves))) (items_whole dialect is (search halves) w)
 items_whole dialect (ImportItem package_name ∷ is) p w = whole_above (whole_written (import_reads package_name (search halves))) (items_whole dialect is (search halves) w)
+items_whole dialect (TypedefItem t ∷ is) p w = whole_above (typedef_whole dialect t (search halves) (search halves)) (items_whole dialect is (search halves) (search halves))
 items_whole dialect (CommentItem text ∷ is) p w = whole_above (whole_comment text) (items_whole dialect is p w)
 items_whole dialect (BlankItem ∷ is) p w = whole_above whole_blank (items_whole dialect is p w)
 

@@ -1,5 +1,7 @@
 -- Functions have the tokens that the grammar reads.
 use Rattle.std.proofs.Common.{◌≡◌, List, [], ◌∷◌, ◌++◌, true, refl, sym, ap, append_assoc, append-nil, codes}
+use Rattle.std.specs.Cmp.Derive.{both_true}
+use Rattle.std.specs.Prelude.{◌&&◌}
 use Rattle.vast_literal.specs.Tokens.{Token, key_text, Reserved, Mark}
 use Rattle.vast_literal.specs.declared.token.Mark.TheVariants.{Comma}
 use Rattle.vast_literal.specs.declared.token.Key.TheVariants.{Function as FunctionKey, Automatic as AutomaticKey, EndFunction as EndFunctionKey, Input as InputKey}
@@ -7,7 +9,7 @@ use Rattle.vast_literal.specs.Tree.{Declaration, FunctionTree, Statements}
 use Rattle.vast_literal.specs.declared.kind.VastFileType.{VastFileType as Dialect}
 use Rattle.vast_literal.specs.PlainFile.{is_plain_declared, is_plain_function}
 use Rattle.vast_literal.specs.WellFormed.{is_well_formed_type}
-use Rattle.vast_literal.specs.WellFormedFile.{are_well_formed_inputs, are_well_formed_locals, is_well_formed_function}
+use Rattle.vast_literal.specs.WellFormedFile.{is_local_word, are_well_formed_inputs, are_well_formed_locals, is_well_formed_function}
 use Rattle.vast_literal.proofs.FileTokens.{declared_tokens, port_declaration_tokens, statements_tokens, separated, each_input, local_tokens, body_tokens, function_tokens}
 use Rattle.vast_literal.proofs.TokenReads.{Free, Reads}
 use Rattle.vast_print.proofs.FaultLaws.{halves}
@@ -23,7 +25,7 @@ use Rattle.vast_print.proofs.StatementReads.{statements_whole, block_open}
 use Rattle.vast_print.proofs.PageReads.{Whole, page_regrouped, whole_above, whole_inner, whole_none, whole, whole_line, whole_written, space_open, semicolon, key_space}
 use Rattle.vast_print.proofs.EntryReads.{close_semicolon}
 use Rattle.vast_literal.specs.LiteralToken.{every}
-use Rattle.vast_literal.proofs.ScanLaws.{by_test}
+use Rattle.vast_literal.proofs.ScanLaws.{and_right, by_test}
 
 pub declared_reads : (dialect : Dialect) (d : Declaration) → is_plain_declared d ≡ true → is_well_formed_type d.type ≡ true → Prints Reads (declared_text dialect d) (declared_tokens dialect d)
 unfolding declared_tokens
@@ -64,12 +66,17 @@ inputs_read dialect (d ∷ ds) p w = regrouped
 
 -- locals and bodies
 
-locals_whole : (dialect : Dialect) (ds : List Declaration) → every is_plain_declared ds ≡ true → are_well_formed_locals ds ≡ true → Whole (locals_page dialect ds) (local_tokens dialect ds)
+pub fields_whole : (dialect : Dialect) (ds : List Declaration) → every is_plain_declared ds ≡ true → are_well_formed_inputs ds ≡ true → Whole (locals_page dialect ds) (local_tokens dialect ds)
 unfolding locals_page local_page local_tokens
-locals_whole dialect [] p w = whole_none
-locals_whole dialect (d ∷ ds) p w = whole_above
+fields_whole dialect [] p w = whole_none
+fields_whole dialect (d ∷ ds) p w = whole_above
     (whole_written (closed (declared_reads dialect d (search halves) (search halves)) semicolon))
-    (locals_whole dialect ds (search halves) (search halves))
+    (fields_whole dialect ds (search halves) (search halves))
+
+types_formed : (ds : List Declaration) → are_well_formed_locals ds ≡ true → are_well_formed_inputs ds ≡ true
+types_formed [] w = refl
+types_formed (d ∷ ds) w = let own : (is_local_word d.kind && is_well_formed_type d.type) ≡ true = search halves in
+    both_true (and_right (is_local_word d.kind) (is_well_formed_type d.type) own) (types_formed ds (search halves))
 
 body_whole : (b : Statements) → Whole (statements_page b) (statements_tokens b) → Whole (function_body_page b) (body_tokens b)
 unfolding function_body_page body_tokens
@@ -86,5 +93,5 @@ unfolding function_page function_tokens key_text
 function_whole dialect f p w =
     page_regrouped (whole_above (whole_written (leftward _ _ _ (leftward _ _ _ (leftward _ _ _ (after (stands _ function_opens) (enclosing (declaration_reads dialect (result_kind dialect f.result) f.result f.name (search halves) (search halves)) space_open
     (inputs_read dialect f.inputs (search halves) (search halves)) close_semicolon))))))
-    (whole_above (whole_inner (whole_above (locals_whole dialect f.locals (search halves) (search halves))
+    (whole_above (whole_inner (whole_above (fields_whole dialect f.locals (search halves) (types_formed f.locals (search halves)))
     (body_whole f.body (statements_whole f.body (search halves) (search halves))))) (whole_line (key_reads EndFunctionKey)))) (simp append_assoc)

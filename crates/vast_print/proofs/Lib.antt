@@ -33,6 +33,7 @@ pub mod EntryReads
 pub mod InstanceReads
 pub mod FunctionReads
 pub mod LoopReads
+pub mod TypedefReads
 pub mod MemberReads
 pub mod FileReads
 pub mod Derivations

@@ -1,20 +1,21 @@
 -- Laws of writing the members of modules and loops, one for each case.
 use Rattle.std.proofs.Common.{◌≡◌, ◌<◌, ℕ, ◌+◌, Bool, true, false, List, [], ◌∷◌, length, map, refl, ◌∙◌, codes, arith, Option, Some, None}
-use Rattle.vast_literal.specs.Tree.{ExprTree, NoExpr, SomeExpr, Exprs, Declaration, Statements, ParameterName, PlainParameter, IntParameter, Connection, InstanceTree, FunctionTree, MemberTree, DeclarationMember, ParameterMember, CommentMember, BlankMember, ImportMember, InlineMember, MacroMember, InstanceMember, AlwaysMember, FunctionMember, LoopMember, Members, NoMembers, MoreMembers}
+use Rattle.vast_literal.specs.Tree.{ExprTree, NoExpr, SomeExpr, Exprs, Declaration, Statements, ParameterName, PlainParameter, IntParameter, Connection, InstanceTree, FunctionTree, TypeTree, TypedefTree, EnumTree, StructTree, MemberTree, DeclarationMember, ParameterMember, CommentMember, BlankMember, ImportMember, TypedefMember, InlineMember, MacroMember, InstanceMember, AlwaysMember, FunctionMember, LoopMember, Members, NoMembers, MoreMembers}
 use Rattle.vast_literal.specs.declared.kind.VastFileType.{VastFileType as Dialect}
 use Rattle.vast_literal.specs.declared.kind.AlwaysKind.{AlwaysKind as AlwaysWord}
 use Rattle.vast_literal.specs.declared.kind.AlwaysKind.TheVariants.{AlwaysFF as AlwaysFFWord}
-use Rattle.vast_literal.specs.Shape.{result_kind, is_one_casez, has_events}
-use Rattle.vast_print.specs.Internal.Words.{endfunction_word, function_opening, for_opening}
-use Rattle.vast_print.specs.Printed.{plain_text}
+use Rattle.vast_literal.specs.Shape.{base_of, base_kind, unpacked_dimensions, result_kind, is_one_casez, has_events}
+use Rattle.vast_print.specs.Internal.Words.{endfunction_word, function_opening, for_opening, enum_opening, struct_opening, kind_opening}
+use Rattle.vast_print.specs.Printed.{plain_text, spaced}
 use Rattle.vast_print.specs.Page.{written, commented}
 use Rattle.vast_print.specs.Output.{Output, word, next, indented, inline}
 use Rattle.vast_print.specs.Text.{expr_text}
-use Rattle.vast_print.specs.Declaration.{declaration_text, port_declaration_text}
+use Rattle.vast_print.specs.Declaration.{type_text, unpacked_text, name_text, declaration_text, port_declaration_text}
 use Rattle.vast_print.specs.Statements.{counting_text, statements_page, block_page}
-use Rattle.vast_print.specs.Members.{entries_page, parameter_word, parameter_text, semicolon_text, connection_text, connections_page, instance_head_page, instance_page, events_text, always_opening, always_text, input_text, inputs_text, local_page, locals_page, function_body_page, function_page, loop_label_text, loop_text, import_text, member_page, members_page}
+use Rattle.vast_print.specs.Members.{entries_page, parameter_word, parameter_text, semicolon_text, connection_text, connections_page, instance_head_page, instance_page, events_text, always_opening, always_text, input_text, inputs_text, local_page, locals_page, function_body_page, function_page, loop_label_text, loop_text, import_text, entry_text, enum_text, typedef_page, member_page, members_page}
 use Rattle.vast_print.proofs.Lines.{word-word, unbroken}
 use Rattle.vast_print.proofs.OutputLaws.{indented-line, indented-none, indented-blank, indented-above, indented-beside, indented-inner, indented-written, inline-then, inline-empty, inline-word}
+use Rattle.vast_print.proofs.DeclarationLaws.{inline-kind}
 use Rattle.vast_print.proofs.StatementLaws.{indented-block}
 
 -- members below each other
@@ -53,6 +54,33 @@ indented-import d k package_name = indented-written d k _ ∙ simp (inline-then,
 pub indented-import-member : (d : ℕ) (k : Output) (dialect : Dialect) (package_name : List ℕ) → indented d k (member_page dialect (ImportMember package_name)) ≡ indented d k (written (import_text package_name))
 unfolding member_page
 indented-import-member d k dialect package_name = refl
+
+-- types that are declared by name, alike in a module and in a file
+pub indented-typedef-member : (d : ℕ) (k : Output) (dialect : Dialect) (t : TypedefTree) → indented d k (member_page dialect (TypedefMember t)) ≡ indented d k (typedef_page dialect t)
+unfolding member_page
+indented-typedef-member d k dialect t = refl
+
+pub indented-enum : (d : ℕ) (k : Output) (dialect : Dialect) (t : TypeTree) (name : List ℕ) (es : List Connection) →
+    indented d k (typedef_page dialect (EnumTree t name es))
+    ≡ word (inline d (inline d (word (next d (indented d (word (inline d (word (word (next d k) enum_opening) (kind_opening (base_kind (base_of t)))) (written (spaced (type_text t)))) (codes "{")) (entries_page (map entry_text es)))) (codes "} "))
+    (written (plain_text name))) (written (unpacked_text dialect (unpacked_dimensions t)))) (codes ";")
+unfolding typedef_page enum_text name_text enum_opening
+indented-enum d k dialect t name es = simp (indented-above, indented-written, inline-then, inline-kind, inline-word)
+
+pub indented-struct : (d : ℕ) (k : Output) (dialect : Dialect) (name : List ℕ) (ds : List Declaration) →
+    indented d k (typedef_page dialect (StructTree name ds))
+    ≡ word (inline d (word (next d (indented (d + 1) (word (next d k) struct_opening) (locals_page dialect ds))) (codes "} ")) (written (plain_text name))) (codes ";")
+unfolding typedef_page struct_opening
+indented-struct d k dialect name ds = simp (indented-above, indented-line, indented-inner, indented-written, inline-then, inline-word)
+
+pub inline-entry : (d : ℕ) (k : Output) (name : List ℕ) (e : ExprTree) →
+    inline d k (written (entry_text (record { name = name; value = SomeExpr e }))) ≡ inline d (word (inline d k (written (plain_text name))) (codes " = ")) (written (expr_text e))
+unfolding entry_text
+inline-entry d k name e = simp (inline-then, inline-word)
+
+pub inline-bare-entry : (d : ℕ) (k : Output) (name : List ℕ) → inline d k (written (entry_text (record { name = name; value = NoExpr }))) ≡ inline d k (written (plain_text name))
+unfolding entry_text
+inline-bare-entry d k name = simp (inline-then, inline-empty)
 
 pub indented-inline-member : (d : ℕ) (k : Output) (dialect : Dialect) (text : List ℕ) → indented d k (member_page dialect (InlineMember text)) ≡ inline d (next d k) (written (plain_text text))
 unfolding member_page

@@ -8,7 +8,7 @@ use Rattle.vast_literal.specs.Scan.{scan}
 use Rattle.vast_literal.specs.Shape.{import_words}
 use Rattle.vast_literal.specs.declared.token.Key.TheVariants.{End as EndKey, Parameter as ParameterKey, Localparam as LocalparamKey, Int as IntKey, Import as ImportKey}
 use Rattle.vast_literal.specs.declared.kind.VastFileType.{VastFileType as Dialect}
-use Rattle.vast_literal.specs.Tree.{ParameterName, PlainParameter, IntParameter, DefinedParameter, ConditionalTree, MemberTree, DeclarationMember, AssignMember, ParameterMember, CommentMember, BlankMember, ImportMember, InlineMember, MacroMember, InstanceMember, AlwaysMember, ConditionalMember, FunctionMember, LoopMember, Members, NoMembers, MoreMembers}
+use Rattle.vast_literal.specs.Tree.{ParameterName, PlainParameter, IntParameter, DefinedParameter, ConditionalTree, MemberTree, DeclarationMember, AssignMember, ParameterMember, CommentMember, BlankMember, ImportMember, TypedefMember, InlineMember, MacroMember, InstanceMember, AlwaysMember, ConditionalMember, FunctionMember, LoopMember, Members, NoMembers, MoreMembers}
 use Rattle.vast_literal.specs.declared.kind.AssignmentForm.TheVariants.{Continuous}
 use Rattle.vast_literal.specs.PlainFile.{is_plain_parameter_name, is_plain_member, are_plain_members}
 use Rattle.vast_literal.specs.WellFormedFile.{is_well_formed_parameter_name, is_well_formed_member, are_well_formed_members}
@@ -27,6 +27,7 @@ use Rattle.vast_print.specs.Statements.{statement_page}
 use Rattle.vast_print.proofs.InstanceReads.{instance_whole, always_open}
 use Rattle.vast_print.proofs.FunctionReads.{declared_reads, function_whole}
 use Rattle.vast_print.proofs.LoopReads.{loop_reads}
+use Rattle.vast_print.proofs.TypedefReads.{typedef_whole}
 
 parameter_free : (local : Bool) → Free (parameter_word local) (Reserved (parameter_key local) ∷ [])
 unfolding parameter_key key_text
@@ -65,6 +66,7 @@ mutual
   member_whole dialect (CommentMember text) p w = whole_comment text
   member_whole dialect BlankMember p w = whole_blank
   member_whole dialect (ImportMember package_name) p w = whole_written (import_reads package_name p)
+  member_whole dialect (TypedefMember t) p w = typedef_whole dialect t p w
   member_whole dialect (InlineMember text) p w = absurd (cc p)
   member_whole dialect (MacroMember e s) p w = whole_written (macro_ends s (expr_reads e p (search halves)))
   member_whole dialect (InstanceMember i) p w = instance_whole i p w

@@ -1,11 +1,11 @@
 -- Laws of writing files and modules.
 use Rattle.std.proofs.Common.{◌≡◌, ◌<◌, ℕ, ◌+◌, List, [], ◌∷◌, length, map, refl, ◌∙◌, codes, arith}
-use Rattle.vast_literal.specs.Tree.{Members, NoMembers, MoreMembers, MemberTree, PortTree, ParameterPortTree, ModuleTree, FileItemTree, IncludeItem, ImportItem, CommentItem, BlankItem}
+use Rattle.vast_literal.specs.Tree.{Members, NoMembers, MoreMembers, MemberTree, PortTree, ParameterPortTree, ModuleTree, FileItemTree, IncludeItem, ImportItem, TypedefItem, TypedefTree, CommentItem, BlankItem}
 use Rattle.vast_literal.specs.declared.kind.VastFileType.{VastFileType as Dialect}
 use Rattle.vast_print.specs.Printed.{plain_text}
 use Rattle.vast_print.specs.Page.{written, commented}
 use Rattle.vast_print.specs.Output.{Output, word, next, indented, inline}
-use Rattle.vast_print.specs.Members.{import_text, members_page, entries_page}
+use Rattle.vast_print.specs.Members.{import_text, typedef_page, members_page, entries_page}
 use Rattle.vast_print.specs.Layout.{port_text, parameter_port_text, ports_page, parameter_ports_page, opening_page, header_page, body_page, module_page, item_page, items_page}
 use Rattle.vast_print.proofs.OutputLaws.{inline-word, indented-line, indented-none, indented-blank, indented-above, indented-inner, indented-written, inline-then}
 
@@ -27,6 +27,10 @@ indented-include d k dialect path = indented-written d k _ ∙ simp (inline-then
 pub indented-import-item : (d : ℕ) (k : Output) (dialect : Dialect) (package_name : List ℕ) → indented d k (item_page dialect (ImportItem package_name)) ≡ indented d k (written (import_text package_name))
 unfolding item_page
 indented-import-item d k dialect package_name = refl
+
+pub indented-typedef-item : (d : ℕ) (k : Output) (dialect : Dialect) (t : TypedefTree) → indented d k (item_page dialect (TypedefItem t)) ≡ indented d k (typedef_page dialect t)
+unfolding item_page
+indented-typedef-item d k dialect t = refl
 
 pub indented-comment-item : (d : ℕ) (k : Output) (dialect : Dialect) (text : List ℕ) → indented d k (item_page dialect (CommentItem text)) ≡ indented d k (commented (written (plain_text text)))
 unfolding item_page

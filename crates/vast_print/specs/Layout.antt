@@ -2,7 +2,7 @@
 use Rattle.std.specs.Prelude.{◌≡◌, ℕ, List, [], ◌∷◌, codes, map, None}
 use Rattle.vast_literal.specs.Tree.{MaybeType, Untyped, Typed, Members, NoMembers, MoreMembers}
 use Rattle.vast_literal.specs.declared.kind.VastFileType.{VastFileType as Dialect}
-use Rattle.vast_literal.specs.Tree.{PortTree, ParameterPortTree, ModuleTree, FileItemTree, ModuleItem, IncludeItem, ImportItem, CommentItem, BlankItem, FileTree}
+use Rattle.vast_literal.specs.Tree.{PortTree, ParameterPortTree, ModuleTree, FileItemTree, ModuleItem, IncludeItem, ImportItem, TypedefItem, CommentItem, BlankItem, FileTree}
 use Rattle.vast_literal.specs.declared.kind.ModulePortDirection.{ModulePortDirection as PortDirection}
 use Rattle.vast_literal.specs.declared.kind.ModulePortDirection.TheVariants.{Input as InputDirection, Output as OutputDirection, InOut as InOutDirection}
 use Rattle.vast_literal.specs.Shape.{base_kind, base_of}
@@ -10,7 +10,7 @@ use Rattle.vast_print.specs.Printed.{Printed, plain_text, ◌⊕◌}
 use Rattle.vast_print.specs.Text.{expr_text}
 use Rattle.vast_print.specs.Declaration.{declaration_text, port_declaration_text}
 use Rattle.vast_print.specs.Page.{Page, no_lines, line, inner, above, written, commented, print}
-use Rattle.vast_print.specs.Members.{entries_page, import_text, members_page}
+use Rattle.vast_print.specs.Members.{entries_page, import_text, typedef_page, members_page}
 
 abbrev pub direction_word : PortDirection → List ℕ
 direction_word InputDirection = codes "input "
@@ -62,6 +62,7 @@ unfoldable pub item_page : Dialect → FileItemTree → Page
 item_page dialect (ModuleItem m) = module_page dialect m
 item_page dialect (IncludeItem path) = written (plain_text (codes "`include \"") ⊕ plain_text path ⊕ plain_text (codes "\""))
 item_page dialect (ImportItem package_name) = written (import_text package_name)
+item_page dialect (TypedefItem t) = typedef_page dialect t
 item_page dialect (CommentItem text) = commented (written (plain_text text))
 item_page dialect BlankItem = line []
 

@@ -4,14 +4,14 @@ use Rattle.vast_literal.specs.Tree.{ExprTree, MaybeExpr, NoExpr, SomeExpr, Exprs
 use Rattle.vast_literal.specs.declared.kind.VastFileType.{VastFileType as Dialect}
 use Rattle.vast_literal.specs.Tree.{ConditionalTree, Statements}
 use Rattle.vast_literal.specs.declared.kind.AssignmentForm.TheVariants.{Continuous}
-use Rattle.vast_literal.specs.Tree.{ParameterName, PlainParameter, IntParameter, DefinedParameter, Connection, InstanceTree, FunctionTree}
+use Rattle.vast_literal.specs.Tree.{ParameterName, PlainParameter, IntParameter, DefinedParameter, Connection, InstanceTree, FunctionTree, TypedefTree, EnumTree, StructTree}
 use Rattle.vast_literal.specs.declared.kind.AlwaysKind.{AlwaysKind as AlwaysWord}
 use Rattle.vast_literal.specs.declared.kind.AlwaysKind.TheVariants.{AlwaysFF as AlwaysFFWord, AlwaysAt as AlwaysAtWord, AlwaysComb as AlwaysCombWord, AlwaysStar as AlwaysStarWord, AlwaysLatch as AlwaysLatchWord, Initial as InitialWord}
-use Rattle.vast_literal.specs.Tree.{MemberTree, DeclarationMember, AssignMember, ParameterMember, CommentMember, BlankMember, ImportMember, InlineMember, MacroMember, InstanceMember, AlwaysMember, ConditionalMember, FunctionMember, LoopMember, Members, NoMembers, MoreMembers}
-use Rattle.vast_literal.specs.Shape.{result_kind, is_one_casez, has_events}
-use Rattle.vast_print.specs.Printed.{Printed, plain_text, ◌⊕◌}
+use Rattle.vast_literal.specs.Tree.{MemberTree, DeclarationMember, AssignMember, ParameterMember, CommentMember, BlankMember, ImportMember, TypedefMember, InlineMember, MacroMember, InstanceMember, AlwaysMember, ConditionalMember, FunctionMember, LoopMember, Members, NoMembers, MoreMembers}
+use Rattle.vast_literal.specs.Shape.{base_of, base_kind, result_kind, is_one_casez, has_events}
+use Rattle.vast_print.specs.Printed.{Printed, plain_text, ◌⊕◌, spaced}
 use Rattle.vast_print.specs.Text.{expr_text}
-use Rattle.vast_print.specs.Declaration.{declaration_text, declared_text, port_declaration_text}
+use Rattle.vast_print.specs.Declaration.{kind_word, type_text, name_text, declaration_text, declared_text, port_declaration_text}
 use Rattle.vast_print.specs.Page.{Page, no_lines, line, inner, lead, above, beside, written, commented}
 use Rattle.vast_print.specs.Statements.{assign_text, counting_text, statement_page, statements_page, block_page}
 
@@ -120,6 +120,24 @@ loop_text i start end label = plain_text (codes "for (genvar ") ⊕ counting_tex
 unfoldable pub import_text : (package_name : List ℕ) → Printed
 import_text package_name = plain_text (codes "import ") ⊕ plain_text package_name ⊕ plain_text (codes "::*;")
 
+-- an entry of an enumeration, with its value where it has one
+abbrev pub entry_value_text : MaybeExpr → Printed
+entry_value_text NoExpr = plain_text []
+entry_value_text (SomeExpr e) = plain_text (codes " = ") ⊕ expr_text e
+
+unfoldable pub entry_text : Connection → Printed
+entry_text c = plain_text c.name ⊕ entry_value_text c.value
+
+-- what stands before the entries: a declaration of the type's kind, without the name
+unfoldable pub enum_text : TypeTree → Printed
+enum_text t = plain_text (codes "typedef enum ") ⊕ (spaced (plain_text (kind_word (base_kind (base_of t)))) ⊕ spaced (type_text t)) ⊕ plain_text (codes "{")
+
+unfoldable pub typedef_page : Dialect → TypedefTree → Page
+typedef_page dialect (EnumTree t name entries) =
+    above (written (enum_text t)) (above (entries_page (map entry_text entries)) (written (plain_text (codes "} ") ⊕ name_text dialect t name ⊕ plain_text (codes ";"))))
+typedef_page dialect (StructTree name fields) =
+    above (line (codes "typedef struct packed {")) (above (inner (locals_page dialect fields)) (written (plain_text (codes "} ") ⊕ plain_text name ⊕ plain_text (codes ";"))))
+
 unfoldable mutual
   pub member_page : Dialect → MemberTree → Page
   member_page dialect (DeclarationMember d) = written (declared_text dialect d ⊕ plain_text (codes ";"))
@@ -129,6 +147,7 @@ unfoldable mutual
   member_page dialect (CommentMember text) = commented (written (plain_text text))
   member_page dialect BlankMember = line []
   member_page dialect (ImportMember package_name) = written (import_text package_name)
+  member_page dialect (TypedefMember t) = typedef_page dialect t
   member_page dialect (InlineMember text) = written (plain_text text)
   member_page dialect (MacroMember call semicolon) = written (expr_text call ⊕ plain_text (semicolon_text semicolon))
   member_page dialect (InstanceMember i) = instance_page i

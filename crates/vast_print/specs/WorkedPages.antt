@@ -8,7 +8,7 @@ use Rattle.vast_literal.specs.declared.kind.DataKind.TheVariants.{Wire as WireKi
 use Rattle.vast_literal.specs.Tree.{AssignTree, TaskTree, CommentTree, ConditionalTree, CaseTree, ForTree, Statements, NoStatements, MoreStatements, ElseIf, Else, NoCaseArms, CaseArm, NoExpr, SomeExpr}
 use Rattle.vast_literal.specs.declared.kind.AssignmentForm.TheVariants.{Blocking}
 use Rattle.vast_literal.specs.declared.kind.CaseKind.TheVariants.{CaseZ}
-use Rattle.vast_literal.specs.Tree.{DeclarationMember, BlankMember, ImportMember, InstanceMember, AlwaysMember, FunctionMember, LoopMember, NoExprs, MoreExprs, Members, NoMembers, MoreMembers, PortTree, ModuleItem, IncludeItem, ImportItem, BlankItem, CommentItem, FileTree}
+use Rattle.vast_literal.specs.Tree.{DeclarationMember, BlankMember, ImportMember, EnumTree, StructTree, TypedefMember, InstanceMember, AlwaysMember, FunctionMember, LoopMember, NoExprs, MoreExprs, Members, NoMembers, MoreMembers, PortTree, ModuleItem, IncludeItem, ImportItem, TypedefItem, BlankItem, CommentItem, FileTree}
 use Rattle.vast_literal.specs.declared.kind.AlwaysKind.TheVariants.{AlwaysComb as AlwaysCombWord, Initial as InitialWord}
 use Rattle.vast_literal.specs.declared.kind.ModulePortDirection.TheVariants.{Input as InputDirection}
 use Rattle.vast_literal.specs.WorkedTexts.{passthrough_file}
@@ -62,6 +62,18 @@ pub record WorkedPages : Type 0 where
   pub blank_member : print (layout (module_file (codes "m") [] (MoreMembers BlankMember NoMembers))) ≡ codes "module m;\n\nendmodule\n"
   -- The import of a package is a line among the members.
   pub import_of_package : print (member_page SystemVerilogDialect (ImportMember (codes "p"))) ≡ codes "import p::*;\n"
+  -- A type that is declared by name: an enumeration, of whose entries one has a value and one counts on, and a packed structure.
+  pub enumeration :
+      print (member_page SystemVerilogDialect (TypedefMember (EnumTree (bits 2 false (codes "2")) (codes "state_t")
+      (record { name = codes "IDLE"; value = SomeExpr (number (codes "2'd0") (pos 0)) } ∷ record { name = codes "BUSY"; value = NoExpr } ∷ []))))
+      ≡ codes "typedef enum logic [1:0] {\n  IDLE = 2'd0,\n  BUSY\n} state_t;\n"
+  pub structure :
+      print (layout (record {
+        dialect = SystemVerilogDialect;
+        items = TypedefItem (StructTree (codes "word_t")
+            (record { kind = LogicKind; type = ScalarTree false; name = codes "valid" } ∷ record { kind = LogicKind; type = bits 8 false (codes "8"); name = codes "data" } ∷ [])) ∷ [];
+      }))
+      ≡ codes "typedef struct packed {\n  logic valid;\n  logic [7:0] data;\n} word_t;\n"
   -- Items stand on lines of their own; a comment has its mark before each of its lines.
   pub file_items :
       print (layout (record { dialect = SystemVerilogDialect; items = IncludeItem (codes "defs.svh") ∷ ImportItem (codes "p") ∷ BlankItem ∷ CommentItem (codes "one\n\ntwo") ∷ [] }))

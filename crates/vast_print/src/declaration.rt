@@ -15,7 +15,8 @@ use crate::types::{is_external, print_dimensions, print_type};
 use crate::writer::Writer;
 use vast_core::{Ast, DataKind, ModulePortDirection, Port, VastDataType};
 
-fn kind_opening(kind: DataKind) -> &'static str
+/// A kind's word and the space after it, where it has one.
+pub(crate) fn kind_opening(kind: DataKind) -> &'static str
     ensures { result.now ≡ kind_opening kind }
 {
     match kind {

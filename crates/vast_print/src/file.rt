@@ -19,6 +19,7 @@ use crate::expression::print_expression;
 use crate::imports::print_import;
 use crate::module::print_module;
 use crate::refusal::PrintFault;
+use crate::typedefs::print_typedef;
 use crate::writer::Writer;
 use std::alloc::Global;
 use vast_core::{Ast, Expr, FileItem};
@@ -48,6 +49,7 @@ fn print_item(ast: &Ast, item: &FileItem, out: &mut Writer) -> Result<(), PrintF
         FileItem::Module(m) => print_module(ast, *m, out),
         FileItem::Include(path) => print_include(ast, path.as_str(), out),
         FileItem::Import(package) => print_import(package.as_str(), out),
+        FileItem::Typedef(typedef) => print_typedef(ast, typedef, out),
         FileItem::Comment(text) => Ok(out.comment(text.as_str())?),
         FileItem::BlankLine => Ok(out.next()?),
     }

@@ -26,6 +26,7 @@ mod pieces;
 mod refusal;
 mod selects;
 mod statement;
+mod typedefs;
 mod types;
 mod words;
 mod writer;

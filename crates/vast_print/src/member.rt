@@ -21,6 +21,7 @@ use crate::instance::print_instance;
 use crate::parameter::print_parameter;
 use crate::refusal::PrintFault;
 use crate::statement::print_inline;
+use crate::typedefs::print_typedef;
 use crate::words;
 use crate::writer::Writer;
 use vast_core::{Ast, DataKind, MacroRef, Member, VastDataType};
@@ -79,6 +80,7 @@ pub(crate) fn print_member(ast: &Ast, member: &Member, out: &mut Writer) -> Resu
         Member::BlankLine => Ok(out.next()?),
         Member::Comment(a) => Ok(out.comment(ast.comment_text(*a))?),
         Member::Import(package) => print_import(package.as_str(), out),
+        Member::Typedef(typedef) => print_typedef(ast, typedef, out),
         Member::Inline(a) => print_inline(ast.inline_text(*a), out),
         Member::Macro(a) => {
             let (call, semicolon) = ast.macro_statement(*a);

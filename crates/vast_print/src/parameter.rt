@@ -18,8 +18,8 @@ use crate::words;
 use crate::writer::Writer;
 use vast_core::{Ast, DataKind, Expr, ParameterForm, ParameterPort, TypeNode, VastDataType};
 
-/// The kind that its type brings to a parameter of a header, through arrays.
-fn base_kind(ast: &Ast, t: VastDataType) -> DataKind
+/// The kind that its type brings to a parameter of a header and to an enumeration, through arrays.
+pub(crate) fn base_kind(ast: &Ast, t: VastDataType) -> DataKind
     requires { OwnsType (bench ast.now) t }
     ensures { result ≡ base_kind (base_of (type_of (bench ast.now) t)) }
 {

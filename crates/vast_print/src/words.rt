@@ -1,7 +1,7 @@
 //! The words that stand between the parts of a tree.
 
 ghost use Rattle.std.specs.Prelude.{◌≡◌, codes};
-ghost use Rattle.vast_print.specs.Internal.Words.{signed_opening, unsigned_opening, scalar_cast_opening, scalar_cast_closing, cast_sign_word, number_cast_opening, number_cast_closing, comma, separator, endfunction_word, function_opening, for_opening, int_opening, step_word};
+ghost use Rattle.vast_print.specs.Internal.Words.{signed_opening, unsigned_opening, scalar_cast_opening, scalar_cast_closing, cast_sign_word, number_cast_opening, number_cast_closing, comma, separator, endfunction_word, function_opening, for_opening, int_opening, step_word, enum_opening, struct_opening};
 ghost use Rattle.vast_print.specs.Members.{always_opening, parameter_word, semicolon_text};
 ghost use Rattle.vast_print.specs.Statements.{assignment_operator, case_word, unique_word};
 ghost use Rattle.vast_core.specs.FileTree.{form_of};
@@ -158,6 +158,22 @@ pub(crate) fn step() -> &'static str
     ensures { result.now ≡ step_word }
 {
     " + 1) "
+}
+
+/// Before an enumeration's type.
+#[tactic(auto, unfolding(crate::specs::Internal::Words::enum_opening))]
+pub(crate) fn enumeration() -> &'static str
+    ensures { result.now ≡ enum_opening }
+{
+    "typedef enum "
+}
+
+/// Before a structure's fields.
+#[tactic(auto, unfolding(crate::specs::Internal::Words::struct_opening))]
+pub(crate) fn structure() -> &'static str
+    ensures { result.now ≡ struct_opening }
+{
+    "typedef struct packed {"
 }
 
 /// Before the events of an always block, or before its block where it has none.

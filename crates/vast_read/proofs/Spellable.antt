@@ -8,7 +8,7 @@ use Rattle.vast_literal.specs.declared.token.Key.{Key}
 use Rattle.vast_literal.specs.NormalExpr.{NormalExpr, NormalExprs}
 use Rattle.vast_literal.specs.NormalFile.{NormalStatement, NormalStatements, Arms, Labels, Group, NormalDeclaration, Event, NormalConnection, NormalMember, NormalMembers, NormalParameter, NormalPort, NormalItem, NormalFile}
 use Rattle.vast_literal.specs.Grammar.{Spells, up, ternary, binary, unary, index, slice, part_select, member_of, name, number, based, quoted, paren, call, system_alone, system_call, concat, replicated, array_pattern, macro_alone, macro_call, number_cast, name_cast, package_cast, paren_cast, word_cast, SpellsList, none, some, SpellsJoined, last, next}
-use Rattle.vast_literal.specs.FileGrammar.{IsMany, no_items, more_items, IsJoined, last_item, next_item, IsList, empty, full, arrow, IsUnique, unique, not_unique, IsStatement, simple, assigned, task, choice, cases, counted, IsCases, cased, IsAssign, assigns, IsStatements, done, then, IsChoice, only, otherwise, or, IsLabels, no_labels, label, default, IsBody, body, bare, IsGroup, one, range, IsMaybe, absent, present, IsTypeName, no_type, own_type, packaged, IsDeclaration, declares, IsEvent, edge, plain, IsInput, input, IsDeclared, declared, IsGiven, given, IsConnection, connected, unconnected, IsGivenList, no_parameters, with_parameters, IsSemicolon, with_one, without, IsLabel, no_label, labelled, IsFunctionBody, block_body, casez_body, IsMember, declaration, continuous, parameter, macro, macro_with, import_member, instance, unclocked, clocked, conditional, function, loop, IsMembers, closed, and_member, IsParameter, header_parameter, IsPort, port, IsParameters, no_header_parameters, header_parameters, IsPorts, no_ports, ports, IsItem, module_item, include_item, import_item, IsFile, file}
+use Rattle.vast_literal.specs.FileGrammar.{IsMany, no_items, more_items, IsJoined, last_item, next_item, IsList, empty, full, arrow, IsUnique, unique, not_unique, IsStatement, simple, assigned, task, choice, cases, counted, IsCases, cased, IsAssign, assigns, IsStatements, done, then, IsChoice, only, otherwise, or, IsLabels, no_labels, label, default, IsBody, body, bare, IsGroup, one, range, IsMaybe, absent, present, IsTypeName, no_type, own_type, packaged, IsDeclaration, declares, IsEvent, edge, plain, IsInput, input, IsDeclared, declared, IsGiven, given, IsConnection, connected, unconnected, IsGivenList, no_parameters, with_parameters, IsSemicolon, with_one, without, IsLabel, no_label, labelled, IsFunctionBody, block_body, casez_body, IsEntry, valued, counted, IsField, field, IsTypedef, enumeration, structure, IsMember, declaration, continuous, parameter, macro, macro_with, import_member, typedef_member, instance, unclocked, clocked, conditional, function, loop, IsMembers, closed, and_member, IsParameter, header_parameter, IsPort, port, IsParameters, no_header_parameters, header_parameters, IsPorts, no_ports, ports, IsItem, module_item, include_item, import_item, typedef_item, IsFile, file}
 
 -- Whether a token is one of the grammar's.
 abbrev pub is_used : Token → Bool
@@ -184,6 +184,19 @@ function_body_used : {ts : List Token} {b : NormalStatements} → IsFunctionBody
 function_body_used (block_body s) = and refl (statements_used s)
 function_body_used (casez_body c) = cases_used c
 
+entry_used : {ts : List Token} {c : NormalConnection} → IsEntry ts c → Used ts
+entry_used (valued n x) = and refl (and refl (expression_used x))
+entry_used (counted n) = and refl nothing
+
+field_used : {ts : List Token} {d : NormalDeclaration} → IsField ts d → Used ts
+field_used (field i) = both (declaration_used i) (and refl nothing)
+
+typedef_used : {ts : List Token} {m : NormalMember} → IsTypedef ts m → Used ts
+typedef_used (enumeration k n p s gs es hs) =
+    and refl (and refl (and refl (both (maybe_used s) (both (many_used (λ us y p. group_used p) gs) (and refl
+    (both (listed_used (λ us y p. entry_used p) refl es) (and refl (and refl (both (many_used (λ us y p. group_used p) hs) (and refl nothing))))))))))
+typedef_used (structure n ds) = and refl (and refl (and refl (and refl (both (many_used (λ us y p. field_used p) ds) (and refl (and refl (and refl nothing)))))))
+
 words_used : (w : AlwaysWord) → Used (always_words w)
 words_used AlwaysFFWord = and refl (and refl (and refl nothing))
 words_used AlwaysAtWord = and refl (and refl (and refl nothing))
@@ -198,6 +211,7 @@ mutual
   member_used (macro n s) = and refl (semicolon_used s)
   member_used (macro_with n xs s) = and refl (and refl (both (list_used xs) (and refl (semicolon_used s))))
   member_used (import_member p) = and refl (and refl (and refl (and refl (and refl nothing))))
+  member_used (typedef_member t) = typedef_used t
   member_used (instance n i ps cs) = and refl (both (givens_used ps) (and refl (and refl (both (listed_used (λ us y p. connection_used p) refl cs) (and refl (and refl nothing))))))
   member_used (unclocked w h b) = both (words_used w) (and refl (statements_used b))
   member_used (clocked w h es b) = both (words_used w) (both (listed_used (λ us y p. event_used p) refl es) (and refl (and refl (statements_used b))))
@@ -233,6 +247,7 @@ item_used : {ts : List Token} {i : NormalItem} → IsItem ts i → Used ts
 item_used (module_item n ps qs ms) = and refl (and refl (both (parameters_used ps) (both (ports_used qs) (and refl (members_used ms)))))
 item_used (include_item path) = and refl (and refl nothing)
 item_used (import_item p) = and refl (and refl (and refl (and refl (and refl nothing))))
+item_used (typedef_item t) = typedef_used t
 
 pub file_used : (ts : List Token) (f : NormalFile) → IsFile ts f → are_used ts ≡ true
 file_used ts f (file is) = used ts (many_used (λ us y p. item_used p) is)

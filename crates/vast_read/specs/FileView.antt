@@ -4,12 +4,12 @@ use Rattle.vast_literal.specs.NormalFile as normal
 use Rattle.vast_read.specs.Texts.{key_of}
 use Rattle.vast_read.specs.View.{view}
 use Rattle.vast_read.specs.DeclarationView.{declaration_view}
-use Rattle.vast_read.specs.MemberView.{members_view}
+use Rattle.vast_read.specs.MemberView.{member_view, members_view}
 use Rattle.vast_read.specs.declared.tree.file.Parameter.{Parameter}
 use Rattle.vast_read.specs.declared.tree.file.Port.{Port}
 use Rattle.vast_read.specs.declared.tree.file.NormalModule.{NormalModule}
 use Rattle.vast_read.specs.declared.tree.file.NormalItem.{NormalItem}
-use Rattle.vast_read.specs.declared.tree.file.NormalItem.TheVariants.{Include, Import, Module}
+use Rattle.vast_read.specs.declared.tree.file.NormalItem.TheVariants.{Include, Import, Member, Module}
 use Rattle.vast_read.specs.declared.tree.file.NormalFile.{NormalFile}
 
 abbrev pub parameter_view : Parameter → normal.NormalParameter
@@ -31,6 +31,7 @@ module_view m = record { name = m.name; parameters = parameters_view m.parameter
 abbrev pub item_view : NormalItem → normal.NormalItem
 item_view (Include path) = normal.IncludePart path
 item_view (Import package_name) = normal.FileImportPart package_name
+item_view (Member m) = normal.MemberPart (member_view m)
 item_view (Module m) = normal.ModulePart (module_view m)
 
 abbrev pub items_view : List NormalItem → List normal.NormalItem

@@ -3,12 +3,12 @@ use Rattle.std.proofs.Common.{◌≡◌, ℕ, List, [], ◌∷◌, Bool, true, f
 use Rattle.vast_literal.specs.FileGrammar.{assignment}
 use Rattle.vast_literal.specs.NormalExpr.{NormalExprs, NoNormals, MoreNormals}
 use Rattle.vast_literal.specs.NormalFile as normal
-use Rattle.vast_literal.specs.NormalFile.{NormalStatement, BlockingStatement, NonblockingStatement, AssignStatement, TaskStatement, ChoiceStatement, CaseStatement, ForStatement, NormalStatements, Done, Then, Arms, Only, Otherwise, Or, Labels, NoLabels, Label, Group, One, Range, NormalDeclaration, EdgeEvent, NameEvent, NormalConnection, NormalMember, DeclarationPart, AssignPart, ParameterPart, MacroPart, ImportPart, InstancePart, AlwaysPart, ConditionalPart, FunctionPart, LoopPart, NormalMembers, NoParts, MoreParts, NormalParameter, NormalPort, NormalItem, ModulePart, IncludePart, FileImportPart, NormalFile}
+use Rattle.vast_literal.specs.NormalFile.{NormalStatement, BlockingStatement, NonblockingStatement, AssignStatement, TaskStatement, ChoiceStatement, CaseStatement, ForStatement, NormalStatements, Done, Then, Arms, Only, Otherwise, Or, Labels, NoLabels, Label, Group, One, Range, NormalDeclaration, EdgeEvent, NameEvent, NormalConnection, NormalMember, DeclarationPart, AssignPart, ParameterPart, MacroPart, ImportPart, EnumPart, StructPart, InstancePart, AlwaysPart, ConditionalPart, FunctionPart, LoopPart, NormalMembers, NoParts, MoreParts, NormalParameter, NormalPort, NormalItem, ModulePart, IncludePart, FileImportPart, MemberPart, NormalFile}
 use Rattle.vast_rows.specs.Built.{Seen, SeenAnswer, SeenExpressions, SeenGroup, SeenGroups, SeenDeclaration, SeenDeclarations, SeenConnection, SeenConnections, SeenEvent, SeenEvents, SeenStatement, SeenStatements, SeenArms, SeenLabels, SeenMember, SeenMembers, SeenParameter, SeenParameters, SeenPort, SeenPorts, SeenItem, SeenFile, of_one, of_two, of_three, of_four, make_none, make_more, declared, name_before, name_behind, assigned, alternated, make, happens, built}
 use Rattle.vast_rows.specs.Events.{Event, Makes, Names}
 use Rattle.vast_rows.specs.Laws.{TraceBuilds, TraceIsOne}
 use Rattle.vast_rows.specs.Numbers.{Key}
-use Rattle.vast_rows.specs.Trace.{answer, trace_list, trace_statement, trace_statements, trace_arms, trace_labels, trace_group, trace_groups, trace_key, trace_package, trace_type, trace_named, trace_declaration, trace_declarations, trace_expressions, trace_arguments, trace_value, trace_connection, trace_connections, trace_event, trace_events, trace_label, trace_member, trace_members, trace_parameter, trace_parameters, trace_port, trace_ports, trace_item, trace}
+use Rattle.vast_rows.specs.Trace.{answer, trace_list, trace_statement, trace_statements, trace_arms, trace_labels, trace_group, trace_groups, trace_key, trace_package, trace_type, trace_named, trace_declaration, trace_declarations, trace_expressions, trace_arguments, trace_value, trace_connection, trace_connections, trace_event, trace_events, trace_label, trace_base, trace_member, trace_members, trace_parameter, trace_parameters, trace_port, trace_ports, trace_item, trace}
 use Rattle.vast_rows.specs.declared.action.Action.TheVariants.{KindOf, SignOf, Declares}
 use Rattle.vast_rows.specs.declared.action.Listed.{Listed}
 use Rattle.vast_rows.specs.declared.action.Listed.TheVariants as listed
@@ -144,6 +144,10 @@ events_build : {es : List Event} {vs : List Seen} (e : List normal.Event) → Bu
 unfolding make_none make_more of_one of_two
 events_build e p = list_builds listed.Event trace_event SeenEvent SeenEvents refl (λ x xs vs. refl) event_builds e p
 
+unnamed_builds : {es : List Event} {vs : List Seen} (d : NormalDeclaration) → Builds es vs → Builds (trace_base d es) (SeenDeclaration (declared_as d.kind d.package_name d.type_name d.sign d.groups [] []) ∷ vs)
+unfolding trace_base make of_one
+unnamed_builds d p = kind_builds d.kind (package_builds d.package_name (type_builds d.type_name (sign_builds d.sign (on (groups_build d.groups p) refl))))
+
 mutual
   unfolding trace_member trace_members trace_arguments trace_label make make_none make_more of_one of_two of_three of_four
 
@@ -154,6 +158,8 @@ mutual
   member_builds (MacroPart m None s) p = on (on (on (answer_builds s p) refl) refl) refl
   member_builds (MacroPart m (Some xs) s) p = on (on (expressions_build xs (answer_builds s p)) refl) refl
   member_builds (ImportPart w) p = on (on p refl) refl
+  member_builds (EnumPart d e) p = on (unnamed_builds d (connections_build e (on (groups_build d.behind p) refl))) refl
+  member_builds (StructPart n d) p = on (declarations_build d (on p refl)) refl
   member_builds (InstancePart m q i c) p = on (on (connections_build q (on (connections_build c p) refl)) refl) refl
   member_builds (AlwaysPart k e b) p = on (events_build e (statements_build b p)) refl
   member_builds (ConditionalPart a) p = on (arms_build a p) refl
@@ -188,6 +194,7 @@ unfolding trace_item make of_one of_two of_three of_four
 item_builds (ModulePart m) es vs p = on (on (parameters_build m.parameters (ports_build m.ports (members_build m.members p))) refl) refl
 item_builds (IncludePart path) es vs p = on (on (on p refl) refl) refl
 item_builds (FileImportPart w) es vs p = on (on p refl) refl
+item_builds (MemberPart m) es vs p = on (member_builds m p) refl
 
 file_builds : {es : List Event} {vs : List Seen} (t : NormalFile) → Builds es vs → Builds (trace t es) (SeenFile t ∷ vs)
 unfolding trace make_none make_more of_one of_two

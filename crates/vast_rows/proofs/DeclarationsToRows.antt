@@ -13,7 +13,7 @@ use Rattle.vast_rows.specs.Symbols.{word, mark, rule}
 use Rattle.vast_rows.specs.Trace.{trace_list, trace_group, trace_groups, trace_key, trace_package, trace_type, trace_named, trace_declaration}
 use Rattle.vast_rows.proofs.Spelling.{Node, Spelled, stop, tok, phr, nod, at, along}
 
-kind_to : (k : Key) (es : List Event) → IsTrue (is_kind k) → Node KindWord (Reserved k ∷ []) (Makes (KindOf k) ∷ es) es
+pub kind_to : (k : Key) (es : List Event) → IsTrue (is_kind k) → Node KindWord (Reserved k ∷ []) (Makes (KindOf k) ∷ es) es
 unfolding is_kind
 kind_to WireKey es h = at KindWord 0 refl (tok _ refl stop)
 kind_to RegKey es h = at KindWord 1 refl (tok _ refl stop)
@@ -39,7 +39,7 @@ local_to LogicKey es h = at LocalKind 1 refl (tok _ refl stop)
 local_to IfKey es h = absurd (cc h)
 local_to _ es h = absurd (cc h)
 
-sign_to : (k : Key) (es : List Event) → IsTrue (is_sign k) → Node SignWord (Reserved k ∷ []) (Makes (SignOf k) ∷ es) es
+pub sign_to : (k : Key) (es : List Event) → IsTrue (is_sign k) → Node SignWord (Reserved k ∷ []) (Makes (SignOf k) ∷ es) es
 unfolding is_sign
 sign_to SignedKey es h = at SignWord 0 refl (tok _ refl stop)
 sign_to UnsignedKey es h = at SignWord 1 refl (tok _ refl stop)
@@ -51,7 +51,7 @@ unfolding trace_group
 group_to (one p) = at BracketGroup 0 refl (tok _ refl (phr (expression p) (at GroupEnd 0 refl (tok _ refl stop))))
 group_to (range p q) = at BracketGroup 0 refl (tok _ refl (phr (expression p) (at GroupEnd 1 refl (tok _ refl (phr (expression q) (tok _ refl stop))))))
 
-groups_to : {ts : List Token} {g : List Group} {es : List Event} → IsMany IsGroup ts g → Node Groups ts (trace_groups g es) es
+pub groups_to : {ts : List Token} {g : List Group} {es : List Event} → IsMany IsGroup ts g → Node Groups ts (trace_groups g es) es
 unfolding trace_list
 groups_to no_items = at Groups 0 refl stop
 groups_to (more_items x xs) = at Groups 1 refl (nod (group_to x) (groups_to xs))

@@ -106,11 +106,11 @@ before_head left =
     let item_due = opened 1 _ left refl refl refl in
     let module_due = opened 2 _ item_due refl refl refl in
     let parameters_due = eaten (eaten module_due) in
-    let ports_due = opened 5 _ parameters_due refl refl refl in
-    let semicolon_due = opened 10 _ ports_due refl refl refl in
+    let ports_due = opened 6 _ parameters_due refl refl refl in
+    let semicolon_due = opened 11 _ ports_due refl refl refl in
     let members_due = eaten semicolon_due in
-    let member_due = opened 19 _ members_due refl refl refl in
-    eaten (eaten (eaten (opened 63 _ member_due refl refl refl)))
+    let member_due = opened 20 _ members_due refl refl refl in
+    eaten (eaten (eaten (opened 64 _ member_due refl refl refl)))
 
 -- A loop goes on while a name is less than something, and not while a disjunction holds.
 pub no_disjunction : HasNoFile (codes "module m; for (genvar i = 0; i < a || b; i = i + 1) begin end endmodule")

@@ -1,11 +1,11 @@
 -- The rows of members, modules and files make what the typed relations say.
 use Rattle.std.proofs.Common.{[], ◌∷◌, Some, refl, append_assoc, append-nil}
-use Rattle.vast_literal.specs.FileGrammar.{is_parameter_word, is_edge, no_items, more_items, empty, full, present, edge, plain, input, declared, given, connected, unconnected, no_parameters, with_parameters, with_one, without, no_label, labelled, block_body, casez_body, declaration, continuous, parameter, macro, macro_with, import_member, instance, unclocked, clocked, conditional, function, loop, closed, and_member, header_parameter, port, no_header_parameters, header_parameters, no_ports, ports, module_item, include_item, import_item}
+use Rattle.vast_literal.specs.FileGrammar.{is_parameter_word, is_edge, no_items, more_items, empty, full, absent, present, edge, plain, input, declared, given, connected, unconnected, no_parameters, with_parameters, with_one, without, no_label, labelled, block_body, casez_body, valued, counted, field, enumeration, structure, declaration, continuous, parameter, macro, macro_with, import_member, typedef_member, instance, unclocked, clocked, conditional, function, loop, closed, and_member, header_parameter, port, no_header_parameters, header_parameters, no_ports, ports, module_item, include_item, import_item, typedef_item}
 use Rattle.vast_literal.specs.Grammar.{none, some, last, next}
 use Rattle.vast_literal.specs.NormalFile.{LoopPart}
 use Rattle.vast_literal.specs.Tokens.{Mark}
 use Rattle.vast_literal.specs.declared.kind.AlwaysKind.TheVariants.{AlwaysFF as AlwaysFFWord, AlwaysAt as AlwaysAtWord, AlwaysComb as AlwaysCombWord, AlwaysStar as AlwaysStarWord, AlwaysLatch as AlwaysLatchWord, Initial as InitialWord}
-use Rattle.vast_rows.specs.declared.rule.Rule.TheVariants.{File, FileItem, Parameters, Parameter, Ports, Port, ModuleMembers, LoopMembers, Member, Awaited, AnyMacro, MacroArguments, Expressions, MoreExpressions, LastSemicolon, GivenList, Given, Connections, Connection, Connected, Events, OneEvent, Inputs, Input, Locals, Local, FunctionBody, LoopLabel}
+use Rattle.vast_rows.specs.declared.rule.Rule.TheVariants.{File, FileItem, Parameters, Parameter, Ports, Port, ModuleMembers, LoopMembers, Member, Awaited, AnyMacro, MacroArguments, Expressions, MoreExpressions, LastSemicolon, GivenList, Given, Connections, Connection, Connected, Events, OneEvent, Inputs, Input, Locals, Local, FunctionBody, LoopLabel, Typedef, TypeForm, BaseSign, BaseGroups, Entries, Entry, EntryValue, Fields, Field}
 use Rattle.vast_rows.specs.Numbers.{CloseParen, ParameterKey, LocalparamKey, PosedgeKey, NegedgeKey, EndModuleKey, EndKey}
 use Rattle.vast_rows.specs.Phrases.{expression, target, loop_head, path}
 use Rattle.vast_rows.proofs.Meant.{Makes, is_key, is_macro, is_nothing}
@@ -25,6 +25,9 @@ item1 ts m (path p) = (_, include_item p)
 
 pub item2 : Makes FileItem 2
 item2 p = (_, import_item p)
+
+pub item3 : Makes FileItem 3
+item3 ts t = (_, typedef_item t.1)
 
 pub parameters0 : Makes Parameters 0
 parameters0 = (_, no_header_parameters)
@@ -102,6 +105,9 @@ member13 ts n (loop_head {x = x} {e = e} i p q) ls l ms m = (LoopPart i x e l.0 
 
 pub member14 : Makes Member 14
 member14 p = (_, import_member p)
+
+pub member15 : Makes Member 15
+member15 ts t = (_, typedef_member t.1)
 
 pub awaited0 : Makes Awaited 0
 awaited0 es e bs b = (_, clocked AlwaysAtWord refl e.1 b.1)
@@ -206,3 +212,45 @@ label0 = (_, no_label)
 
 pub label1 : Makes LoopLabel 1
 label1 w = (_, labelled w)
+
+pub typedef0 : Makes Typedef 0
+typedef0 us m = m
+
+pub type_form0 : Makes TypeForm 0
+type_form0 ks (is_key k i) us enumerates es e n hs h = enumerates k n es hs e.0 h.0 i e.1 h.1
+
+pub type_form1 : Makes TypeForm 1
+type_form1 ds d n = (_, structure n d.1)
+
+pub base_sign0 : Makes BaseSign 0
+base_sign0 gs g k n es hs e h i entries behind = (_, enumeration k n i absent g.1 entries behind)
+
+pub base_sign1 : Makes BaseSign 1
+base_sign1 ss (is_key s j) gs g k n es hs e h i entries behind = (_, enumeration k n i (present s j) g.1 entries behind)
+
+pub base_groups0 : Makes BaseGroups 0
+base_groups0 gs g = g
+
+pub entries0 : Makes Entries 0
+entries0 = (_, empty)
+
+pub entries1 : Makes Entries 1
+entries1 ts c us more = let r = more ts c.0 c.1 in (_, full r.1)
+
+pub entry0 : Makes Entry 0
+entry0 n us after = after n
+
+pub entry_value0 : Makes EntryValue 0
+entry_value0 n = (_, counted n)
+
+pub entry_value1 : Makes EntryValue 1
+entry_value1 xs m (expression p) n = (_, valued n p)
+
+pub fields0 : Makes Fields 0
+fields0 = (_, no_items)
+
+pub fields1 : Makes Fields 1
+fields1 ts f us fs = (_, more_items f.1 fs.1)
+
+pub field0 : Makes Field 0
+field0 ds d = (_, field d.1)

@@ -1,14 +1,14 @@
 -- What each rule of the page means, by the typed relations of the grammar. A rule that is there for factoring alone means: with what
 -- stands before it, the whole.
 use Rattle.std.proofs.Common.{◌≡◌, ℕ, List, [], ◌∷◌, ◌++◌, Bool, true, false, Option, None, IsTrue, get_or, sym, subst, append-nil}
-use Rattle.vast_literal.specs.FileGrammar.{arrow, is_kind, is_sign, is_member_kind, is_local_kind, is_direction, IsMany, IsJoined, last_item, next_item, IsList, IsUnique, IsStatement, IsCases, IsAssign, IsStatements, IsChoice, IsLabels, IsBody, IsGroup, IsMaybe, IsTypeName, IsDeclaration, IsEvent, IsInput, IsDeclared, IsGiven, IsConnection, IsGivenList, IsSemicolon, IsLabel, IsFunctionBody, IsMember, IsMembers, IsParameter, IsPort, IsParameters, IsPorts, IsItem}
+use Rattle.vast_literal.specs.FileGrammar.{arrow, is_kind, is_sign, is_member_kind, is_local_kind, is_direction, IsMany, IsJoined, last_item, next_item, IsList, IsUnique, IsStatement, IsCases, IsAssign, IsStatements, IsChoice, IsLabels, IsBody, IsGroup, IsMaybe, IsTypeName, IsDeclaration, IsEvent, IsInput, IsDeclared, IsGiven, IsConnection, IsGivenList, IsSemicolon, IsLabel, IsFunctionBody, IsEntry, IsField, IsTypedef, IsMember, IsMembers, IsParameter, IsPort, IsParameters, IsPorts, IsItem}
 use Rattle.vast_literal.specs.Grammar.{Spells, SpellsList, SpellsJoined}
 use Rattle.vast_literal.specs.NormalExpr.{NormalExpr, NormalExprs}
 use Rattle.vast_literal.specs.NormalFile as normal
 use Rattle.vast_literal.specs.Tokens.{Token, Reserved, Word, MacroWord, Mark}
 use Rattle.vast_rows.specs.declared.rule.Rule.{Rule as RuleName}
 use Rattle.vast_rows.specs.declared.rule.Rule.TheVariants as rule
-use Rattle.vast_rows.specs.Numbers.{Key, At, AlwaysKey, OpenParen, CloseParen, OpenBracket, Comma, Dot, DoubleColon, CasezKey, EndKey, EndModuleKey, IfKey, ElseKey, BeginKey, OrKey}
+use Rattle.vast_rows.specs.Numbers.{Key, At, AlwaysKey, OpenParen, CloseParen, OpenBracket, OpenBrace, CloseBrace, Comma, Semicolon, Dot, DoubleColon, CasezKey, EndKey, EndModuleKey, IfKey, ElseKey, BeginKey, OrKey, TypedefKey, EnumKey}
 use Rattle.vast_rows.specs.Page.{page}
 use Rattle.vast_rows.proofs.Means.{MakesOf, row_of, rule_of}
 
@@ -37,6 +37,11 @@ Declared ts = (ks : List Token) (k : Option Key) → IsMaybe is_kind ks k → (d
 abbrev pub Completes : (List Token → List Token) → Type 0
 Completes behind = (cs bs : List Token) (c : NormalExpr) (b : normal.NormalStatements) → Spells 0 cs c → IsStatements bs b →
     (a : normal.Arms) × IsChoice (Reserved IfKey ∷ (Mark OpenParen ∷ (cs ++ (Mark CloseParen ∷ (Reserved BeginKey ∷ behind bs))))) a
+
+-- After a kind word, and before entries, a name and groups, an enumeration.
+abbrev pub Enumerates : List Token → Type 0
+Enumerates us = (k : Key) (n : List ℕ) (es hs : List Token) (e : List normal.NormalConnection) (h : List normal.Group) → IsTrue (is_kind k) → IsList IsEntry (Mark Comma) es e → IsMany IsGroup hs h →
+    (m : normal.NormalMember) × IsTypedef (Reserved TypedefKey ∷ (Reserved EnumKey ∷ (Reserved k ∷ (us ++ (Mark OpenBrace ∷ (es ++ (Mark CloseBrace ∷ (Word n ∷ (hs ++ (Mark Semicolon ∷ [])))))))))) m
 
 abbrev pub Meant : RuleName → List Token → Type 0
 Meant rule.File ts = (items : List normal.NormalItem) × IsMany IsItem ts items
@@ -92,6 +97,16 @@ Meant rule.FunctionBody ts = (b : normal.NormalStatements) × IsFunctionBody ts 
 Meant rule.LoneCase us = (ts : List Token) (u : Bool) → IsUnique ts u → (s : normal.NormalStatement) × IsCases CasezKey true (ts ++ us) s
 Meant rule.NoEnd ts = IsNothing ts
 Meant rule.LoopLabel ts = (l : Option (List ℕ)) × IsLabel ts l
+Meant rule.Typedef ts = (m : normal.NormalMember) × IsTypedef ts m
+Meant rule.TypeForm us = (m : normal.NormalMember) × IsTypedef (Reserved TypedefKey ∷ us) m
+Meant rule.BaseSign us = Enumerates us
+Meant rule.BaseGroups ts = (g : List normal.Group) × IsMany IsGroup ts g
+Meant rule.Entries ts = (c : List normal.NormalConnection) × IsList IsEntry (Mark Comma) ts c
+Meant rule.Entry ts = (c : normal.NormalConnection) × IsEntry ts c
+Meant rule.EntryValue us = (n : List ℕ) → (c : normal.NormalConnection) × IsEntry (Word n ∷ us) c
+Meant rule.MoreEntries ts = Tails IsEntry (Mark Comma) ts
+Meant rule.Fields ts = (d : List normal.NormalDeclaration) × IsMany IsField ts d
+Meant rule.Field ts = (d : normal.NormalDeclaration) × IsField ts d
 Meant rule.Statements ts = (s : normal.NormalStatements) × IsStatements ts s
 Meant rule.Statement ts = (s : normal.NormalStatement) × IsStatement ts s
 Meant rule.AfterTarget us = (ts : List Token) (l : NormalExpr) → Spells 13 ts l → (s : normal.NormalStatement) × IsStatement (ts ++ us) s

@@ -1,26 +1,27 @@
 -- What the typed relations say of members, modules and files, the page spells and tells.
 use Rattle.std.proofs.Common.{◌≡◌, ℕ, List, [], ◌∷◌, ◌++◌, Bool, true, false, codes, Option, IsTrue, refl, ap, append_assoc, append-nil}
 use Rattle.std.specs.Str.{bytes_eq}
-use Rattle.vast_literal.specs.FileGrammar.{is_parameter_word, is_edge, is_direction, is_local_kind, IsMany, no_items, more_items, IsList, empty, full, IsEvent, edge, plain, IsInput, input, IsDeclared, IsGiven, given, IsConnection, connected, unconnected, IsGivenList, no_parameters, with_parameters, IsSemicolon, with_one, without, IsLabel, no_label, labelled, IsFunctionBody, block_body, casez_body, IsMember, declaration, continuous, parameter, macro, macro_with, import_member, instance, unclocked, clocked, conditional, function, loop, IsMembers, closed, and_member, IsParameter, header_parameter, IsPort, port, IsParameters, no_header_parameters, header_parameters, IsPorts, no_ports, ports, IsItem, module_item, include_item, import_item}
+use Rattle.vast_literal.specs.FileGrammar.{is_parameter_word, is_edge, is_direction, is_sign, is_local_kind, IsMany, no_items, more_items, IsList, empty, full, IsGroup, IsMaybe, absent, present, IsEvent, edge, plain, IsInput, input, IsDeclared, IsGiven, given, IsConnection, connected, unconnected, IsGivenList, no_parameters, with_parameters, IsSemicolon, with_one, without, IsLabel, no_label, labelled, IsFunctionBody, block_body, casez_body, IsEntry, valued, counted, IsField, field, IsTypedef, enumeration, structure, IsMember, declaration, continuous, parameter, macro, macro_with, import_member, typedef_member, instance, unclocked, clocked, conditional, function, loop, IsMembers, closed, and_member, IsParameter, header_parameter, IsPort, port, IsParameters, no_header_parameters, header_parameters, IsPorts, no_ports, ports, IsItem, module_item, include_item, import_item, typedef_item}
 use Rattle.vast_literal.specs.Grammar.{Spells, SpellsList, none, some, SpellsJoined, last, next}
 use Rattle.vast_literal.specs.NormalExpr.{NormalExpr, NormalExprs}
 use Rattle.vast_literal.specs.NormalFile as normal
-use Rattle.vast_literal.specs.NormalFile.{NormalStatements, NormalDeclaration, NormalConnection, NormalMember, NormalMembers, NormalParameter, NormalPort, NormalItem}
+use Rattle.vast_literal.specs.NormalFile.{NormalStatements, Group, NormalDeclaration, NormalConnection, NormalMember, NormalMembers, NormalParameter, NormalPort, NormalItem}
 use Rattle.vast_literal.specs.Shape.{always_words, has_events}
 use Rattle.vast_literal.specs.Tokens.{Token, Reserved, Word, MacroWord, Mark}
 use Rattle.vast_literal.specs.declared.kind.AlwaysKind.{AlwaysKind as AlwaysWord}
 use Rattle.vast_literal.specs.declared.kind.AlwaysKind.TheVariants.{AlwaysFF as AlwaysFFWord, AlwaysAt as AlwaysAtWord, AlwaysComb as AlwaysCombWord, AlwaysStar as AlwaysStarWord, AlwaysLatch as AlwaysLatchWord, Initial as InitialWord}
-use Rattle.vast_rows.specs.declared.action.Action.TheVariants.{PortOf, ParameterMember, AlwaysMember, EdgeOf}
+use Rattle.vast_rows.specs.declared.action.Action.TheVariants.{PortOf, ParameterMember, AlwaysMember, EdgeOf, SignOf, Unnamed}
 use Rattle.vast_rows.specs.declared.action.Listed.TheVariants as what
+use Rattle.vast_rows.specs.declared.grammar.Item.{Item}
 use Rattle.vast_rows.specs.declared.grammar.Item.TheVariants.{Phrase}
 use Rattle.vast_rows.specs.declared.grammar.Phrase.TheVariants.{Expression}
-use Rattle.vast_rows.specs.declared.rule.Rule.TheVariants.{File, FileItem, Parameters, MoreParameters, Parameter, Ports, MorePorts, Port, Direction, ModuleMembers, LoopMembers, Member, AnyMacro, MacroArguments, Expressions, MoreExpressions, LastSemicolon, GivenList, Given, MoreGiven, Connections, Connection, Connected, MoreConnections, Events, OneEvent, MoreEvents, Inputs, Input, MoreInputs, Locals, Declaration, Statements, FunctionBody, NoWait, Awaited, LoopLabel}
+use Rattle.vast_rows.specs.declared.rule.Rule.TheVariants.{File, FileItem, Parameters, MoreParameters, Parameter, Ports, MorePorts, Port, Direction, ModuleMembers, LoopMembers, Member, AnyMacro, MacroArguments, Expressions, MoreExpressions, LastSemicolon, GivenList, Given, MoreGiven, Connections, Connection, Connected, MoreConnections, Events, OneEvent, MoreEvents, Inputs, Input, MoreInputs, Locals, Declaration, Statements, FunctionBody, NoWait, Awaited, LoopLabel, Typedef, TypeForm, BaseSign, BaseGroups, Entries, Entry, EntryValue, MoreEntries, Fields, Field}
 use Rattle.vast_rows.specs.Events.{Event, Makes, Names}
 use Rattle.vast_rows.specs.Numbers.{Key, Comma, OpenParen, Semicolon, Assign, BeginKey, CloseParen, InputKey, OutputKey, InOutKey, ParameterKey, LocalparamKey, PosedgeKey, NegedgeKey, OrKey, EndModuleKey, EndKey, IfKey}
 use Rattle.vast_rows.specs.Phrases.{expression, target, loop_head, path}
 use Rattle.vast_rows.specs.Symbols.{key, mark, rule}
-use Rattle.vast_rows.specs.Trace.{read, answer, trace_list, trace_statements, trace_declaration, trace_declarations, trace_expressions, trace_arguments, trace_value, trace_connection, trace_connections, trace_event, trace_events, trace_label, trace_member, trace_members, trace_parameter, trace_parameters, trace_port, trace_ports, trace_item, trace_items}
-use Rattle.vast_rows.proofs.DeclarationsToRows.{declaration_to, net_declared, local_declared}
+use Rattle.vast_rows.specs.Trace.{read, answer, trace_list, trace_groups, trace_key, trace_package, trace_type, trace_base, trace_statements, trace_declaration, trace_declarations, trace_expressions, trace_arguments, trace_value, trace_connection, trace_connections, trace_event, trace_events, trace_label, trace_member, trace_members, trace_parameter, trace_parameters, trace_port, trace_ports, trace_item, trace_items}
+use Rattle.vast_rows.proofs.DeclarationsToRows.{kind_to, sign_to, groups_to, declaration_to, net_declared, local_declared}
 use Rattle.vast_rows.proofs.Spelling.{Node, Spelled, stop, tok, phr, phr_last, nod, at, along, listed, joined_to, closed_by}
 use Rattle.vast_rows.proofs.StatementsToRows.{loop_tokens, statements_to, choice_to, lone_to}
 
@@ -137,6 +138,38 @@ expressions_to none = at Expressions 0 refl stop
 expressions_to (some (last {ts = ts} p)) = at Expressions 1 refl (along (append-nil ts) (phr (expression p) (at MoreExpressions 0 refl stop)))
 expressions_to (some (next p j)) = at Expressions 1 refl (phr (expression p) (more_expressions_to j))
 
+-- Types that are declared by name.
+entry_to : (ts : List Token) (c : NormalConnection) (es : List Event) → IsEntry ts c → Node Entry ts (trace_connection c es) es
+unfolding trace_connection trace_value
+entry_to ts c es (valued n e) = at Entry 0 refl (tok (Word n) refl (at EntryValue 1 refl (tok _ refl (phr_last (expression e)))))
+entry_to ts c es (counted n) = at Entry 0 refl (tok (Word n) refl (at EntryValue 0 refl stop))
+
+entries_to : {ts : List Token} {c : List NormalConnection} {es : List Event} → IsList IsEntry (Mark Comma) ts c → Node Entries ts (trace_connections c es) es
+unfolding trace_list
+entries_to empty = at Entries 0 refl stop
+entries_to (full j) = listed what.Connection trace_connection j (at Entries 1 refl
+    (joined_to what.Connection trace_connection entry_to (at MoreEntries 0 refl stop) (λ us fs p. at MoreEntries 1 refl (tok (Mark Comma) refl p)) j))
+
+field_to : {ts : List Token} {d : NormalDeclaration} {es : List Event} → IsField ts d → Node Field ts (trace_declaration d es) es
+field_to (field d) = at Field 0 refl (nod (declaration_to d) (tok _ refl stop))
+
+fields_to : {ts : List Token} {d : List NormalDeclaration} {es : List Event} → IsMany IsField ts d → Node Fields ts (trace_declarations d es) es
+unfolding trace_list
+fields_to no_items = at Fields 0 refl stop
+fields_to (more_items f fs) = at Fields 1 refl (nod (field_to f) (fields_to fs))
+
+base_to : {items : List Item} {ss gs us : List Token} {s : Option Key} {g : List Group} {es fs : List Event} → IsMaybe is_sign ss s → IsMany IsGroup gs g → Spelled items us es fs →
+    Spelled (rule BaseSign ∷ items) (ss ++ (gs ++ us)) (trace_key SignOf s (Makes Unnamed ∷ trace_groups g es)) fs
+unfolding trace_key
+base_to absent g p = nod (at BaseSign 0 refl (at BaseGroups 0 refl (groups_to g))) p
+base_to (present k h) g p = nod (at BaseSign 1 refl (nod (sign_to k _ h) (at BaseGroups 0 refl (groups_to g)))) p
+
+typedef_to : {ts : List Token} {m : NormalMember} {es : List Event} → IsTypedef ts m → Node Typedef ts (trace_member m es) es
+unfolding trace_member trace_base trace_key trace_package trace_type
+typedef_to (enumeration k n h s g e b) =
+    at Typedef 0 refl (tok _ refl (at TypeForm 0 refl (tok _ refl (nod (kind_to k _ h) (base_to s g (tok _ refl (nod (entries_to e) (tok _ refl (tok (Word n) refl (nod (groups_to b) (tok _ refl stop)))))))))))
+typedef_to (structure n d) = at Typedef 0 refl (tok _ refl (at TypeForm 1 refl (tok _ refl (tok _ refl (tok _ refl (nod (fields_to d) (tok _ refl (tok (Word n) refl (tok _ refl stop)))))))))
+
 -- After a word of a parameter, and after the words of an always block.
 parameter_member : {us : List Token} {es fs : List Event} (k : Key) → IsTrue (is_parameter_word k) → Spelled (rule Declaration ∷ (mark Assign ∷ (Phrase Expression ∷ (mark Semicolon ∷ [])))) us es fs → Node Member (Reserved k ∷ us) (Makes (ParameterMember k) ∷ es) fs
 unfolding is_parameter_word
@@ -175,6 +208,7 @@ mutual
   member_to (function d i l b) = at Member 12 refl (tok _ refl (tok _ refl (nod (declaration_to d) (tok _ refl (nod (inputs_to i) (tok _ refl (tok _ refl (nod (locals_to l) (nod (function_body_to b) (tok _ refl stop))))))))))
   member_to (loop {xs = xs} {cs = cs} i p q l m) = at Member 13 refl (tok _ refl (tok _ refl (tok _ refl (along (loop_tokens xs cs _ i) (phr (loop_head i p q) (tok _ refl (nod (label_to l) (loop_members_to m))))))))
   member_to (import_member p) = at Member 14 refl (tok _ refl (tok (Word p) refl (tok _ refl (tok _ refl (tok _ refl stop)))))
+  member_to (typedef_member t) = at Member 15 refl (typedef_to t)
 
   loop_members_to : {ts : List Token} {m : NormalMembers} {es : List Event} → IsMembers EndKey ts m → Node LoopMembers ts (trace_members m es) es
   loop_members_to (closed k) = at LoopMembers 0 refl (tok _ refl stop)
@@ -190,6 +224,7 @@ unfolding trace_item
 item_to (module_item n p q m) = at FileItem 0 refl (tok _ refl (tok (Word n) refl (nod (parameters_to p) (nod (ports_to q) (tok _ refl (module_members_to m))))))
 item_to (include_item p) = at FileItem 1 refl (tok (MacroWord (codes "include")) refl (phr_last (path p)))
 item_to (import_item p) = at FileItem 2 refl (tok _ refl (tok (Word p) refl (tok _ refl (tok _ refl (tok _ refl stop)))))
+item_to (typedef_item t) = at FileItem 3 refl (typedef_to t)
 
 pub items_to : {ts : List Token} {is : List NormalItem} {es : List Event} → IsMany IsItem ts is → Node File ts (trace_items is es) es
 unfolding trace_list

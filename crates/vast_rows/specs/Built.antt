@@ -3,12 +3,12 @@ use Rattle.std.specs.Prelude.{ℕ, List, [], ◌∷◌, Bool, true, false, Optio
 use Rattle.vast_literal.specs.FileGrammar.{assignment}
 use Rattle.vast_literal.specs.NormalExpr.{NormalExpr, NormalExprs, NoNormals, MoreNormals}
 use Rattle.vast_literal.specs.NormalFile as normal
-use Rattle.vast_literal.specs.NormalFile.{NormalStatement, AssignStatement, TaskStatement, ChoiceStatement, CaseStatement, ForStatement, NormalStatements, Done, Then, Arms, Only, Otherwise, Or, Labels, NoLabels, Label, Group, One, Range, NormalDeclaration, EdgeEvent, NameEvent, NormalConnection, NormalMember, DeclarationPart, AssignPart, ParameterPart, MacroPart, ImportPart, InstancePart, AlwaysPart, ConditionalPart, FunctionPart, LoopPart, NormalMembers, NoParts, MoreParts, NormalParameter, NormalPort, NormalItem, ModulePart, IncludePart, FileImportPart, NormalFile}
+use Rattle.vast_literal.specs.NormalFile.{NormalStatement, AssignStatement, TaskStatement, ChoiceStatement, CaseStatement, ForStatement, NormalStatements, Done, Then, Arms, Only, Otherwise, Or, Labels, NoLabels, Label, Group, One, Range, NormalDeclaration, EdgeEvent, NameEvent, NormalConnection, NormalMember, DeclarationPart, AssignPart, ParameterPart, MacroPart, ImportPart, EnumPart, StructPart, InstancePart, AlwaysPart, ConditionalPart, FunctionPart, LoopPart, NormalMembers, NoParts, MoreParts, NormalParameter, NormalPort, NormalItem, ModulePart, IncludePart, FileImportPart, MemberPart, NormalFile}
 use Rattle.vast_rows.specs.Events.{Event, Makes, Reads, Names}
 use Rattle.vast_rows.specs.Numbers.{Key}
 use Rattle.vast_rows.specs.Phrases.{Meaning, IsExpression, IsLoop, IsPath}
 use Rattle.vast_rows.specs.declared.action.Action.{Action}
-use Rattle.vast_rows.specs.declared.action.Action.TheVariants.{Nothing, Yes, No, NoMore, OneMore, ModuleItem, IncludeItem, ImportItem, HeaderParameter, PortOf, DeclarationMember, AssignMember, ParameterMember, ImportMember, MacroMember, InstanceMember, AlwaysMember, ConditionalMember, FunctionMember, LoopMember, KindOf, SignOf, NameBefore, Packaged, Declares, GroupOf, Connects, EdgeOf, ChangeOf, Assigns, AssignsByWord, Chooses, Repeats, UniqueCase, CaseOf, Conditional, NoArms, Arm, DefaultArm}
+use Rattle.vast_rows.specs.declared.action.Action.TheVariants.{Nothing, Yes, No, NoMore, OneMore, ModuleItem, IncludeItem, ImportItem, MemberItem, HeaderParameter, PortOf, DeclarationMember, AssignMember, ParameterMember, ImportMember, EnumMember, StructMember, MacroMember, InstanceMember, AlwaysMember, ConditionalMember, FunctionMember, LoopMember, KindOf, SignOf, NameBefore, Packaged, Declares, Unnamed, GroupOf, Connects, EdgeOf, ChangeOf, Assigns, AssignsByWord, Chooses, Repeats, UniqueCase, CaseOf, Conditional, NoArms, Arm, DefaultArm}
 use Rattle.vast_rows.specs.declared.action.Listed.{Listed}
 use Rattle.vast_rows.specs.declared.action.Listed.TheVariants as listed
 
@@ -216,6 +216,9 @@ with_sign k d = record { kind = d.kind; package_name = d.package_name; type_name
 abbrev pub with_type : (package_name type_name : Option (List ℕ)) → NormalDeclaration → NormalDeclaration
 with_type p t d = record { kind = d.kind; package_name = p; type_name = t; sign = d.sign; groups = d.groups; name = d.name; behind = d.behind }
 
+abbrev pub with_name : (name : List ℕ) → List Group → NormalDeclaration → NormalDeclaration
+with_name n h d = record { kind = d.kind; package_name = d.package_name; type_name = d.type_name; sign = d.sign; groups = d.groups; name = n; behind = h }
+
 abbrev pub declared : List Group → (name : List ℕ) → List Group → NormalDeclaration
 declared g n h = record { kind = None; package_name = None; type_name = None; sign = None; groups = g; name = n; behind = h }
 
@@ -261,6 +264,7 @@ make (OneMore what) vs = make_more what vs
 make ModuleItem vs = of_four as_name as_parameters as_ports as_members (λ n p q m. SeenItem (ModulePart (record { name = n; parameters = p; ports = q; members = m }))) vs
 make IncludeItem vs = of_two as_name as_path (λ macro p. SeenItem (IncludePart p)) vs
 make ImportItem vs = of_one as_name (λ p. SeenItem (FileImportPart p)) vs
+make MemberItem vs = of_one as_member (λ m. SeenItem (MemberPart m)) vs
 make HeaderParameter vs = of_two as_declaration as_expression (λ d x. SeenParameter (record { declaration = d; value = x })) vs
 make (PortOf k) vs = of_one as_declaration (λ d. SeenPort (record { direction = k; declaration = d })) vs
 make DeclarationMember vs = of_one as_declaration (λ d. SeenMember (DeclarationPart d)) vs
@@ -268,6 +272,8 @@ make AssignMember vs = of_two as_expression as_expression (λ l r. SeenMember (A
 make (ParameterMember k) vs = of_two as_declaration as_expression (λ d x. SeenMember (ParameterPart k d x)) vs
 make MacroMember vs = of_three as_name (maybe as_expressions) as_answer (λ m a s. SeenMember (MacroPart m a s)) vs
 make ImportMember vs = of_one as_name (λ p. SeenMember (ImportPart p)) vs
+make EnumMember vs = of_four as_declaration as_connections as_name as_groups (λ d e n h. SeenMember (EnumPart (with_name n h d) e)) vs
+make StructMember vs = of_two as_declarations as_name (λ d n. SeenMember (StructPart n d)) vs
 make InstanceMember vs = of_four as_name as_connections as_name as_connections (λ m p i c. SeenMember (InstancePart m p i c)) vs
 make (AlwaysMember k) vs = of_two as_events as_statements (λ e b. SeenMember (AlwaysPart k e b)) vs
 make ConditionalMember vs = of_one as_arms (λ a. SeenMember (ConditionalPart a)) vs
@@ -278,6 +284,7 @@ make (SignOf k) vs = of_one as_declaration (λ d. SeenDeclaration (with_sign k d
 make NameBefore vs = and_then (first as_name vs) (λ w. name_before w.0 w.1)
 make Packaged vs = of_one as_declaration (λ d. SeenDeclaration (with_type (Some []) d.type_name d)) vs
 make Declares vs = and_then (first as_groups vs) (λ g. name_behind g.0 g.1)
+make Unnamed vs = of_one as_groups (λ g. SeenDeclaration (declared g [] [])) vs
 make GroupOf vs = of_two as_expression (maybe as_expression) (λ x l. SeenGroup (group_of x l)) vs
 make Connects vs = of_two as_name (maybe as_expression) (λ n x. SeenConnection (record { name = n; value = x })) vs
 make (EdgeOf k) vs = of_one as_expression (λ x. SeenEvent (EdgeEvent k x)) vs

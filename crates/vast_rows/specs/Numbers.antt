@@ -5,9 +5,9 @@ pub use Rattle.vast_literal.specs.declared.token.Mark.TheVariants.{OpenParen, Cl
 pub use Rattle.vast_literal.specs.declared.token.Sign.{Sign as Op}
 pub use Rattle.vast_literal.specs.declared.token.Sign.TheVariants.{LogicOr, LogicAnd, BitOr, BitXor, BitAnd, NotEqual, CaseNotEqual, Equal, CaseEqual, GreaterEqual, Greater, LessEqual, Less, ShiftLeft, ShiftRightSigned, ShiftRight, Plus, Minus, Times, Divide, Modulo, Power, BitNot, LogicNot}
 pub use Rattle.vast_literal.specs.declared.token.Key.{Key}
-pub use Rattle.vast_literal.specs.declared.token.Key.TheVariants.{If as IfKey, Else as ElseKey, Case as CaseKey, Casez as CasezKey, Casex as CasexKey, EndCase as EndCaseKey, Default as DefaultKey, Unique as UniqueKey, Begin as BeginKey, End as EndKey, Assign as AssignKey, Wire as WireKey, Reg as RegKey, Logic as LogicKey, Integer as IntegerKey, Int as IntKey, Genvar as GenvarKey, Signed as SignedKey, Unsigned as UnsignedKey, Module as ModuleKey, EndModule as EndModuleKey, Parameter as ParameterKey, Localparam as LocalparamKey, AlwaysComb as AlwaysCombKey, AlwaysFF as AlwaysFFKey, Always as AlwaysKey, Posedge as PosedgeKey, Negedge as NegedgeKey, Or as OrKey, Function as FunctionKey, Automatic as AutomaticKey, EndFunction as EndFunctionKey, Input as InputKey, Output as OutputKey, InOut as InOutKey, For as ForKey, AlwaysLatch as AlwaysLatchKey, Initial as InitialKey, Import as ImportKey}
+pub use Rattle.vast_literal.specs.declared.token.Key.TheVariants.{If as IfKey, Else as ElseKey, Case as CaseKey, Casez as CasezKey, Casex as CasexKey, EndCase as EndCaseKey, Default as DefaultKey, Unique as UniqueKey, Begin as BeginKey, End as EndKey, Assign as AssignKey, Wire as WireKey, Reg as RegKey, Logic as LogicKey, Integer as IntegerKey, Int as IntKey, Genvar as GenvarKey, Signed as SignedKey, Unsigned as UnsignedKey, Module as ModuleKey, EndModule as EndModuleKey, Parameter as ParameterKey, Localparam as LocalparamKey, AlwaysComb as AlwaysCombKey, AlwaysFF as AlwaysFFKey, Always as AlwaysKey, Posedge as PosedgeKey, Negedge as NegedgeKey, Or as OrKey, Function as FunctionKey, Automatic as AutomaticKey, EndFunction as EndFunctionKey, Input as InputKey, Output as OutputKey, InOut as InOutKey, For as ForKey, AlwaysLatch as AlwaysLatchKey, Initial as InitialKey, Import as ImportKey, Typedef as TypedefKey, Enum as EnumKey, Struct as StructKey, Packed as PackedKey}
 use Rattle.vast_rows.specs.declared.rule.Rule.{Rule}
-use Rattle.vast_rows.specs.declared.rule.Rule.TheVariants.{File, FileItem, Parameters, MoreParameters, Parameter, Ports, MorePorts, Port, Direction, ModuleMembers, LoopMembers, Declaration, KindWord, Declarator, SignWord, AfterWord, OwnType, SignedName, GroupedName, AfterGroups, FirstGroups, Groups, BracketGroup, GroupEnd, Member, NetKind, NoWait, Awaited, AnyMacro, MacroArguments, Expressions, MoreExpressions, LastSemicolon, GivenList, Given, MoreGiven, Connections, Connection, Connected, MoreConnections, Events, OneEvent, MoreEvents, Inputs, Input, MoreInputs, Locals, Local, LocalKind, FunctionBody, LoneCase, NoEnd, LoopLabel, Statements, Statement, AfterTarget, Assignment, Arrow, Choice, Else, Branch, Unique, CaseKind, CaseArms, BareArms, ArmBody}
+use Rattle.vast_rows.specs.declared.rule.Rule.TheVariants.{File, FileItem, Parameters, MoreParameters, Parameter, Ports, MorePorts, Port, Direction, ModuleMembers, LoopMembers, Declaration, KindWord, Declarator, SignWord, AfterWord, OwnType, SignedName, GroupedName, AfterGroups, FirstGroups, Groups, BracketGroup, GroupEnd, Member, NetKind, NoWait, Awaited, AnyMacro, MacroArguments, Expressions, MoreExpressions, LastSemicolon, GivenList, Given, MoreGiven, Connections, Connection, Connected, MoreConnections, Events, OneEvent, MoreEvents, Inputs, Input, MoreInputs, Locals, Local, LocalKind, FunctionBody, LoneCase, NoEnd, LoopLabel, Typedef, TypeForm, BaseSign, BaseGroups, Entries, Entry, EntryValue, MoreEntries, Fields, Field, Statements, Statement, AfterTarget, Assignment, Arrow, Choice, Else, Branch, Unique, CaseKind, CaseArms, BareArms, ArmBody}
 
 abbrev pub mark_number : Punct → ℕ
 mark_number OpenParen = 0
@@ -94,6 +94,10 @@ key_number ForKey = 35
 key_number AlwaysLatchKey = 36
 key_number InitialKey = 37
 key_number ImportKey = 38
+key_number TypedefKey = 39
+key_number EnumKey = 40
+key_number StructKey = 41
+key_number PackedKey = 42
 
 abbrev pub rule_number : Rule → ℕ
 rule_number File = 0
@@ -149,16 +153,26 @@ rule_number FunctionBody = 49
 rule_number LoneCase = 50
 rule_number NoEnd = 51
 rule_number LoopLabel = 52
-rule_number Statements = 53
-rule_number Statement = 54
-rule_number AfterTarget = 55
-rule_number Assignment = 56
-rule_number Arrow = 57
-rule_number Choice = 58
-rule_number Else = 59
-rule_number Branch = 60
-rule_number Unique = 61
-rule_number CaseKind = 62
-rule_number CaseArms = 63
-rule_number BareArms = 64
-rule_number ArmBody = 65
+rule_number Typedef = 53
+rule_number TypeForm = 54
+rule_number BaseSign = 55
+rule_number BaseGroups = 56
+rule_number Entries = 57
+rule_number Entry = 58
+rule_number EntryValue = 59
+rule_number MoreEntries = 60
+rule_number Fields = 61
+rule_number Field = 62
+rule_number Statements = 63
+rule_number Statement = 64
+rule_number AfterTarget = 65
+rule_number Assignment = 66
+rule_number Arrow = 67
+rule_number Choice = 68
+rule_number Else = 69
+rule_number Branch = 70
+rule_number Unique = 71
+rule_number CaseKind = 72
+rule_number CaseArms = 73
+rule_number BareArms = 74
+rule_number ArmBody = 75

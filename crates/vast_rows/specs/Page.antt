@@ -3,17 +3,17 @@
 -- out, a sign or a kind before a declaration, and its names, act on what follows them.
 -- `tools/rows` reads this page and writes the flat table of it, with what the check of the table wants to know.
 use Rattle.std.specs.Prelude.{List, [], ◌∷◌}
-use Rattle.vast_rows.specs.Numbers.{LessEqual, Times, IfKey, ElseKey, CaseKey, CasezKey, CasexKey, EndCaseKey, DefaultKey, UniqueKey, BeginKey, EndKey, AssignKey, WireKey, RegKey, LogicKey, IntegerKey, IntKey, GenvarKey, SignedKey, UnsignedKey, ModuleKey, EndModuleKey, ParameterKey, LocalparamKey, AlwaysCombKey, AlwaysFFKey, AlwaysKey, PosedgeKey, NegedgeKey, OrKey, FunctionKey, AutomaticKey, EndFunctionKey, InputKey, OutputKey, InOutKey, ForKey, AlwaysLatchKey, InitialKey, ImportKey}
-use Rattle.vast_rows.specs.Numbers.{OpenParen, CloseParen, OpenBracket, CloseBracket, Comma, Colon, Semicolon, Dot, Hash, At, DoubleColon, Assign}
+use Rattle.vast_rows.specs.Numbers.{LessEqual, Times, IfKey, ElseKey, CaseKey, CasezKey, CasexKey, EndCaseKey, DefaultKey, UniqueKey, BeginKey, EndKey, AssignKey, WireKey, RegKey, LogicKey, IntegerKey, IntKey, GenvarKey, SignedKey, UnsignedKey, ModuleKey, EndModuleKey, ParameterKey, LocalparamKey, AlwaysCombKey, AlwaysFFKey, AlwaysKey, PosedgeKey, NegedgeKey, OrKey, FunctionKey, AutomaticKey, EndFunctionKey, InputKey, OutputKey, InOutKey, ForKey, AlwaysLatchKey, InitialKey, ImportKey, TypedefKey, EnumKey, StructKey, PackedKey}
+use Rattle.vast_rows.specs.Numbers.{OpenParen, CloseParen, OpenBracket, CloseBracket, OpenBrace, CloseBrace, Comma, Colon, Semicolon, Dot, Hash, At, DoubleColon, Assign}
 use Rattle.vast_literal.specs.declared.kind.AlwaysKind.TheVariants.{AlwaysFF as AlwaysFFWord, AlwaysAt as AlwaysAtWord, AlwaysComb as AlwaysCombWord, AlwaysStar as AlwaysStarWord, AlwaysLatch as AlwaysLatchWord, Initial as InitialWord}
 use Rattle.vast_rows.specs.declared.grammar.Item.{Item}
 use Rattle.vast_rows.specs.declared.grammar.Item.TheVariants.{Phrase}
 use Rattle.vast_rows.specs.declared.grammar.Phrase.TheVariants.{Expression, Target, LoopHead, Path}
 use Rattle.vast_rows.specs.Rows.{Row}
 use Rattle.vast_rows.specs.Symbols.{key, mark, op, word, macro_word, include_word, rule, ◌⟶◌, ◌⟹◌}
-use Rattle.vast_rows.specs.declared.action.Action.TheVariants.{Nothing, Yes, No, NoMore, OneMore, ModuleItem, IncludeItem, ImportItem, HeaderParameter, PortOf, DeclarationMember, AssignMember, ParameterMember, ImportMember, MacroMember, InstanceMember, AlwaysMember, ConditionalMember, FunctionMember, LoopMember, KindOf, SignOf, NameBefore, Packaged, Declares, GroupOf, Connects, EdgeOf, ChangeOf, Assigns, AssignsByWord, Chooses, Repeats, UniqueCase, CaseOf, Conditional, NoArms, Arm, DefaultArm}
+use Rattle.vast_rows.specs.declared.action.Action.TheVariants.{Nothing, Yes, No, NoMore, OneMore, ModuleItem, IncludeItem, ImportItem, MemberItem, HeaderParameter, PortOf, DeclarationMember, AssignMember, ParameterMember, ImportMember, EnumMember, StructMember, MacroMember, InstanceMember, AlwaysMember, ConditionalMember, FunctionMember, LoopMember, KindOf, SignOf, NameBefore, Packaged, Declares, Unnamed, GroupOf, Connects, EdgeOf, ChangeOf, Assigns, AssignsByWord, Chooses, Repeats, UniqueCase, CaseOf, Conditional, NoArms, Arm, DefaultArm}
 use Rattle.vast_rows.specs.declared.action.Listed.TheVariants as listed
-use Rattle.vast_rows.specs.declared.rule.Rule.TheVariants.{File, FileItem, Parameters, MoreParameters, Parameter, Ports, MorePorts, Port, Direction, ModuleMembers, LoopMembers, Declaration, KindWord, Declarator, SignWord, AfterWord, OwnType, SignedName, GroupedName, AfterGroups, FirstGroups, Groups, BracketGroup, GroupEnd, Member, NetKind, NoWait, Awaited, AnyMacro, MacroArguments, Expressions, MoreExpressions, LastSemicolon, GivenList, Given, MoreGiven, Connections, Connection, Connected, MoreConnections, Events, OneEvent, MoreEvents, Inputs, Input, MoreInputs, Locals, Local, LocalKind, FunctionBody, LoneCase, NoEnd, LoopLabel, Statements, Statement, AfterTarget, Assignment, Arrow, Choice, Else, Branch, Unique, CaseKind, CaseArms, BareArms, ArmBody}
+use Rattle.vast_rows.specs.declared.rule.Rule.TheVariants.{File, FileItem, Parameters, MoreParameters, Parameter, Ports, MorePorts, Port, Direction, ModuleMembers, LoopMembers, Declaration, KindWord, Declarator, SignWord, AfterWord, OwnType, SignedName, GroupedName, AfterGroups, FirstGroups, Groups, BracketGroup, GroupEnd, Member, NetKind, NoWait, Awaited, AnyMacro, MacroArguments, Expressions, MoreExpressions, LastSemicolon, GivenList, Given, MoreGiven, Connections, Connection, Connected, MoreConnections, Events, OneEvent, MoreEvents, Inputs, Input, MoreInputs, Locals, Local, LocalKind, FunctionBody, LoneCase, NoEnd, LoopLabel, Typedef, TypeForm, BaseSign, BaseGroups, Entries, Entry, EntryValue, MoreEntries, Fields, Field, Statements, Statement, AfterTarget, Assignment, Arrow, Choice, Else, Branch, Unique, CaseKind, CaseArms, BareArms, ArmBody}
 
 -- An expression, and what a value is assigned to.
 abbrev X : Item
@@ -30,6 +30,7 @@ page =
     ∷ (FileItem ⟶ key ModuleKey ∷ word ∷ rule Parameters ∷ rule Ports ∷ mark Semicolon ∷ rule ModuleMembers ∷ [] ⟹ ModuleItem)
     ∷ (FileItem ⟶ include_word ∷ Phrase Path ∷ [] ⟹ IncludeItem)
     ∷ (FileItem ⟶ key ImportKey ∷ word ∷ mark DoubleColon ∷ op Times ∷ mark Semicolon ∷ [] ⟹ ImportItem)
+    ∷ (FileItem ⟶ rule Typedef ∷ [] ⟹ MemberItem)
     ∷ (Parameters ⟶ [] ⟹ NoMore listed.Parameter)
     ∷ (Parameters ⟶ mark Hash ∷ mark OpenParen ∷ rule Parameter ∷ rule MoreParameters ∷ mark CloseParen ∷ [] ⟹ OneMore listed.Parameter)
     ∷ (MoreParameters ⟶ [] ⟹ NoMore listed.Parameter)
@@ -92,6 +93,7 @@ page =
     ∷ (Member ⟶ key FunctionKey ∷ key AutomaticKey ∷ rule Declaration ∷ mark OpenParen ∷ rule Inputs ∷ mark CloseParen ∷ mark Semicolon ∷ rule Locals ∷ rule FunctionBody ∷ key EndFunctionKey ∷ [] ⟹ FunctionMember)
     ∷ (Member ⟶ key ForKey ∷ mark OpenParen ∷ key GenvarKey ∷ Phrase LoopHead ∷ key BeginKey ∷ rule LoopLabel ∷ rule LoopMembers ∷ [] ⟹ LoopMember)
     ∷ (Member ⟶ key ImportKey ∷ word ∷ mark DoubleColon ∷ op Times ∷ mark Semicolon ∷ [] ⟹ ImportMember)
+    ∷ (Member ⟶ rule Typedef ∷ [])
     ∷ (NetKind ⟶ key WireKey ∷ [] ⟹ KindOf WireKey)
     ∷ (NetKind ⟶ key RegKey ∷ [] ⟹ KindOf RegKey)
     ∷ (NetKind ⟶ key LogicKey ∷ [] ⟹ KindOf LogicKey)
@@ -143,6 +145,23 @@ page =
     ∷ (NoEnd ⟶ [] ⟹ NoMore listed.Statement)
     ∷ (LoopLabel ⟶ [] ⟹ Nothing)
     ∷ (LoopLabel ⟶ mark Colon ∷ word ∷ [])
+    -- types that are declared by name, by members and in files
+    ∷ (Typedef ⟶ key TypedefKey ∷ rule TypeForm ∷ [])
+    ∷ (TypeForm ⟶ key EnumKey ∷ rule KindWord ∷ rule BaseSign ∷ mark OpenBrace ∷ rule Entries ∷ mark CloseBrace ∷ word ∷ rule Groups ∷ mark Semicolon ∷ [] ⟹ EnumMember)
+    ∷ (TypeForm ⟶ key StructKey ∷ key PackedKey ∷ mark OpenBrace ∷ rule Fields ∷ mark CloseBrace ∷ word ∷ mark Semicolon ∷ [] ⟹ StructMember)
+    ∷ (BaseSign ⟶ rule BaseGroups ∷ [])
+    ∷ (BaseSign ⟶ rule SignWord ∷ rule BaseGroups ∷ [])
+    ∷ (BaseGroups ⟶ rule Groups ∷ [] ⟹ Unnamed)
+    ∷ (Entries ⟶ [] ⟹ NoMore listed.Connection)
+    ∷ (Entries ⟶ rule Entry ∷ rule MoreEntries ∷ [] ⟹ OneMore listed.Connection)
+    ∷ (Entry ⟶ word ∷ rule EntryValue ∷ [] ⟹ Connects)
+    ∷ (EntryValue ⟶ [] ⟹ Nothing)
+    ∷ (EntryValue ⟶ mark Assign ∷ X ∷ [])
+    ∷ (MoreEntries ⟶ [] ⟹ NoMore listed.Connection)
+    ∷ (MoreEntries ⟶ mark Comma ∷ rule Entry ∷ rule MoreEntries ∷ [] ⟹ OneMore listed.Connection)
+    ∷ (Fields ⟶ [] ⟹ NoMore listed.Declaration)
+    ∷ (Fields ⟶ rule Field ∷ rule Fields ∷ [] ⟹ OneMore listed.Declaration)
+    ∷ (Field ⟶ rule Declaration ∷ mark Semicolon ∷ [])
     -- statements
     ∷ (Statements ⟶ key EndKey ∷ [] ⟹ NoMore listed.Statement)
     ∷ (Statements ⟶ rule Statement ∷ rule Statements ∷ [] ⟹ OneMore listed.Statement)

@@ -2,12 +2,12 @@
 use Rattle.std.specs.Prelude.{ℕ, List, [], ◌∷◌, Bool, true, false, codes, Option, Some, None, if◌then◌else◌}
 use Rattle.vast_literal.specs.NormalExpr.{NormalExpr, NormalExprs, NoNormals, MoreNormals}
 use Rattle.vast_literal.specs.NormalFile as normal
-use Rattle.vast_literal.specs.NormalFile.{NormalStatement, BlockingStatement, NonblockingStatement, AssignStatement, TaskStatement, ChoiceStatement, CaseStatement, ForStatement, NormalStatements, Done, Then, Arms, Only, Otherwise, Or, Labels, NoLabels, Label, Group, One, Range, NormalDeclaration, EdgeEvent, NameEvent, NormalConnection, NormalMember, DeclarationPart, AssignPart, ParameterPart, MacroPart, ImportPart, InstancePart, AlwaysPart, ConditionalPart, FunctionPart, LoopPart, NormalMembers, NoParts, MoreParts, NormalParameter, NormalPort, NormalItem, ModulePart, IncludePart, FileImportPart, NormalFile}
+use Rattle.vast_literal.specs.NormalFile.{NormalStatement, BlockingStatement, NonblockingStatement, AssignStatement, TaskStatement, ChoiceStatement, CaseStatement, ForStatement, NormalStatements, Done, Then, Arms, Only, Otherwise, Or, Labels, NoLabels, Label, Group, One, Range, NormalDeclaration, EdgeEvent, NameEvent, NormalConnection, NormalMember, DeclarationPart, AssignPart, ParameterPart, MacroPart, ImportPart, EnumPart, StructPart, InstancePart, AlwaysPart, ConditionalPart, FunctionPart, LoopPart, NormalMembers, NoParts, MoreParts, NormalParameter, NormalPort, NormalItem, ModulePart, IncludePart, FileImportPart, MemberPart, NormalFile}
 use Rattle.vast_rows.specs.Events.{Event, Makes, Reads, Names}
 use Rattle.vast_rows.specs.Numbers.{Key}
 use Rattle.vast_rows.specs.Phrases.{IsExpression, IsLoop, IsPath}
 use Rattle.vast_rows.specs.declared.action.Action.{Action}
-use Rattle.vast_rows.specs.declared.action.Action.TheVariants.{Nothing, Yes, No, NoMore, OneMore, ModuleItem, IncludeItem, ImportItem, HeaderParameter, PortOf, DeclarationMember, AssignMember, ParameterMember, ImportMember, MacroMember, InstanceMember, AlwaysMember, ConditionalMember, FunctionMember, LoopMember, KindOf, SignOf, NameBefore, Packaged, Declares, GroupOf, Connects, EdgeOf, ChangeOf, Assigns, AssignsByWord, Chooses, Repeats, UniqueCase, CaseOf, Conditional, NoArms, Arm, DefaultArm}
+use Rattle.vast_rows.specs.declared.action.Action.TheVariants.{Nothing, Yes, No, NoMore, OneMore, ModuleItem, IncludeItem, ImportItem, MemberItem, HeaderParameter, PortOf, DeclarationMember, AssignMember, ParameterMember, ImportMember, EnumMember, StructMember, MacroMember, InstanceMember, AlwaysMember, ConditionalMember, FunctionMember, LoopMember, KindOf, SignOf, NameBefore, Packaged, Declares, Unnamed, GroupOf, Connects, EdgeOf, ChangeOf, Assigns, AssignsByWord, Chooses, Repeats, UniqueCase, CaseOf, Conditional, NoArms, Arm, DefaultArm}
 use Rattle.vast_rows.specs.declared.action.Listed.{Listed}
 use Rattle.vast_rows.specs.declared.action.Listed.TheVariants as listed
 
@@ -113,6 +113,10 @@ unfoldable pub trace_label : Option (List ℕ) → List Event → List Event
 trace_label None es = Makes Nothing ∷ es
 trace_label (Some w) es = Names w ∷ es
 
+-- What stands before the entries of an enumeration: its declaration, whose name comes after them.
+unfoldable pub trace_base : NormalDeclaration → List Event → List Event
+trace_base d es = trace_key KindOf d.kind (trace_package d.package_name (trace_type d.type_name (trace_key SignOf d.sign (Makes Unnamed ∷ trace_groups d.groups es))))
+
 unfoldable mutual
   pub trace_member : NormalMember → List Event → List Event
   trace_member (DeclarationPart d) es = Makes DeclarationMember ∷ trace_declaration d es
@@ -120,6 +124,8 @@ unfoldable mutual
   trace_member (ParameterPart k d x) es = Makes (ParameterMember k) ∷ trace_declaration d (read x ∷ es)
   trace_member (MacroPart m a s) es = Makes MacroMember ∷ Names m ∷ trace_arguments a (answer s ∷ es)
   trace_member (ImportPart p) es = Makes ImportMember ∷ Names p ∷ es
+  trace_member (EnumPart d e) es = Makes EnumMember ∷ trace_base d (trace_connections e (Names d.name ∷ trace_groups d.behind es))
+  trace_member (StructPart n d) es = Makes StructMember ∷ trace_declarations d (Names n ∷ es)
   trace_member (InstancePart m p i c) es = Makes InstanceMember ∷ Names m ∷ trace_connections p (Names i ∷ trace_connections c es)
   trace_member (AlwaysPart k e b) es = Makes (AlwaysMember k) ∷ trace_events e (trace_statements b es)
   trace_member (ConditionalPart a) es = Makes ConditionalMember ∷ trace_arms a es
@@ -149,6 +155,7 @@ unfoldable pub trace_item : NormalItem → List Event → List Event
 trace_item (ModulePart m) es = Makes ModuleItem ∷ Names m.name ∷ trace_parameters m.parameters (trace_ports m.ports (trace_members m.members es))
 trace_item (IncludePart path) es = Makes IncludeItem ∷ Names (codes "include") ∷ Reads (IsPath path) ∷ es
 trace_item (FileImportPart p) es = Makes ImportItem ∷ Names p ∷ es
+trace_item (MemberPart m) es = Makes MemberItem ∷ trace_member m es
 
 abbrev pub trace_items : List NormalItem → List Event → List Event
 trace_items = trace_list listed.Item trace_item

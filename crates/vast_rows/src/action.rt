@@ -49,6 +49,8 @@ pub enum Action {
     IncludeItem,
     /// The import of a package by its name, as an item of a file.
     ImportItem,
+    /// An item of a member.
+    MemberItem,
     /// A parameter of a header, of its declaration and value.
     HeaderParameter,
     /// A port of that direction, of its declaration.
@@ -61,6 +63,10 @@ pub enum Action {
     ParameterMember(Key),
     /// The import of a package by its name, as a member.
     ImportMember,
+    /// An enumeration of its type, its entries, its name and the groups after that.
+    EnumMember,
+    /// A packed structure of its fields and its name.
+    StructMember,
     /// A macro of its name, its arguments where it has any, and whether there is a semicolon.
     MacroMember,
     /// An instance of its module's name, what is given to parameters, its name, and its ports.
@@ -85,6 +91,8 @@ pub enum Action {
     /// A declaration of its groups, its name and the groups after that; groups alone where no name
     /// follows.
     Declares,
+    /// A declaration of its groups, whose name is still to come.
+    Unnamed,
     /// A group of one expression or of two.
     GroupOf,
     /// A connection of its name, and of its value where it has one.
@@ -151,15 +159,19 @@ impl Action {
             Action::ImportItem => 27,
             Action::ImportMember => 28,
             Action::Repeats => 29,
+            Action::MemberItem => 29,
+            Action::EnumMember => 30,
+            Action::StructMember => 31,
+            Action::Unnamed => 32,
             Action::NoMore(what) => 40 + what as u16,
             Action::OneMore(what) => 50 + what as u16,
             Action::PortOf(key) => 60 + key as u16,
-            Action::ParameterMember(key) => 100 + key as u16,
-            Action::AlwaysMember(kind) => 140 + kind as u16,
-            Action::KindOf(key) => 180 + key as u16,
-            Action::SignOf(key) => 220 + key as u16,
-            Action::EdgeOf(key) => 260 + key as u16,
-            Action::CaseOf(key) => 300 + key as u16,
+            Action::ParameterMember(key) => 120 + key as u16,
+            Action::AlwaysMember(kind) => 180 + kind as u16,
+            Action::KindOf(key) => 200 + key as u16,
+            Action::SignOf(key) => 260 + key as u16,
+            Action::EdgeOf(key) => 320 + key as u16,
+            Action::CaseOf(key) => 380 + key as u16,
         }
     }
 

@@ -81,6 +81,15 @@ unfoldable pub many_and_open : {A : Type 0} → Kind A → Bench → List Answer
 many_and_open k b answers ns ms =
     and_then (all_found k answers ns) (λ xs. and_then (all_found_if k answers ms) (λ ys. if_own (list_all (k.is_own b) xs && list_all (is_own_if k b) ys) (xs, ys)))
 
+-- One argument, and two, with a list of arguments that may be left out.
+unfoldable pub one_and_open : {A B : Type 0} → Kind A → Kind B → Bench → List Answer → ℕ → List (Option ℕ) → Result (A × List (Option B)) Cause
+one_and_open j k b answers n ms = and_then (found j answers n) (λ x. and_then (all_found_if k answers ms) (λ ys. if_own (j.is_own b x && list_all (is_own_if k b) ys) (x, ys)))
+
+unfoldable pub two_and_open : {A B C : Type 0} → Kind A → Kind B → Kind C → Bench → List Answer → ℕ → ℕ → List (Option ℕ) → Result ((A × B) × List (Option C)) Cause
+two_and_open i j k b answers n m os =
+    and_then (found i answers n) (λ x. and_then (found j answers m) (λ y. and_then (all_found_if k answers os) (λ zs.
+    if_own (i.is_own b x && (j.is_own b y && list_all (is_own_if k b) zs)) ((x, y), zs))))
+
 -- Calls over handles of these kinds: they are looked for, and the call goes on with them.
 
 -- A call over a handle of this kind: it is looked up, and the call goes on with it.
@@ -103,3 +112,9 @@ takes_one_and_many j k n ms next b answers = given (one_and_many j k b answers n
 
 abbrev pub takes_many_and_open : {A : Type 0} → Kind A → List ℕ → List (Option ℕ) → (List A → List (Option A) → Bench → Outcome) → Call
 takes_many_and_open k ns ms next b answers = given (many_and_open k b answers ns ms) (λ (xs, ys). next xs ys b)
+
+abbrev pub takes_one_and_open : {A B : Type 0} → Kind A → Kind B → ℕ → List (Option ℕ) → (A → List (Option B) → Bench → Outcome) → Call
+takes_one_and_open j k n ms next b answers = given (one_and_open j k b answers n ms) (λ (x, ys). next x ys b)
+
+abbrev pub takes_two_and_open : {A B C : Type 0} → Kind A → Kind B → Kind C → (n m : ℕ) → List (Option ℕ) → (A → B → List (Option C) → Bench → Outcome) → Call
+takes_two_and_open i j k n m os next b answers = given (two_and_open i j k b answers n m os) (λ p. next p.0.0 p.0.1 p.1 b)

@@ -5,6 +5,7 @@ pub mod Conditions
 pub mod Operators
 pub mod Types
 pub mod Expressions
+pub mod Typedefs
 pub mod Modules
 pub mod Artifacts
 pub mod Statements

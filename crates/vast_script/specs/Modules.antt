@@ -1,5 +1,5 @@
 -- What becomes of a call of the file's items, and of modules with their ports, declarations and parameters.
-use Rattle.std.specs.Prelude.{ℕ, nat_le, true, false, List, length, Some, None, codes, string_bytes}
+use Rattle.std.specs.Prelude.{ℕ, nat_le, true, false, List, length, map, Some, None, codes, string_bytes}
 use Rattle.vast_literal.specs.declared.kind.ModulePortDirection.{ModulePortDirection}
 use Rattle.vast_literal.specs.declared.kind.ModulePortDirection.TheVariants.{Input, Output, InOut}
 use Rattle.vast_literal.specs.declared.kind.DataKind.{DataKind}
@@ -18,10 +18,11 @@ use Rattle.xlsynth_vast.specs.Declarations.{names_in, unless_taken}
 use Rattle.xlsynth_vast.specs.Inspections.{members_in}
 use Rattle.vast_script.specs.declared.answer.Answer.TheVariants.{VastModule, LogicRef, ParameterRef, LocalparamRef, Nothing}
 use Rattle.vast_script.specs.declared.step.ModuleStep.{ModuleStep}
-use Rattle.vast_script.specs.declared.step.ModuleStep.TheVariants.{AddInclude, AddBlankLine, AddCommentText, AddModule, AddInput, AddOutput, AddInout, AddLogicInput, AddLogicOutput, AddWire, AddReg, AddLogic, AddParameterPort, AddTypedParameterPort, AddParameter, AddParameterWithDef, AddLocalparam, AddIntLocalparam, AddTypedLocalparam, HoistModuleDeclarations, AddImport, AddFileImport}
+use Rattle.vast_script.specs.declared.step.ModuleStep.TheVariants.{AddInclude, AddBlankLine, AddCommentText, AddModule, AddInput, AddOutput, AddInout, AddLogicInput, AddLogicOutput, AddWire, AddReg, AddLogic, AddParameterPort, AddTypedParameterPort, AddParameter, AddParameterWithDef, AddLocalparam, AddIntLocalparam, AddTypedLocalparam, HoistModuleDeclarations, AddImport, AddFileImport, AddEnumTypedef, AddStructTypedef, AddFileEnumTypedef, AddFileStructTypedef}
 use Rattle.vast_script.specs.Outcome.{Call, Made, provided, allowed, makes}
 use Rattle.vast_script.specs.Kinds.{a_module, a_type, an_expr, a_definition, a_blank_line}
 use Rattle.vast_script.specs.Arguments.{takes_one, takes_two, takes_three}
+use Rattle.vast_script.specs.Typedefs.{add_enum_typedef, add_struct_typedef, add_file_enum_typedef, add_file_struct_typedef}
 
 abbrev pub add_item : FileItem → Call
 add_item entry b answers = Made Nothing (with_item entry b)
@@ -47,6 +48,10 @@ abbrev pub module_call : ModuleStep → Call
 module_call (AddInclude path) = add_item (IncludeEntry (string_bytes path))
 module_call (AddImport owner package_name) = takes_one a_module owner (λ owner b. Made Nothing (with_member owner (ImportEntry (string_bytes package_name)) b))
 module_call (AddFileImport package_name) = add_item (FileImportEntry (string_bytes package_name))
+module_call (AddEnumTypedef owner name type names values) = add_enum_typedef owner (string_bytes name) type (map string_bytes names.items) values.items
+module_call (AddStructTypedef owner name fields) = add_struct_typedef owner (string_bytes name) fields.items
+module_call (AddFileEnumTypedef name type names values) = add_file_enum_typedef (string_bytes name) type (map string_bytes names.items) values.items
+module_call (AddFileStructTypedef name fields) = add_file_struct_typedef (string_bytes name) fields.items
 module_call (AddBlankLine blank) = takes_one a_blank_line blank (λ blank b. Made Nothing (with_item FileBlankEntry b))
 module_call (AddCommentText text) = add_item (FileCommentEntry (string_bytes text))
 module_call (AddModule name) = add_module (string_bytes name)

@@ -23,6 +23,7 @@ mod operators;
 mod script;
 mod statements;
 mod step;
+mod typedefs;
 mod types;
 
 pub use answer::Answer;

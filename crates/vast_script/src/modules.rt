@@ -11,6 +11,9 @@ use crate::answers::{localparam, logic_ref, module, nothing, parameter, refusabl
 use crate::arguments::{one, three, two};
 use crate::fault::StepFault;
 use crate::step::ModuleStep;
+use crate::typedefs::{
+    add_enum_typedef, add_file_enum_typedef, add_file_struct_typedef, add_struct_typedef,
+};
 use xlsynth_vast::{BlankLine, Def, Expr, VastDataType, VastFile, VastModule};
 
 fn add_input(
@@ -145,6 +148,18 @@ pub(crate) fn replay_module(
             nothing(file.add_import(owner, package))
         }
         ModuleStep::AddFileImport(package) => nothing(file.add_file_import(package)),
+        ModuleStep::AddEnumTypedef(owner, name, base, names, values) => {
+            add_enum_typedef(file, answers, *owner, name, *base, names, values)
+        }
+        ModuleStep::AddStructTypedef(owner, name, fields) => {
+            add_struct_typedef(file, answers, *owner, name, fields)
+        }
+        ModuleStep::AddFileEnumTypedef(name, base, names, values) => {
+            add_file_enum_typedef(file, answers, name, *base, names, values)
+        }
+        ModuleStep::AddFileStructTypedef(name, fields) => {
+            add_file_struct_typedef(file, answers, name, fields)
+        }
         ModuleStep::AddBlankLine(blank) => {
             let blank: BlankLine = one(file, answers, *blank)?;
             nothing(file.add_blank_line(blank))

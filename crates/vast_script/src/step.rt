@@ -131,6 +131,10 @@ pub enum ModuleStep {
     HoistModuleDeclarations(usize, usize),
     AddImport(usize, String),
     AddFileImport(String),
+    AddEnumTypedef(usize, String, usize, Vec<String>, Vec<Option<usize>>),
+    AddStructTypedef(usize, String, Vec<usize>),
+    AddFileEnumTypedef(String, usize, Vec<String>, Vec<Option<usize>>),
+    AddFileStructTypedef(String, Vec<usize>),
 }
 
 /// Calls of generate loops and their members.

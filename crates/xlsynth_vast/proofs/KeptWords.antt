@@ -16,7 +16,7 @@ use Rattle.vast_literal.specs.declared.kind.ModulePortDirection.{ModulePortDirec
 use Rattle.vast_literal.specs.declared.kind.DataKind.{DataKind}
 use Rattle.vast_literal.specs.declared.kind.AlwaysKind.{AlwaysKind}
 use Rattle.vast_literal.specs.declared.kind.CaseKind.{CaseKind}
-use Rattle.vast_core.specs.Records.{InstanceRecord, new_module}
+use Rattle.vast_core.specs.Records.{InstanceRecord, DeclaredType, new_module}
 use Rattle.vast_core.specs.declared.node.FileItem.{FileItem}
 use Rattle.vast_core.specs.declared.node.FileItem.TheVariants.{Module as ModuleEntry}
 use Rattle.vast_core.specs.declared.node.Artifact.{Artifact}
@@ -28,7 +28,7 @@ use Rattle.vast_core.specs.declared.node.Statement.{Statement}
 use Rattle.vast_core.specs.declared.node.Statement.TheVariants.{For as ForStatement}
 use Rattle.vast_core.specs.declared.node.FunctionVariable.{FunctionVariable}
 use Rattle.vast_core.specs.Bench.{Bench}
-use Rattle.vast_core.specs.Growth.{with_item, next_module, with_module, with_port, with_declaration, with_member, with_assignment, with_fixed_index, with_fixed_slice, with_fixed_replication}
+use Rattle.vast_core.specs.Growth.{with_item, next_module, with_module, with_port, with_declaration, with_member, with_typedef, with_file_typedef, with_assignment, with_fixed_index, with_fixed_slice, with_fixed_replication}
 use Rattle.vast_core.specs.Artifacts.{with_artifact, with_definition, with_instance}
 use Rattle.vast_core.specs.Parameters.{with_parameter_port}
 use Rattle.vast_core.specs.Hoisting.{with_hoisted}
@@ -75,6 +75,12 @@ member-kept owner entry b = keeps-changed b owner.id.index _
 
 pub declaration-kept : (owner : VastModule) (kind : DataKind) (name : List ℕ) (type : VastDataType) (b : Bench) → Keeps b (with_declaration owner kind name type b)
 declaration-kept owner kind name type b = keeps-then b _ _ (keeps-changed b owner.id.index _) (keeps-root _ _)
+
+pub typedef-kept : (owner : VastModule) (t : DeclaredType) (b : Bench) → Keeps b (with_typedef owner t b)
+typedef-kept owner t b = keeps-then b _ _ (keeps-root b _) (keeps-changed _ owner.id.index _)
+
+pub file_typedef-kept : (t : DeclaredType) (b : Bench) → Keeps b (with_file_typedef t b)
+file_typedef-kept t b = keeps-then b _ _ (keeps-root b _) (item-kept _ _)
 
 pub parameter_port-kept : (owner : VastModule) (name : List ℕ) (type : Option VastDataType) (value : Expr) (b : Bench) → Keeps b (with_parameter_port owner name type value b)
 parameter_port-kept owner name type value b = keeps-then b _ _ (keeps-changed b owner.id.index _) (keeps-root _ _)

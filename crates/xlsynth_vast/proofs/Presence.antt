@@ -1,28 +1,29 @@
 -- Nothing is missing from a file's tree.
 use Rattle.std.proofs.Common.{◌≡◌, ◌<◌, ℕ, suc, IsTrue, nat_lt, List, [], ◌∷◌, length, Option, Some, None, IfSome, slice_get, refl, sym, ap, ◌∙◌, arith}
 use Rattle.vast_literal.specs.Tree.{BlankMember, BlankTree, BlankItem}
+use Rattle.vast_core.specs.declared.handle.Def.{Def}
 use Rattle.vast_core.specs.declared.handle.ModulePort.{ModulePort}
 use Rattle.vast_core.specs.declared.handle.VastStatementBlock.{VastStatementBlock}
 use Rattle.vast_core.specs.declared.node.Assignment.{Assignment}
-use Rattle.vast_core.specs.Records.{ModuleRecord, InstanceRecord}
+use Rattle.vast_core.specs.Records.{ModuleRecord, InstanceRecord, DeclaredType, EnumType, StructType}
 use Rattle.vast_core.specs.declared.node.FileItem.{FileItem}
-use Rattle.vast_core.specs.declared.node.FileItem.TheVariants.{Module as ModuleEntry, Include as IncludeEntry, Import as FileImportEntry, Comment as FileCommentEntry, BlankLine as FileBlankEntry}
+use Rattle.vast_core.specs.declared.node.FileItem.TheVariants.{Module as ModuleEntry, Include as IncludeEntry, Import as FileImportEntry, Typedef as FileTypedefEntry, Comment as FileCommentEntry, BlankLine as FileBlankEntry}
 use Rattle.vast_core.specs.declared.node.Artifact.{Artifact}
 use Rattle.vast_core.specs.declared.node.Artifact.TheVariants.{BlankLine as BlankArtifact, Comment as CommentArtifact, Inline as InlineArtifact, MacroStatement as MacroArtifact}
 use Rattle.vast_core.specs.declared.node.Member.{Member}
-use Rattle.vast_core.specs.declared.node.Member.TheVariants.{Declaration as DeclarationEntry, ContinuousAssignment as AssignmentEntry, Parameter as ParameterEntry, BlankLine as BlankEntry, Comment as CommentEntry, Import as ImportEntry, Inline as InlineEntry, Macro as MacroEntry, Instantiation as InstanceEntry, Function as FunctionEntry, Always as AlwaysEntry, Conditional as ConditionalEntry, Loop as LoopEntry}
+use Rattle.vast_core.specs.declared.node.Member.TheVariants.{Declaration as DeclarationEntry, ContinuousAssignment as AssignmentEntry, Parameter as ParameterEntry, BlankLine as BlankEntry, Comment as CommentEntry, Import as ImportEntry, Typedef as TypedefEntry, Inline as InlineEntry, Macro as MacroEntry, Instantiation as InstanceEntry, Function as FunctionEntry, Always as AlwaysEntry, Conditional as ConditionalEntry, Loop as LoopEntry}
 use Rattle.vast_core.specs.declared.node.ParameterForm.TheVariants.{Plain as PlainForm, Int as IntForm, Defined as DefinedForm}
 use Rattle.vast_core.specs.Nests.{NestRecord, BlockRecord, ConditionalNestRecord, CaseNestRecord, LoopNestRecord, FunctionRecord, AlwaysRecord}
 use Rattle.vast_core.specs.declared.node.Statement.{Statement}
 use Rattle.vast_core.specs.declared.node.Statement.TheVariants.{Assignment as AssignStatement, Continuous as ContinuousStatement, Task as TaskStatement, Conditional as ConditionalStatement, Case as CasesStatement, For as ForStatement, BlankLine as BlankStatement, Comment as CommentStatement, Inline as InlineStatement}
-use Rattle.vast_core.specs.Bench.{Bench, OwnsBlock, OwnsPort, is_continuous, is_comment, is_inline, is_macro_statement}
+use Rattle.vast_core.specs.Bench.{Bench, OwnsBlock, OwnsPort, OwnsDef, is_continuous, is_comment, is_inline, is_macro_statement}
 use Rattle.vast_core.specs.Nests.{nest_kind, is_kind, BlockKind, ConditionalKind, CaseStatementKind, LoopKind}
 use Rattle.vast_core.specs.FileTree.{Family, family, families, block_in, conditional_statement, case_statement, conditional_member, loop_member, assignment_member, artifact_member, instance_member, assigned_tree, continuous_tree, function_in, always_in, member_tree, maybe_module_tree}
-use Rattle.vast_core.specs.Sound.{Each, MemberSound, StatementSound, NestSound, NestsSound, ModuleSound, EntrySound, RecordsSound}
-use Rattle.vast_core.proofs.Lists.{below-of, none-past, Each-map}
+use Rattle.vast_core.specs.Sound.{Each, TypedefSound, MemberSound, StatementSound, NestSound, NestsSound, ModuleSound, EntrySound, RecordsSound}
+use Rattle.vast_core.proofs.Lists.{below-of, none-past, Each-map, Each-own}
 use Rattle.vast_core.proofs.Nests.{family-at}
 use Rattle.vast_core.proofs.Sound.{never}
-use Rattle.xlsynth_vast.specs.Presence.{ItemIsThere, DefinitionIsThere, MemberIsThere, StatementIsThere, BlockIsThere, PortIsThere, ModuleIsThere, ContainerIsThere, NothingIsMissing}
+use Rattle.xlsynth_vast.specs.Presence.{IsDefined, FieldsAreThere, ItemIsThere, DefinitionIsThere, MemberIsThere, StatementIsThere, BlockIsThere, PortIsThere, ModuleIsThere, ContainerIsThere, NothingIsMissing}
 
 -- A place within a list has an element.
 present : {A : Type 0} (xs : List A) (i : ℕ) → IsTrue (nat_lt i (length xs)) → slice_get xs i ≡ None → ⊥
@@ -123,15 +124,23 @@ module _ (b : Bench) (s : NestsSound b 0 b.nests) where
   maybe_block_is_there i None h = tt
   maybe_block_is_there i (Some c) h = block_is_there c h.0
 
+  is_defined : (d : Def) → OwnsDef b d → IsDefined b d
+  is_defined d h = found b.definitions d.id.index (slice_get b.definitions d.id.index) h.of_kind refl
+
+  fields_are_there : (t : DeclaredType) → TypedefSound b t → FieldsAreThere b t
+  fields_are_there (EnumType data_type name entries) h = tt
+  fields_are_there (StructType name fields) h = Each-map is_defined fields (Each-own (OwnsDef b) fields h)
+
   definition_is_there : (entry : Member) → MemberSound b entry → DefinitionIsThere b entry
   definition_is_there (DeclarationEntry kind name data_type) h = tt
   definition_is_there (AssignmentEntry a) h = tt
   definition_is_there (ParameterEntry local (PlainForm name) value) h = tt
   definition_is_there (ParameterEntry local (IntForm name) value) h = tt
-  definition_is_there (ParameterEntry local (DefinedForm d) value) h = found b.definitions d.id.index (slice_get b.definitions d.id.index) h.0.of_kind refl
+  definition_is_there (ParameterEntry local (DefinedForm d) value) h = is_defined d h.0
   definition_is_there BlankEntry h = tt
   definition_is_there (CommentEntry a) h = tt
   definition_is_there (ImportEntry package_name) h = tt
+  definition_is_there (TypedefEntry t) h = fields_are_there t h
   definition_is_there (InlineEntry a) h = tt
   definition_is_there (MacroEntry a) h = tt
   definition_is_there (InstanceEntry i) h = tt
@@ -147,6 +156,7 @@ module _ (b : Bench) (s : NestsSound b 0 b.nests) where
   member_shows BlankEntry h e = refl
   member_shows (CommentEntry a) h e = absurd (commented b (slice_get b.artifacts a.id.index) h.of_kind e)
   member_shows (ImportEntry package_name) h e = cc
+  member_shows (TypedefEntry t) h e = cc
   member_shows (InlineEntry a) h e = absurd (inlined b (slice_get b.artifacts a.id.index) h.of_kind e)
   member_shows (MacroEntry a) h e = absurd (called b (slice_get b.artifacts a.id.index) h.of_kind e)
   member_shows (InstanceEntry i) h e = absurd (instanced b (slice_get b.instances i.id.index) (present b.instances i.id.index h.of_kind) e)
@@ -194,11 +204,12 @@ module _ (b : Bench) (s : NestsSound b 0 b.nests) where
   maybe_module (Some m) h e = cc
 
   item_is_there : (entry : FileItem) → EntrySound b entry → ItemIsThere b entry
-  item_is_there (ModuleEntry m) h e = absurd (maybe_module (slice_get b.modules m.id.index) (present b.modules m.id.index h.of_kind) e)
-  item_is_there (IncludeEntry path) h e = cc
-  item_is_there (FileImportEntry package_name) h e = cc
-  item_is_there (FileCommentEntry text) h e = cc
-  item_is_there FileBlankEntry h e = refl
+  item_is_there (ModuleEntry m) h = (λ e. absurd (maybe_module (slice_get b.modules m.id.index) (present b.modules m.id.index h.of_kind) e), tt)
+  item_is_there (IncludeEntry path) h = (λ e. cc, tt)
+  item_is_there (FileImportEntry package_name) h = (λ e. cc, tt)
+  item_is_there (FileTypedefEntry t) h = (λ e. cc, fields_are_there t h)
+  item_is_there (FileCommentEntry text) h = (λ e. cc, tt)
+  item_is_there FileBlankEntry h = (λ e. refl, tt)
 
 pub nothing_is_missing : (b : Bench) → RecordsSound b → NothingIsMissing b
 nothing_is_missing b h = record {

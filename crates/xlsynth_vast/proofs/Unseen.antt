@@ -2,20 +2,21 @@
 use Rattle.std.proofs.Common.{◌≡◌, ℕ, suc, zero, ◌+◌, ◌<◌, ◌≤◌, IsTrue, nat_lt, List, [], ◌∷◌, ◌++◌, length, map, Option, Some, None, slice_get, Result, Ok, Err, OnErr, refl, sym, ap, ◌∙◌, arith, length-append, zero-le}
 use Rattle.std.specs.Prelude.{IfSome}
 use Rattle.vast_literal.specs.declared.error.VastFault.{VastFault}
-use Rattle.vast_literal.specs.Tree.{TaskTree, ElseIf as ElseIfTree, Else, CaseArm as CaseArmTree, MoreStatements, MoreMembers, AlwaysMember, FileItemTree, FileTree}
+use Rattle.vast_literal.specs.Tree.{TaskTree, DefinedParameter, TypedefMember, TypedefItem, ElseIf as ElseIfTree, Else, CaseArm as CaseArmTree, MoreStatements, MoreMembers, AlwaysMember, FileItemTree, FileTree}
 use Rattle.vast_core.specs.declared.handle.Expr.{Expr}
 use Rattle.vast_core.specs.declared.handle.VastDataType.{VastDataType}
 use Rattle.vast_core.specs.declared.handle.VastStatementBlock.{VastStatementBlock}
 use Rattle.vast_core.specs.declared.handle.ModulePort.{ModulePort}
+use Rattle.vast_core.specs.declared.handle.Def.{Def}
 use Rattle.vast_literal.specs.declared.kind.VastFileType.{VastFileType}
 use Rattle.vast_core.specs.declared.node.Assignment.{Assignment}
 use Rattle.vast_core.specs.declared.node.ElseIf.{ElseIf}
 use Rattle.vast_core.specs.declared.node.CaseArm.{CaseArm}
 use Rattle.vast_core.specs.Nodes.{maybe_type_in, maybe_expr_in}
-use Rattle.vast_core.specs.Records.{ModuleRecord, InstanceRecord}
+use Rattle.vast_core.specs.Records.{ModuleRecord, InstanceRecord, DeclaredType, EnumType, StructType}
 use Rattle.vast_core.specs.declared.node.ParameterPort.{ParameterPort}
 use Rattle.vast_core.specs.declared.node.FileItem.{FileItem}
-use Rattle.vast_core.specs.declared.node.FileItem.TheVariants.{Module as ModuleEntry, Include as IncludeEntry}
+use Rattle.vast_core.specs.declared.node.FileItem.TheVariants.{Module as ModuleEntry, Typedef as FileTypedefEntry}
 use Rattle.vast_core.specs.declared.node.Definition.{Definition}
 use Rattle.vast_core.specs.declared.node.Artifact.{Artifact}
 use Rattle.vast_core.specs.declared.node.Artifact.TheVariants.{BlankLine as BlankArtifact, Comment as CommentArtifact, Inline as InlineArtifact, MacroStatement as MacroArtifact}
@@ -23,16 +24,16 @@ use Rattle.vast_core.specs.declared.node.Connection.{Connection}
 use Rattle.vast_core.specs.declared.node.Port.{Port}
 use Rattle.vast_core.specs.declared.node.ParameterForm.{ParameterForm}
 use Rattle.vast_core.specs.declared.node.Member.{Member}
-use Rattle.vast_core.specs.declared.node.Member.TheVariants.{Declaration as DeclarationEntry, ContinuousAssignment as AssignmentEntry, Parameter as ParameterEntry, BlankLine as BlankEntry, Comment as CommentEntry, Import as ImportEntry, Inline as InlineEntry, Macro as MacroEntry, Instantiation as InstanceEntry, Function as FunctionEntry, Always as AlwaysEntry, Conditional as ConditionalEntry, Loop as LoopEntry}
+use Rattle.vast_core.specs.declared.node.Member.TheVariants.{Declaration as DeclarationEntry, ContinuousAssignment as AssignmentEntry, Parameter as ParameterEntry, BlankLine as BlankEntry, Comment as CommentEntry, Import as ImportEntry, Typedef as TypedefEntry, Inline as InlineEntry, Macro as MacroEntry, Instantiation as InstanceEntry, Function as FunctionEntry, Always as AlwaysEntry, Conditional as ConditionalEntry, Loop as LoopEntry}
 use Rattle.vast_core.specs.declared.node.ParameterForm.TheVariants.{Plain as PlainForm, Int as IntForm, Defined as DefinedForm}
 use Rattle.vast_core.specs.Nests.{NestRecord, BlockRecord, ConditionalNestRecord, CaseNestRecord, LoopNestRecord, FunctionRecord, AlwaysRecord}
 use Rattle.vast_core.specs.declared.node.Statement.{Statement}
 use Rattle.vast_core.specs.declared.node.Statement.TheVariants.{Assignment as AssignStatement, Continuous as ContinuousStatement, Task as TaskStatement, Conditional as ConditionalStatement, Case as CasesStatement, For as ForStatement}
 use Rattle.vast_core.specs.declared.node.FunctionVariable.{FunctionVariable}
 use Rattle.vast_core.specs.Bench.{Bench, OwnsExpr, OwnsType, is_continuous, tree_of, type_of, maybe_tree_of, trees_of}
-use Rattle.vast_core.specs.Sound.{Each, HoldsBlock, EventSound, VariableSound, ConnectionSound, PortSound, ParameterPortSound, AssignmentSound, DefinitionSound, ArtifactSound, InstanceSound, MemberSound, StatementSound, ElseIfSound, CaseArmSound, AlwaysNewer, MemberNewer, LoopMemberSound, NestSound, FunctionSound, AlwaysSound, ModuleSound, RecordsSound}
-use Rattle.vast_core.specs.FileTree.{Family, BlockFamily, block_in, conditional_statement, case_statement, conditional_member, loop_member, definition_tree, form_tree, artifact_member, connection_tree, instance_member, statement_in, statements_in, otherwise_in, alternates_in, arms_in, always_in, variable_tree, function_in, member_in, members_in, family, unfolded, families, maybe_port_tree, port_tree, parameter_port_tree, maybe_module_tree, item_tree, tree}
-use Rattle.vast_core.proofs.Lists.{Each-get, below-of, none-past}
+use Rattle.vast_core.specs.Sound.{Each, HoldsBlock, EventSound, VariableSound, ConnectionSound, PortSound, ParameterPortSound, AssignmentSound, DefinitionSound, ArtifactSound, InstanceSound, TypedefSound, MemberSound, EntrySound, StatementSound, ElseIfSound, CaseArmSound, AlwaysNewer, MemberNewer, LoopMemberSound, NestSound, FunctionSound, AlwaysSound, ModuleSound, RecordsSound}
+use Rattle.vast_core.specs.FileTree.{Family, BlockFamily, block_in, conditional_statement, case_statement, conditional_member, loop_member, definition_tree, field_tree, typedef_tree, form_tree, artifact_member, connection_tree, instance_member, statement_in, statements_in, otherwise_in, alternates_in, arms_in, always_in, variable_tree, function_in, member_in, members_in, family, unfolded, families, maybe_port_tree, port_tree, parameter_port_tree, maybe_module_tree, item_tree, tree}
+use Rattle.vast_core.proofs.Lists.{Each-get, Each-own, below-of, none-past}
 use Rattle.vast_core.proofs.Laws.{macro_ref_is_expr}
 use Rattle.vast_core.proofs.Sound.{never}
 use Rattle.vast_core.proofs.NodeLaws.{type_in-kept}
@@ -135,11 +136,14 @@ definition-alike : (b c : Bench) → Alike b c → (o : Option Definition) → I
 definition-alike b c a None h = refl
 definition-alike b c a (Some d) h = rw (type-alike b c a d.data_type h) refl
 
+field-alike : (b c : Bench) → Alike b c → (d : Def) → field_tree c d ≡ field_tree b d
+field-alike b c a d =
+    rw (a.definitions, definition-alike b c a (slice_get b.definitions d.id.index) (found (DefinitionSound b) b.definitions d.id.index (slice_get b.definitions d.id.index) a.sound.definitions refl)) refl
+
 form-alike : (b c : Bench) → Alike b c → (f : ParameterForm) → form_tree c f ≡ form_tree b f
 form-alike b c a (PlainForm name) = refl
 form-alike b c a (IntForm name) = refl
-form-alike b c a (DefinedForm d) =
-    rw (a.definitions, definition-alike b c a (slice_get b.definitions d.id.index) (found (DefinitionSound b) b.definitions d.id.index (slice_get b.definitions d.id.index) a.sound.definitions refl)) refl
+form-alike b c a (DefinedForm d) = ap DefinedParameter (field-alike b c a d)
 
 artifact-alike : (b c : Bench) → Alike b c → (o : Option Artifact) → IfSome o (ArtifactSound b) → artifact_member c o ≡ artifact_member b o
 artifact-alike b c a None h = refl
@@ -154,6 +158,14 @@ artifact-at b c a i = rw a.artifacts (artifact-alike b c a (slice_get b.artifact
 connections-alike : (b c : Bench) → Alike b c → (xs : List Connection) → Each (ConnectionSound b) xs → map (connection_tree c) xs ≡ map (connection_tree b) xs
 connections-alike b c a [] h = refl
 connections-alike b c a (x ∷ xs) h = rw (maybe-expr b c a x.value h.0, connections-alike b c a xs h.1) refl
+
+fields-alike : (b c : Bench) → Alike b c → (ds : List Def) → map (field_tree c) ds ≡ map (field_tree b) ds
+fields-alike b c a [] = refl
+fields-alike b c a (d ∷ ds) = rw (field-alike b c a d, fields-alike b c a ds) refl
+
+typedef-alike : (b c : Bench) → Alike b c → (t : DeclaredType) → TypedefSound b t → typedef_tree c t ≡ typedef_tree b t
+typedef-alike b c a (EnumType t name entries) h = rw (type-alike b c a t h.0, connections-alike b c a entries (Each-own (ConnectionSound b) entries h.1)) refl
+typedef-alike b c a (StructType name fields) h = rw (fields-alike b c a fields) refl
 
 instance-alike : (b c : Bench) → Alike b c → (o : Option InstanceRecord) → IfSome o (InstanceSound b) → instance_member c o ≡ instance_member b o
 instance-alike b c a None h = refl
@@ -242,6 +254,7 @@ member-alike b c a f g from q (ParameterEntry local form value) h k = rw (form-a
 member-alike b c a f g from q BlankEntry h k = refl
 member-alike b c a f g from q (CommentEntry x) h k = artifact-at b c a x.id.index
 member-alike b c a f g from q (ImportEntry package_name) h k = refl
+member-alike b c a f g from q (TypedefEntry t) h k = ap TypedefMember (typedef-alike b c a t h)
 member-alike b c a f g from q (InlineEntry x) h k = artifact-at b c a x.id.index
 member-alike b c a f g from q (MacroEntry x) h k = artifact-at b c a x.id.index
 member-alike b c a f g from q (InstanceEntry x) h k = instance-at b c a x.id.index
@@ -338,16 +351,16 @@ module-alike b c a (Some m) h =
       members-alike b c a (families c) (families b) (record { at = λ j from below. families-alike b c a j below }) m.members h.members,
     ) refl
 
-item-alike : (b c : Bench) → Alike b c → (e : FileItem) → item_tree c e ≡ item_tree b e
-item-alike b c a (ModuleEntry m) =
+item-alike : (b c : Bench) → Alike b c → (e : FileItem) → EntrySound b e → item_tree c e ≡ item_tree b e
+item-alike b c a (ModuleEntry m) h =
     let o = slice_get b.modules m.id.index in
     ap (λ ms. maybe_module_tree c (slice_get ms m.id.index)) a.modules ∙ module-alike b c a o (found (ModuleSound b) b.modules m.id.index o a.sound.modules refl)
-item-alike b c a (IncludeEntry path) = refl
-item-alike b c a _ = refl
+item-alike b c a (FileTypedefEntry t) h = ap TypedefItem (typedef-alike b c a t h)
+item-alike b c a _ h = refl
 
-items-alike : (b c : Bench) → Alike b c → (es : List FileItem) → map (item_tree c) es ≡ map (item_tree b) es
-items-alike b c a [] = refl
-items-alike b c a (e ∷ es) = rw (item-alike b c a e, items-alike b c a es) refl
+items-alike : (b c : Bench) → Alike b c → (es : List FileItem) → Each (EntrySound b) es → map (item_tree c) es ≡ map (item_tree b) es
+items-alike b c a [] h = refl
+items-alike b c a (e ∷ es) h = rw (item-alike b c a e h.0, items-alike b c a es h.1) refl
 
 abbrev tree_with : VastFileType → List FileItemTree → FileTree
 tree_with t items = record { dialect = t; items = items }
@@ -357,7 +370,7 @@ unfolding tree
 tree-alike b c a =
     ap (λ t. tree_with t (map (item_tree c) c.items)) a.file_type
     ∙ ap (λ es. tree_with b.file_type (map (item_tree c) es)) a.items
-    ∙ ap (tree_with b.file_type) (items-alike b c a b.items)
+    ∙ ap (tree_with b.file_type) (items-alike b c a b.items a.sound.items)
 
 pub tree-unseen : (b c : Bench) → RecordsSound b → HasUnused b c → tree c ≡ tree b
 tree-unseen b c s h = tree-alike b c (alike b c s h)

@@ -1,4 +1,4 @@
--- What an instantiation gives to parameters and ports.
+-- What an instantiation gives to parameters and ports, and the entries of an enumeration.
 use Rattle.std.specs.Prelude.{ℕ, List, [], ◌∷◌, Option}
 use Rattle.vast_core.specs.declared.handle.Expr.{Expr}
 use Rattle.vast_core.specs.declared.node.Connection.{Connection}

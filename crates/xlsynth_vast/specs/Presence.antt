@@ -1,17 +1,18 @@
 -- Nothing that a file's lists name is missing from its tree: where a tree has a part for what is missing, none has it.
 use Rattle.std.specs.Prelude.{◌≡◌, ⊤, List, Some, IfSome, slice_get}
 use Rattle.vast_literal.specs.Tree.{BlankMember, BlankTree, BlankItem}
+use Rattle.vast_core.specs.declared.handle.Def.{Def}
 use Rattle.vast_core.specs.declared.handle.ModulePort.{ModulePort}
 use Rattle.vast_core.specs.declared.handle.VastStatementBlock.{VastStatementBlock}
 use Rattle.vast_core.specs.declared.node.ElseIf.{ElseIf}
 use Rattle.vast_core.specs.declared.node.CaseArm.{CaseArm}
-use Rattle.vast_core.specs.Records.{ModuleRecord}
+use Rattle.vast_core.specs.Records.{ModuleRecord, DeclaredType, StructType}
 use Rattle.vast_core.specs.declared.node.Definition.{Definition}
 use Rattle.vast_core.specs.declared.node.FileItem.{FileItem}
-use Rattle.vast_core.specs.declared.node.FileItem.TheVariants.{BlankLine as FileBlankEntry}
+use Rattle.vast_core.specs.declared.node.FileItem.TheVariants.{Typedef as FileTypedefEntry, BlankLine as FileBlankEntry}
 use Rattle.vast_core.specs.declared.node.Port.{Port}
 use Rattle.vast_core.specs.declared.node.Member.{Member}
-use Rattle.vast_core.specs.declared.node.Member.TheVariants.{Parameter as ParameterEntry, BlankLine as BlankEntry}
+use Rattle.vast_core.specs.declared.node.Member.TheVariants.{Parameter as ParameterEntry, Typedef as TypedefEntry, BlankLine as BlankEntry}
 use Rattle.vast_core.specs.declared.node.ParameterForm.TheVariants.{Defined as DefinedForm}
 use Rattle.vast_core.specs.Nests.{ConditionalRecord, NestRecord, BlockRecord, ConditionalNestRecord, CaseNestRecord, LoopNestRecord, FunctionRecord, AlwaysRecord}
 use Rattle.vast_core.specs.declared.node.Statement.{Statement}
@@ -20,14 +21,27 @@ use Rattle.vast_core.specs.Bench.{Bench}
 use Rattle.vast_core.specs.FileTree.{families, statement_in, statements_tree, block_tree, member_tree, item_tree}
 use Rattle.vast_core.specs.Sound.{Each}
 
+-- A definition of the file's, and one for each field of a structure.
+abbrev pub IsDefined : Bench → Def → Type 0
+IsDefined b d = (found : Definition) × (slice_get b.definitions d.id.index ≡ Some found)
+
+abbrev pub FieldsAreThere : Bench → DeclaredType → Type 0
+FieldsAreThere b (StructType name fields) = Each (IsDefined b) fields
+FieldsAreThere b _ = ⊤
+
 -- Only a blank line is a blank line in the tree.
 
+abbrev pub ItemFieldsAreThere : Bench → FileItem → Type 0
+ItemFieldsAreThere b (FileTypedefEntry t) = FieldsAreThere b t
+ItemFieldsAreThere b _ = ⊤
+
 abbrev pub ItemIsThere : Bench → FileItem → Type 0
-ItemIsThere b entry = item_tree b entry ≡ BlankItem → entry ≡ FileBlankEntry
+ItemIsThere b entry = (item_tree b entry ≡ BlankItem → entry ≡ FileBlankEntry) × ItemFieldsAreThere b entry
 
 -- A parameter that is made by a definition has one of the file's.
 abbrev pub DefinitionIsThere : Bench → Member → Type 0
-DefinitionIsThere b (ParameterEntry local (DefinedForm d) value) = (found : Definition) × (slice_get b.definitions d.id.index ≡ Some found)
+DefinitionIsThere b (ParameterEntry local (DefinedForm d) value) = IsDefined b d
+DefinitionIsThere b (TypedefEntry t) = FieldsAreThere b t
 DefinitionIsThere b _ = ⊤
 
 abbrev pub MemberIsThere : Bench → Member → Type 0

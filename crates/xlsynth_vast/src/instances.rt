@@ -39,8 +39,8 @@ fn parameters(
     Ok(made)
 }
 
-/// The ports of these names, each with its expression, or open.
-fn connections(
+/// The ports of these names, each with its expression, or open. The entries of an enumeration, each with its value, or none.
+pub(crate) fn connections(
     alloc: Global,
     names: &[&str],
     values: &[Option<&Expr>],

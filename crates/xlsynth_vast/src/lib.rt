@@ -27,6 +27,7 @@ mod modules;
 mod parameters;
 mod ports;
 mod refusals;
+mod typedefs;
 mod types;
 
 pub use file::VastFile;

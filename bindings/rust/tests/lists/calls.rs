@@ -4,7 +4,7 @@
 
 use crate::answers::{format_of, kind_of, Answer, Answers, Fault};
 use crate::form::{Argument, Line};
-use xlsynth_vast::{Expr, VastFile, VastFileExtension};
+use xlsynth_vast::{Def, Expr, VastFile, VastFileExtension};
 
 /// Makes the call of the line.
 pub fn make(file: &mut VastFile, answers: &Answers, line: &Line) -> Result<Answer, Fault> {
@@ -505,6 +505,42 @@ pub fn make(file: &mut VastFile, answers: &Answers, line: &Line) -> Result<Answe
             let package = words[0].text();
             file.add_file_import(package);
             Ok(Answer::Nothing)
+        }
+        "AddEnumTypedef" => {
+            let owner = answers.handle(&words[0])?;
+            let name = words[1].text();
+            let data_type = answers.handle(&words[2])?;
+            let names: Vec<&str> = words[3].list().iter().map(Argument::text).collect();
+            let values: Vec<Option<Expr>> = answers.options(&words[4])?;
+            let values: Vec<Option<&Expr>> = values.iter().map(Option::as_ref).collect();
+            Ok(Answer::VastDataType(file.add_enum_typedef(
+                owner, name, &data_type, &names, &values,
+            )))
+        }
+        "AddStructTypedef" => {
+            let owner = answers.handle(&words[0])?;
+            let name = words[1].text();
+            let fields: Vec<Def> = answers.handles(&words[2])?;
+            Ok(Answer::VastDataType(
+                file.add_struct_typedef(owner, name, &fields),
+            ))
+        }
+        "AddFileEnumTypedef" => {
+            let name = words[0].text();
+            let data_type = answers.handle(&words[1])?;
+            let names: Vec<&str> = words[2].list().iter().map(Argument::text).collect();
+            let values: Vec<Option<Expr>> = answers.options(&words[3])?;
+            let values: Vec<Option<&Expr>> = values.iter().map(Option::as_ref).collect();
+            Ok(Answer::VastDataType(
+                file.add_file_enum_typedef(name, &data_type, &names, &values),
+            ))
+        }
+        "AddFileStructTypedef" => {
+            let name = words[0].text();
+            let fields: Vec<Def> = answers.handles(&words[1])?;
+            Ok(Answer::VastDataType(
+                file.add_file_struct_typedef(name, &fields),
+            ))
         }
         "AddGenerateLoop" => {
             let owner = answers.handle(&words[0])?;

@@ -45,6 +45,10 @@ pub(super) fn module_step(place: usize, arguments: &mut Arguments<'_>) -> Result
         }),
         20 => arguments.two(ModuleStep::AddImport),
         21 => arguments.one(ModuleStep::AddFileImport),
+        22 => arguments.five(ModuleStep::AddEnumTypedef),
+        23 => arguments.three(ModuleStep::AddStructTypedef),
+        24 => arguments.four(ModuleStep::AddFileEnumTypedef),
+        25 => arguments.two(ModuleStep::AddFileStructTypedef),
         _ => Err(arguments.misfit(Problem::UnknownCall)),
     }
 }

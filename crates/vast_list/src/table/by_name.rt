@@ -55,11 +55,17 @@ pub(super) const ELEMENTS: Parameter = Parameter("elements", kinds::EXPRESSIONS)
 
 pub(super) const END: Parameter = Parameter("end", kinds::EXPRESSION);
 
+pub(super) const ENTRY_NAMES: Parameter = Parameter("names", kinds::TEXTS);
+
+pub(super) const ENTRY_VALUES: Parameter = Parameter("values", kinds::OPTIONAL_EXPRESSIONS);
+
 pub(super) const EXPRESSION: Parameter = Parameter("expression", kinds::EXPRESSION);
 
 pub(super) const EXPRESSIONS: Parameter = Parameter("expressions", kinds::EXPRESSIONS);
 
 pub(super) const FIELD: Parameter = Parameter("field", kinds::TEXT);
+
+pub(super) const FIELDS: Parameter = Parameter("fields", kinds::DEFINITIONS);
 
 pub(super) const FORMAT: Parameter = Parameter("format", kinds::FORMAT);
 

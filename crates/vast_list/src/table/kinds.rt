@@ -22,6 +22,8 @@ pub(super) const DATA_KIND: Kind = Kind::One(Item::Word(Words::DataKind));
 
 pub(super) const DEFINITION: Kind = Kind::One(Item::Handle(Handle::Definition));
 
+pub(super) const DEFINITIONS: Kind = Kind::List(Item::Handle(Handle::Definition));
+
 pub(super) const EXPRESSION: Kind = Kind::One(Item::Handle(Handle::Expression));
 
 pub(super) const EXPRESSIONS: Kind = Kind::List(Item::Handle(Handle::Expression));

@@ -1,13 +1,13 @@
 //! Calls of the file's items, and of modules with their ports, declarations and parameters.
 
 use super::by_name::{
-    BLANK_LINE, DATA_TYPE, DEFINITION, INCLUDE, NAME, OWNER, PACKAGE, RHS, START_NUMBER, TEXT,
-    VALUE,
+    BLANK_LINE, DATA_TYPE, DEFINITION, ENTRY_NAMES, ENTRY_VALUES, FIELDS, INCLUDE, NAME, OWNER,
+    PACKAGE, RHS, START_NUMBER, TEXT, VALUE,
 };
 use super::{CallRow, kinds};
 
 /// Calls of the file's items, and of modules with their ports, declarations and parameters.
-pub(crate) static CALLS: [CallRow; 22] = [
+pub(crate) static CALLS: [CallRow; 26] = [
     CallRow("AddInclude", &[INCLUDE], kinds::NOTHING),
     CallRow("AddBlankLine", &[BLANK_LINE], kinds::NOTHING),
     CallRow("AddCommentText", &[TEXT], kinds::NOTHING),
@@ -46,4 +46,16 @@ pub(crate) static CALLS: [CallRow; 22] = [
     ),
     CallRow("AddImport", &[OWNER, PACKAGE], kinds::NOTHING),
     CallRow("AddFileImport", &[PACKAGE], kinds::NOTHING),
+    CallRow(
+        "AddEnumTypedef",
+        &[OWNER, NAME, DATA_TYPE, ENTRY_NAMES, ENTRY_VALUES],
+        kinds::TYPE,
+    ),
+    CallRow("AddStructTypedef", &[OWNER, NAME, FIELDS], kinds::TYPE),
+    CallRow(
+        "AddFileEnumTypedef",
+        &[NAME, DATA_TYPE, ENTRY_NAMES, ENTRY_VALUES],
+        kinds::TYPE,
+    ),
+    CallRow("AddFileStructTypedef", &[NAME, FIELDS], kinds::TYPE),
 ];

@@ -73,5 +73,11 @@ int_opening = codes "for (int "
 unfoldable pub step_word : List ℕ
 step_word = codes " + 1) "
 
+unfoldable pub enum_opening : List ℕ
+enum_opening = codes "typedef enum "
+
+unfoldable pub struct_opening : List ℕ
+struct_opening = codes "typedef struct packed {"
+
 unfoldable pub endfunction_word : List ℕ
 endfunction_word = codes "endfunction"

@@ -18,6 +18,16 @@ use std::alloc::{AllocError, Global};
 use vast_literal::Key;
 use vast_names::Word;
 
+/// A declaration of its groups, whose name is still to come.
+pub(crate) fn unnamed(alloc: Global, values: &mut Values<'_>) -> Result<(), AllocError>
+    ensures { IfOk result (λ _. Grown (make action.Unnamed (denoted values.old)) values.new) }
+{
+    let groups = wanted!(first::<Children<Group>>(values));
+    let after = Children::new(alloc);
+    let made = NormalDeclaration::plain(alloc, groups.reversed(), "", after)?;
+    values.push(Value::Declaration(made))
+}
+
 /// A group of one expression or of two.
 pub(crate) fn group_of(values: &mut Values<'_>) -> Result<(), AllocError>
     ensures { IfOk result (λ _. Grown (make action.GroupOf (denoted values.old)) values.new) }

@@ -5,12 +5,15 @@ ghost use Rattle.vast_rows.specs.Built.{make};
 ghost use Rattle.vast_read.specs.Internal.Made.{Grown, denoted};
 
 use crate::children::Children;
-use crate::made::declarations::{declares, group_of, kind_of, name_before, packaged, sign_of};
+use crate::made::declarations::{
+    declares, group_of, kind_of, name_before, packaged, sign_of, unnamed,
+};
 use crate::made::lists::{none_of, one_more};
 use crate::made::members::{
     always_member, assign_member, change_of, conditional_member, connects, declaration_member,
-    edge_of, function_member, header_parameter, import_item, import_member, include_item,
-    instance_member, loop_member, macro_member, module_item, parameter_member, port_of,
+    edge_of, enum_member, function_member, header_parameter, import_item, import_member,
+    include_item, instance_member, loop_member, macro_member, member_item, module_item,
+    parameter_member, port_of, struct_member,
 };
 use crate::made::statements::{
     arm, assigns, assigns_by_word, case_of, chooses, conditional, default_arm, repeats, unique_case,
@@ -36,12 +39,15 @@ pub(crate) fn make(alloc: Global, action: Action, values: &mut Values<'_>) -> Re
         Action::ModuleItem => module_item(alloc, values),
         Action::IncludeItem => include_item(alloc, values),
         Action::ImportItem => import_item(alloc, values),
+        Action::MemberItem => member_item(values),
         Action::HeaderParameter => header_parameter(alloc, values),
         Action::PortOf(key) => port_of(alloc, key, values),
         Action::DeclarationMember => declaration_member(alloc, values),
         Action::AssignMember => assign_member(values),
         Action::ParameterMember(key) => parameter_member(alloc, key, values),
         Action::ImportMember => import_member(alloc, values),
+        Action::EnumMember => enum_member(alloc, values),
+        Action::StructMember => struct_member(alloc, values),
         Action::MacroMember => macro_member(alloc, values),
         Action::InstanceMember => instance_member(alloc, values),
         Action::AlwaysMember(kind) => always_member(alloc, kind, values),
@@ -53,6 +59,7 @@ pub(crate) fn make(alloc: Global, action: Action, values: &mut Values<'_>) -> Re
         Action::NameBefore => name_before(alloc, values),
         Action::Packaged => packaged(alloc, values),
         Action::Declares => declares(alloc, values),
+        Action::Unnamed => unnamed(alloc, values),
         Action::GroupOf => group_of(values),
         Action::Connects => connects(alloc, values),
         Action::EdgeOf(key) => edge_of(alloc, key, values),

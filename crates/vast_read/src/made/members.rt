@@ -12,8 +12,9 @@ use crate::made::part::{first, maybe};
 use crate::made::value::{Alternatives, Path, Range, Value, Values};
 use crate::tree::words::key_word;
 use crate::tree::{
-    Always, Connection, Event, Function, Instance, LoopRange, MacroUse, NormalDeclaration,
-    NormalExpr, NormalItem, NormalMember, NormalModule, NormalStatement, Parameter, Port,
+    Always, Connection, EnumType, Event, Function, Group, Instance, LoopRange, MacroUse,
+    NormalDeclaration, NormalExpr, NormalItem, NormalMember, NormalModule, NormalStatement,
+    Parameter, Port, StructType,
 };
 use std::alloc::{AllocError, Global};
 use vast_literal::{AlwaysKind, Key};
@@ -61,6 +62,36 @@ pub(crate) fn import_member(alloc: Global, values: &mut Values<'_>) -> Result<()
     let package = wanted!(first::<&str>(values));
     let package = Word::new(alloc, package)?;
     values.push(Value::Member(NormalMember::Import(package)))
+}
+
+/// An enumeration of its type, its entries, its name and the groups after that.
+pub(crate) fn enum_member(alloc: Global, values: &mut Values<'_>) -> Result<(), AllocError>
+    ensures { IfOk result (λ _. Grown (make action.EnumMember (denoted values.old)) values.new) }
+{
+    let mut declared = wanted!(first::<NormalDeclaration>(values));
+    let entries = wanted!(first::<Children<Connection>>(values));
+    let name = wanted!(first::<&str>(values));
+    let after = wanted!(first::<Children<Group>>(values));
+    declared.name = Word::new(alloc, name)?;
+    declared.after = after.reversed();
+    let made = EnumType {
+        declaration: Box::new(alloc, declared)?,
+        entries: entries.reversed(),
+    };
+    values.push(Value::Member(NormalMember::Enum(Box::new(alloc, made)?)))
+}
+
+/// A packed structure of its fields and its name.
+pub(crate) fn struct_member(alloc: Global, values: &mut Values<'_>) -> Result<(), AllocError>
+    ensures { IfOk result (λ _. Grown (make action.StructMember (denoted values.old)) values.new) }
+{
+    let fields = wanted!(first::<Children<NormalDeclaration>>(values));
+    let name = wanted!(first::<&str>(values));
+    let made = StructType {
+        name: Word::new(alloc, name)?,
+        fields: fields.reversed(),
+    };
+    values.push(Value::Member(NormalMember::Struct(Box::new(alloc, made)?)))
 }
 
 /// A macro of its name, its arguments where it has any, and whether there is a semicolon.
@@ -253,4 +284,12 @@ pub(crate) fn import_item(alloc: Global, values: &mut Values<'_>) -> Result<(), 
     let package = wanted!(first::<&str>(values));
     let package = Word::new(alloc, package)?;
     values.push(Value::Item(NormalItem::Import(package)))
+}
+
+/// An item of a member.
+pub(crate) fn member_item(values: &mut Values<'_>) -> Result<(), AllocError>
+    ensures { IfOk result (λ _. Grown (make action.MemberItem (denoted values.old)) values.new) }
+{
+    let member = wanted!(first::<NormalMember>(values));
+    values.push(Value::Item(NormalItem::Member(member)))
 }

@@ -19,6 +19,24 @@ pub struct MacroUse {
     pub has_semicolon: bool,
 }
 
+/// A declaration of an enumeration.
+#[derive(PartialEq, Drop)]
+pub struct EnumType {
+    /// What it is made of, and its name.
+    pub declaration: Box<NormalDeclaration>,
+    /// Its entries; one that has no value counts on.
+    pub entries: Children<Connection>,
+}
+
+/// A declaration of a packed structure.
+#[derive(PartialEq, Drop)]
+pub struct StructType {
+    /// Its name.
+    pub name: Word,
+    /// Its fields.
+    pub fields: Children<NormalDeclaration>,
+}
+
 /// An instantiation.
 #[derive(PartialEq, Drop)]
 pub struct Instance {

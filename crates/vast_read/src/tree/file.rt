@@ -44,6 +44,8 @@ pub enum NormalItem {
     Include(Word),
     /// The package of an import (IEEE Std 1800-2017, clause 26.3).
     Import(Word),
+    /// A member that stands in no module: the declaration of a type.
+    Member(NormalMember),
     /// A module.
     Module(NormalModule),
 }
@@ -51,6 +53,6 @@ pub enum NormalItem {
 /// A file: its items, in their order.
 #[derive(PartialEq, Drop)]
 pub struct NormalFile {
-    /// Its includes, imports and modules.
+    /// Its includes, imports, declarations of types and modules.
     pub items: Children<NormalItem>,
 }

@@ -4,7 +4,7 @@ ghost use Rattle.std.specs.Prelude.{◌<◌, ◌≤◌, ◌+◌, ⊤, MatchOptio
 ghost use Rattle.vast_read.specs.Internal.MemberRelease.{member_left, member_alone, members_beside, members_alone, waiting_alone};
 
 use crate::children::Children;
-use crate::tree::boxed::{Always, Function, Instance, LoopRange, MacroUse};
+use crate::tree::boxed::{Always, EnumType, Function, Instance, LoopRange, MacroUse, StructType};
 use crate::tree::declaration::NormalDeclaration;
 use crate::tree::expression::NormalExpr;
 use crate::tree::statement::NormalStatement;
@@ -19,12 +19,13 @@ pub struct Event {
     pub expression: Box<NormalExpr>,
 }
 
-/// What an instantiation gives by name to a parameter or a port; an open port has no value.
+/// What an instantiation gives by name to a parameter or a port; an open port has no value. An
+/// entry of an enumeration.
 #[derive(PartialEq, Drop)]
 pub struct Connection {
-    /// The parameter or the port.
+    /// The parameter or the port, or the entry.
     pub name: Word,
-    /// What is given; none for an open port.
+    /// What is given; none for an open port, and for an entry that counts on.
     pub value: Option<Box<NormalExpr>>,
 }
 
@@ -44,6 +45,10 @@ pub enum NormalMember {
     Parameter(Word, Box<NormalDeclaration>, Box<NormalExpr>),
     /// The package of an import (IEEE Std 1800-2017, clause 26.3).
     Import(Word),
+    /// A declaration of an enumeration (IEEE Std 1800-2017, clause 6.19).
+    Enum(Box<EnumType>),
+    /// A declaration of a packed structure (IEEE Std 1800-2017, clause 7.2.1).
+    Struct(Box<StructType>),
     /// The use of a macro.
     Macro(Box<MacroUse>),
     /// An instantiation.
@@ -121,6 +126,8 @@ impl NormalMember {
             NormalMember::Parameter(_, _declared, _value) => next_of(waiting),
             NormalMember::Conditional(_choice) => next_of(waiting),
             NormalMember::Import(_package) => next_of(waiting),
+            NormalMember::Enum(_declared) => next_of(waiting),
+            NormalMember::Struct(_declared) => next_of(waiting),
             NormalMember::Macro(_macro) => next_of(waiting),
             NormalMember::Instance(_instance) => next_of(waiting),
             NormalMember::Always(_always) => next_of(waiting),

@@ -4,7 +4,7 @@ use Rattle.vast_literal.specs.declared.kind.AlwaysKind.{AlwaysKind as AlwaysWord
 use Rattle.vast_literal.specs.declared.kind.AlwaysKind.TheVariants.{AlwaysFF as AlwaysFFWord, AlwaysAt as AlwaysAtWord, AlwaysComb as AlwaysCombWord, AlwaysStar as AlwaysStarWord, AlwaysLatch as AlwaysLatchWord, Initial as InitialWord}
 use Rattle.vast_rows.specs.Numbers.{key_number}
 use Rattle.vast_rows.specs.declared.action.Action.{Action}
-use Rattle.vast_rows.specs.declared.action.Action.TheVariants.{Nothing, Yes, No, ModuleItem, IncludeItem, HeaderParameter, DeclarationMember, AssignMember, MacroMember, InstanceMember, ConditionalMember, FunctionMember, LoopMember, NameBefore, Packaged, Declares, GroupOf, Connects, ChangeOf, Assigns, AssignsByWord, Chooses, UniqueCase, Conditional, NoArms, Arm, DefaultArm, ImportItem, ImportMember, Repeats, NoMore, OneMore, PortOf, ParameterMember, AlwaysMember, KindOf, SignOf, EdgeOf, CaseOf}
+use Rattle.vast_rows.specs.declared.action.Action.TheVariants.{Nothing, Yes, No, ModuleItem, IncludeItem, HeaderParameter, DeclarationMember, AssignMember, MacroMember, InstanceMember, ConditionalMember, FunctionMember, LoopMember, NameBefore, Packaged, Declares, GroupOf, Connects, ChangeOf, Assigns, AssignsByWord, Chooses, UniqueCase, Conditional, NoArms, Arm, DefaultArm, ImportItem, ImportMember, Repeats, MemberItem, EnumMember, StructMember, Unnamed, NoMore, OneMore, PortOf, ParameterMember, AlwaysMember, KindOf, SignOf, EdgeOf, CaseOf}
 use Rattle.vast_rows.specs.declared.action.Listed.{Listed}
 use Rattle.vast_rows.specs.declared.action.Listed.TheVariants as listed
 
@@ -59,12 +59,16 @@ action_number DefaultArm = 26
 action_number ImportItem = 27
 action_number ImportMember = 28
 action_number Repeats = 29
+action_number MemberItem = 29
+action_number EnumMember = 30
+action_number StructMember = 31
+action_number Unnamed = 32
 action_number (NoMore what) = 40 + listed_number what
 action_number (OneMore what) = 50 + listed_number what
 action_number (PortOf key) = 60 + key_number key
-action_number (ParameterMember key) = 100 + key_number key
-action_number (AlwaysMember word) = 140 + always_number word
-action_number (KindOf key) = 180 + key_number key
-action_number (SignOf key) = 220 + key_number key
-action_number (EdgeOf key) = 260 + key_number key
-action_number (CaseOf key) = 300 + key_number key
+action_number (ParameterMember key) = 120 + key_number key
+action_number (AlwaysMember word) = 180 + always_number word
+action_number (KindOf key) = 200 + key_number key
+action_number (SignOf key) = 260 + key_number key
+action_number (EdgeOf key) = 320 + key_number key
+action_number (CaseOf key) = 380 + key_number key

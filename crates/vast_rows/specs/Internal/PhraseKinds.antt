@@ -1,6 +1,6 @@
 -- The kinds of token with which phrases begin, and before which they end.
 use Rattle.std.specs.Prelude.{ℕ, List, [], ◌∷◌, ◌++◌}
-use Rattle.vast_rows.specs.Numbers.{LessEqual, Minus, BitNot, LogicNot, BitAnd, BitOr, BitXor, LogicKey, SignedKey, UnsignedKey, IntegerKey, IntKey, OrKey, OpenParen, CloseParen, OpenBrace, CloseBracket, Comma, Colon, Semicolon, Apostrophe, Assign}
+use Rattle.vast_rows.specs.Numbers.{LessEqual, Minus, BitNot, LogicNot, BitAnd, BitOr, BitXor, LogicKey, SignedKey, UnsignedKey, IntegerKey, IntKey, OrKey, OpenParen, CloseParen, OpenBrace, CloseBrace, CloseBracket, Comma, Colon, Semicolon, Apostrophe, Assign}
 use Rattle.vast_rows.specs.Symbols.{key, mark, op, word, macro_word, include_word}
 use Rattle.vast_rows.specs.Internal.Sets.{set_of}
 use Rattle.vast_rows.specs.Kinds.{number}
@@ -52,7 +52,7 @@ firsts Path = mask strings
 
 -- Kinds that go on with no expression: what reads one stays before them. The last ones go on with an expression, and with no target.
 abbrev pub after_expressions : List Item
-after_expressions = mark CloseParen ∷ mark CloseBracket ∷ mark Comma ∷ mark Colon ∷ mark Semicolon ∷ key OrKey ∷ []
+after_expressions = mark CloseParen ∷ mark CloseBracket ∷ mark CloseBrace ∷ mark Comma ∷ mark Colon ∷ mark Semicolon ∷ key OrKey ∷ []
 
 abbrev pub after_targets : List Item
 after_targets = mark Assign ∷ op LessEqual ∷ mark Semicolon ∷ []

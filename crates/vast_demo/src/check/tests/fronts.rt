@@ -19,7 +19,7 @@ type Row = (
     &'static [Kind],
 );
 
-const ROWS: [Row; 16] = [
+const ROWS: [Row; 1617] = [
     (
         "",
         "",
@@ -27,6 +27,7 @@ const ROWS: [Row; 16] = [
         &[
             Kind::IncludeWord,
             Kind::Reserved(Key::Import),
+            Kind::Reserved(Key::Typedef),
             Kind::Reserved(Key::Module),
         ],
         &[Kind::Reserved(Key::EndModule)],
@@ -110,6 +111,20 @@ const ROWS: [Row; 16] = [
         false,
         &[Kind::Operator(Sign::Times)],
         &[Kind::Word, SEMICOLON],
+    ),
+    (
+        "typedef struct { logic a; } t;",
+        "typedef struct ",
+        false,
+        &[Kind::Reserved(Key::Packed)],
+        &[Kind::Mark(Mark::OpenBrace), Kind::Word],
+    ),
+    (
+        "typedef enum logic { A, } t;",
+        "typedef enum logic { A, ",
+        false,
+        &[Kind::Word],
+        &[Kind::Mark(Mark::CloseBrace), Kind::Mark(Mark::Comma)],
     ),
     (
         "module m; wire a; é",

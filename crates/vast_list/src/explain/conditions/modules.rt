@@ -19,8 +19,16 @@ pub(crate) fn module_condition(
         ModuleStep::HoistModuleDeclarations(owner, start) => {
             start_condition(file, answers, *owner, *start)
         }
+        ModuleStep::AddEnumTypedef(_, _, _, names, values)
+        | ModuleStep::AddFileEnumTypedef(_, _, names, values) => {
+            entries_condition(file, names.len(), values.len())
+        }
         _ => String::from_str(file.allocator(), "condition not met"),
     }
+}
+
+fn entries_condition(file: &VastFile, names: usize, values: usize) -> Result<String, AllocError> {
+    format!(in file.allocator(); "entries: {names} names, {values} values; each name has one")
 }
 
 fn name_taken(file: &VastFile, name: &str) -> Result<String, AllocError> {
