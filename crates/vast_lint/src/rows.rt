@@ -64,6 +64,9 @@ pub(crate) fn row_of(rule: Rule) -> Row {
         Rule::UnpackedPort => ("a port that is an unpacked array", Tools::Yosys),
         Rule::UnpackedInput => ("a function's input that is an unpacked array", Tools::IcarusAndYosys),
         Rule::PackageResult => ("a function with a package's type as its result", Tools::Icarus),
+        Rule::VariableWithoutType => {
+            ("a variable with neither a kind's word nor a type's name is no SystemVerilog", Tools::All)
+        }
         Rule::WireParameter => ("a parameter of the kind `wire` or `genvar` is no SystemVerilog", Tools::All),
         Rule::RegParameter => ("a parameter of the kind `reg`", Tools::Icarus),
         Rule::IntegerRange => {

@@ -48,6 +48,7 @@ pub enum Rule {
     UnpackedPort,
     UnpackedInput,
     PackageResult,
+    VariableWithoutType,
     // Parameters
     WireParameter,
     RegParameter,

@@ -9,7 +9,7 @@ use Rattle.vast_script.specs.declared.step.ExpressionStep.TheVariants.{MakeLiter
 use Rattle.vast_script.specs.declared.step.TypeStep.{TypeStep}
 use Rattle.vast_script.specs.declared.step.TypeStep.TheVariants.{MakeScalarType, MakeIntegerType, MakeIntType, MakeExternType, MakeExternPackageType, MakeBitVectorType, MakeBitVectorTypeExpr, MakePackedArrayType, MakeUnpackedArrayType, MakePackedArrayTypeExpr, MakeUnpackedArrayTypeExpr}
 use Rattle.vast_script.specs.declared.step.ModuleStep.{ModuleStep}
-use Rattle.vast_script.specs.declared.step.ModuleStep.TheVariants.{AddInclude, AddBlankLine, AddCommentText, AddModule, AddInput, AddOutput, AddInout, AddLogicInput, AddLogicOutput, AddWire, AddReg, AddLogic, AddParameterPort, AddTypedParameterPort, AddParameter, AddParameterWithDef, AddLocalparam, AddIntLocalparam, AddTypedLocalparam, HoistModuleDeclarations, AddImport, AddFileImport}
+use Rattle.vast_script.specs.declared.step.ModuleStep.TheVariants.{AddInclude, AddBlankLine, AddCommentText, AddModule, AddInput, AddOutput, AddInout, AddLogicInput, AddLogicOutput, AddWire, AddReg, AddLogic, AddParameterPort, AddTypedParameterPort, AddParameter, AddParameterWithDef, AddLocalparam, AddIntLocalparam, AddTypedLocalparam, HoistModuleDeclarations, AddImport, AddFileImport, AddVariable}
 use Rattle.vast_script.specs.declared.step.LoopStep.{LoopStep}
 use Rattle.vast_script.specs.declared.step.LoopStep.TheVariants.{AddGenerateLoop, GenerateAddGenerateLoop, GenerateGenvar, GenerateAddAlwaysComb, GenerateAddAlwaysStar, GenerateAddAlwaysLatch, GenerateAddInitial, GenerateAddAlwaysFf, GenerateAddAlwaysAt, GenerateAddLocalparam, GenerateAddTypedLocalparam, GenerateAddContinuousAssignment, GenerateAddConditional, GenerateAddBlankLine, GenerateAddComment, GenerateAddInstantiation, GenerateAddInlineStatement, GenerateAddMacroStatement}
 use Rattle.vast_script.specs.declared.step.StatementStep.{StatementStep}
@@ -119,6 +119,7 @@ module_name (AddTypedLocalparam a b c) = codes "AddTypedLocalparam"
 module_name (HoistModuleDeclarations a b) = codes "HoistModuleDeclarations"
 module_name (AddImport a b) = codes "AddImport"
 module_name (AddFileImport a) = codes "AddFileImport"
+module_name (AddVariable a b c) = codes "AddVariable"
 
 abbrev pub loop_name : LoopStep → List ℕ
 loop_name (AddGenerateLoop a b c d e) = codes "AddGenerateLoop"

@@ -29,7 +29,7 @@ module_names =
     codes "AddInclude" ∷ codes "AddBlankLine" ∷ codes "AddCommentText" ∷ codes "AddModule" ∷ codes "AddInput" ∷ codes "AddOutput" ∷ codes "AddInout" ∷
     codes "AddLogicInput" ∷ codes "AddLogicOutput" ∷ codes "AddWire" ∷ codes "AddReg" ∷ codes "AddLogic" ∷ codes "AddParameterPort" ∷
     codes "AddTypedParameterPort" ∷ codes "AddParameter" ∷ codes "AddParameterWithDef" ∷ codes "AddLocalparam" ∷ codes "AddIntLocalparam" ∷
-    codes "AddTypedLocalparam" ∷ codes "HoistModuleDeclarations" ∷ codes "AddImport" ∷ codes "AddFileImport" ∷ []
+    codes "AddTypedLocalparam" ∷ codes "HoistModuleDeclarations" ∷ codes "AddImport" ∷ codes "AddFileImport" ∷ codes "AddVariable" ∷ []
 
 abbrev pub loop_names : List (List ℕ)
 loop_names =

@@ -7,7 +7,7 @@ pub use Rattle.vast_literal.specs.declared.token.Sign.TheVariants.{LogicOr, Logi
 pub use Rattle.vast_literal.specs.declared.token.Key.{Key}
 pub use Rattle.vast_literal.specs.declared.token.Key.TheVariants.{If as IfKey, Else as ElseKey, Case as CaseKey, Casez as CasezKey, Casex as CasexKey, EndCase as EndCaseKey, Default as DefaultKey, Unique as UniqueKey, Begin as BeginKey, End as EndKey, Assign as AssignKey, Wire as WireKey, Reg as RegKey, Logic as LogicKey, Integer as IntegerKey, Int as IntKey, Genvar as GenvarKey, Signed as SignedKey, Unsigned as UnsignedKey, Module as ModuleKey, EndModule as EndModuleKey, Parameter as ParameterKey, Localparam as LocalparamKey, AlwaysComb as AlwaysCombKey, AlwaysFF as AlwaysFFKey, Always as AlwaysKey, Posedge as PosedgeKey, Negedge as NegedgeKey, Or as OrKey, Function as FunctionKey, Automatic as AutomaticKey, EndFunction as EndFunctionKey, Input as InputKey, Output as OutputKey, InOut as InOutKey, For as ForKey, AlwaysLatch as AlwaysLatchKey, Initial as InitialKey, Import as ImportKey}
 use Rattle.vast_rows.specs.declared.rule.Rule.{Rule}
-use Rattle.vast_rows.specs.declared.rule.Rule.TheVariants.{File, FileItem, Parameters, MoreParameters, Parameter, Ports, MorePorts, Port, Direction, ModuleMembers, LoopMembers, Declaration, KindWord, Declarator, SignWord, AfterWord, OwnType, SignedName, GroupedName, AfterGroups, FirstGroups, Groups, BracketGroup, GroupEnd, Member, NetKind, NoWait, Awaited, AnyMacro, MacroArguments, Expressions, MoreExpressions, LastSemicolon, GivenList, Given, MoreGiven, Connections, Connection, Connected, MoreConnections, Events, OneEvent, MoreEvents, Inputs, Input, MoreInputs, Locals, Local, LocalKind, FunctionBody, LoneCase, NoEnd, LoopLabel, Statements, Statement, AfterTarget, Assignment, Arrow, Choice, Else, Branch, Unique, CaseKind, CaseArms, BareArms, ArmBody}
+use Rattle.vast_rows.specs.declared.rule.Rule.TheVariants.{File, FileItem, Parameters, MoreParameters, Parameter, Ports, MorePorts, Port, Direction, ModuleMembers, LoopMembers, Declaration, KindWord, Declarator, SignWord, AfterWord, OwnType, SignedName, GroupedName, AfterGroups, FirstGroups, Groups, BracketGroup, GroupEnd, Member, NetKind, NoWait, Awaited, AnyMacro, MacroArguments, Expressions, MoreExpressions, LastSemicolon, AfterName, TypedName, AfterNames, GivenList, Given, MoreGiven, Connections, Connection, Connected, MoreConnections, Events, OneEvent, MoreEvents, Inputs, Input, MoreInputs, Locals, Local, LocalKind, FunctionBody, LoneCase, NoEnd, LoopLabel, Statements, Statement, AfterTarget, Assignment, Arrow, Choice, Else, Branch, Unique, CaseKind, CaseArms, BareArms, ArmBody}
 
 abbrev pub mark_number : Punct → ℕ
 mark_number OpenParen = 0
@@ -129,36 +129,39 @@ rule_number MacroArguments = 29
 rule_number Expressions = 30
 rule_number MoreExpressions = 31
 rule_number LastSemicolon = 32
-rule_number GivenList = 33
-rule_number Given = 34
-rule_number MoreGiven = 35
-rule_number Connections = 36
-rule_number Connection = 37
-rule_number Connected = 38
-rule_number MoreConnections = 39
-rule_number Events = 40
-rule_number OneEvent = 41
-rule_number MoreEvents = 42
-rule_number Inputs = 43
-rule_number Input = 44
-rule_number MoreInputs = 45
-rule_number Locals = 46
-rule_number Local = 47
-rule_number LocalKind = 48
-rule_number FunctionBody = 49
-rule_number LoneCase = 50
-rule_number NoEnd = 51
-rule_number LoopLabel = 52
-rule_number Statements = 53
-rule_number Statement = 54
-rule_number AfterTarget = 55
-rule_number Assignment = 56
-rule_number Arrow = 57
-rule_number Choice = 58
-rule_number Else = 59
-rule_number Branch = 60
-rule_number Unique = 61
-rule_number CaseKind = 62
-rule_number CaseArms = 63
-rule_number BareArms = 64
-rule_number ArmBody = 65
+rule_number AfterName = 33
+rule_number TypedName = 34
+rule_number AfterNames = 35
+rule_number GivenList = 36
+rule_number Given = 37
+rule_number MoreGiven = 38
+rule_number Connections = 39
+rule_number Connection = 40
+rule_number Connected = 41
+rule_number MoreConnections = 42
+rule_number Events = 43
+rule_number OneEvent = 44
+rule_number MoreEvents = 45
+rule_number Inputs = 46
+rule_number Input = 47
+rule_number MoreInputs = 48
+rule_number Locals = 49
+rule_number Local = 50
+rule_number LocalKind = 51
+rule_number FunctionBody = 52
+rule_number LoneCase = 53
+rule_number NoEnd = 54
+rule_number LoopLabel = 55
+rule_number Statements = 56
+rule_number Statement = 57
+rule_number AfterTarget = 58
+rule_number Assignment = 59
+rule_number Arrow = 60
+rule_number Choice = 61
+rule_number Else = 62
+rule_number Branch = 63
+rule_number Unique = 64
+rule_number CaseKind = 65
+rule_number CaseArms = 66
+rule_number BareArms = 67
+rule_number ArmBody = 68

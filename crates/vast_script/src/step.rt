@@ -131,6 +131,7 @@ pub enum ModuleStep {
     HoistModuleDeclarations(usize, usize),
     AddImport(usize, String),
     AddFileImport(String),
+    AddVariable(usize, String, usize),
 }
 
 /// Calls of generate loops and their members.

@@ -45,6 +45,7 @@ pub(super) fn module_step(place: usize, arguments: &mut Arguments<'_>) -> Result
         }),
         20 => arguments.two(ModuleStep::AddImport),
         21 => arguments.one(ModuleStep::AddFileImport),
+        22 => arguments.three(ModuleStep::AddVariable),
         _ => Err(arguments.misfit(Problem::UnknownCall)),
     }
 }

@@ -7,7 +7,7 @@ use super::by_name::{
 use super::{CallRow, kinds};
 
 /// Calls of the file's items, and of modules with their ports, declarations and parameters.
-pub(crate) static CALLS: [CallRow; 22] = [
+pub(crate) static CALLS: [CallRow; 23] = [
     CallRow("AddInclude", &[INCLUDE], kinds::NOTHING),
     CallRow("AddBlankLine", &[BLANK_LINE], kinds::NOTHING),
     CallRow("AddCommentText", &[TEXT], kinds::NOTHING),
@@ -46,4 +46,5 @@ pub(crate) static CALLS: [CallRow; 22] = [
     ),
     CallRow("AddImport", &[OWNER, PACKAGE], kinds::NOTHING),
     CallRow("AddFileImport", &[PACKAGE], kinds::NOTHING),
+    CallRow("AddVariable", &[OWNER, NAME, DATA_TYPE], kinds::SIGNAL),
 ];

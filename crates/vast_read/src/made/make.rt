@@ -10,7 +10,7 @@ use crate::made::lists::{none_of, one_more};
 use crate::made::members::{
     always_member, assign_member, change_of, conditional_member, connects, declaration_member,
     edge_of, function_member, header_parameter, import_item, import_member, include_item,
-    instance_member, loop_member, macro_member, module_item, parameter_member, port_of,
+    loop_member, macro_member, module_item, named_member, parameter_member, port_of,
 };
 use crate::made::statements::{
     arm, assigns, assigns_by_word, case_of, chooses, conditional, default_arm, unique_case,
@@ -43,7 +43,7 @@ pub(crate) fn make(alloc: Global, action: Action, values: &mut Values<'_>) -> Re
         Action::ParameterMember(key) => parameter_member(alloc, key, values),
         Action::ImportMember => import_member(alloc, values),
         Action::MacroMember => macro_member(alloc, values),
-        Action::InstanceMember => instance_member(alloc, values),
+        Action::NamedMember => named_member(alloc, values),
         Action::AlwaysMember(kind) => always_member(alloc, kind, values),
         Action::ConditionalMember => conditional_member(alloc, values),
         Action::FunctionMember => function_member(alloc, values),
