@@ -112,7 +112,7 @@ GROUPS = {
 # Calls that the original has none of, which are those of a trait: what it has stays its own. `make_name` and
 # `block_add_casex` came before the trait.
 OWN = {"make_packed_array_type_expr", "make_unpacked_array_type_expr", "block_add_task_call", "make_member",
-       "add_import", "add_file_import"} | {
+       "add_import", "add_file_import", "add_variable"} | {
     f"{scope}add_{block}"
     for scope in ("", "generate_")
     for block in ("always_star", "always_latch", "initial")

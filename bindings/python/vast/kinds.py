@@ -376,6 +376,12 @@ class Module(ModuleWords):
         """`File.add_import`: `import PACKAGE::*;`, as the module's last member."""
         return self.file.add_import(self, package)
 
+    def add_variable(self, name: str, data_type: TypeLike) -> LogicRef:
+        """`File.add_variable`: a variable of a type that is declared elsewhere, as the module's
+        last member.
+        """
+        return self.file.add_variable(self, name, data_type)
+
     def add_generate_loop(
         self,
         name: str,

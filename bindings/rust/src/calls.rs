@@ -101,6 +101,7 @@ pub(crate) enum Call {
     HoistModuleDeclarations = 307,
     AddImport = 323,
     AddFileImport = 339,
+    AddVariable = 355,
     AddGenerateLoop = 4,
     GenerateAddGenerateLoop = 20,
     GenerateGenvar = 36,

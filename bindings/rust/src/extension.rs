@@ -6,7 +6,7 @@ use crate::calls::Call;
 use crate::error::VastError;
 use crate::file::VastFile;
 use crate::handles::{
-    Expr, GenerateLoop, VastAlwaysBase, VastDataType, VastModule, VastStatementBlock,
+    Expr, GenerateLoop, LogicRef, VastAlwaysBase, VastDataType, VastModule, VastStatementBlock,
 };
 use crate::known::Width;
 
@@ -44,6 +44,18 @@ pub trait VastFileExtension {
 
     /// `import PACKAGE::*;`, as the last item of the file.
     fn add_file_import(&mut self, package: &str);
+
+    /// A variable of a type that is declared elsewhere, as the module's last member; returns its name as an
+    /// expression.
+    ///
+    /// # Errors
+    /// Where the library refuses the call, in its words.
+    fn add_variable(
+        &mut self,
+        owner: VastModule,
+        name: &str,
+        data_type: &VastDataType,
+    ) -> Result<LogicRef, VastError>;
 
     /// An `always @*` with an empty block, as the loop's last member.
     ///
@@ -137,6 +149,21 @@ impl VastFileExtension for VastFile {
 
     fn add_file_import(&mut self, package: &str) {
         self.later(Call::AddFileImport, |calls| calls.text(package));
+    }
+
+    fn add_variable(
+        &mut self,
+        owner: VastModule,
+        name: &str,
+        data_type: &VastDataType,
+    ) -> Result<LogicRef, VastError> {
+        let owner_step = self.own(owner.0);
+        let data_type_step = self.own(data_type.0);
+        Ok(LogicRef(self.allowed(
+            false,
+            Call::AddVariable,
+            |calls| calls.step(owner_step).text(name).step(data_type_step),
+        )?))
     }
 
     fn generate_add_always_star(

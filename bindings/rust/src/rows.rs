@@ -11,7 +11,7 @@ pub(crate) struct Row(
     pub(crate) &'static [Form],
 );
 
-pub(crate) static ROWS: [Row; 180] = [
+pub(crate) static ROWS: [Row; 181] = [
     Row(0, "MakeNot", &[Step]),
     Row(16, "MakeBitwiseNot", &[Step]),
     Row(32, "MakeNegate", &[Step]),
@@ -122,6 +122,7 @@ pub(crate) static ROWS: [Row; 180] = [
     Row(307, "HoistModuleDeclarations", &[Step, Count]),
     Row(323, "AddImport", &[Step, Text]),
     Row(339, "AddFileImport", &[Text]),
+    Row(355, "AddVariable", &[Step, Text, Step]),
     Row(
         4,
         "AddGenerateLoop",

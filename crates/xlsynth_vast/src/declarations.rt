@@ -1,5 +1,4 @@
-//! Wires, regs and logics of modules (IEEE 1800-2017, 6.7 and 6.8), as in the crate `xlsynth-vast`, and variables of a
-//! named type.
+//! Wires, regs, logics and variables of modules (IEEE 1800-2017, 6.7 and 6.8), as in the crate `xlsynth-vast`.
 //!
 //! A module's ports, wires, variables and functions share one set of names; no name is declared twice.
 
@@ -152,9 +151,10 @@ impl VastFile {
         )
     }
 
-    /// A variable of a type that is declared elsewhere, `state_t s;`, as the module's last member; returns its name as an
-    /// expression. No word of a kind is written, so of another type only the name and its ranges are; a file with such
-    /// isn't plain.
+    /// A variable of a type that is declared elsewhere, as the module's last member; returns its name as an expression.
+    ///
+    /// No kind's word is written before the type, `state_t s;`. Of any other type only its ranges and the name are, and
+    /// the file isn't plain.
     ///
     /// # Errors
     /// As [`VastFile::add_reg`], with `variable` in the place of `reg`.
