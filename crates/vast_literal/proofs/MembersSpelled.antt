@@ -5,7 +5,7 @@ use Rattle.vast_literal.specs.Tree.{Dialect, LtOp, ExprTree, NameTree, PosEdgeTr
 use Rattle.vast_literal.specs.NormalExpr.{NormalExpr, Name, Binary, binary_operator_token, normal}
 use Rattle.vast_literal.specs.NormalFile.{NormalStatements, Event, DeclarationPart, AssignPart, InstancePart, NormalMembers}
 use Rattle.vast_literal.specs.Grammar.{Spells, binary, name}
-use Rattle.vast_literal.specs.FileGrammar.{IsMany, no_items, more_items, IsJoined, last_item, next_item, IsList, empty, full, IsStatements, is_kind, absent, present, no_type, IsDeclaration, declares, is_member_kind, is_local_kind, is_parameter_word, is_edge, IsEvent, edge, plain, IsInput, input, IsDeclared, declared, IsVariable, variable, IsGiven, given, IsConnection, connected, unconnected, IsGivenList, no_parameters, with_parameters, IsSemicolon, with_one, without, IsLabel, no_label, labelled, IsMember, declaration, of_type, continuous, parameter, macro, macro_with, import_member, instance, unclocked, clocked, conditional, function, loop, IsMembers, closed, and_member}
+use Rattle.vast_literal.specs.FileGrammar.{IsMany, no_items, more_items, IsJoined, last_item, next_item, IsList, empty, full, IsStatements, is_kind, absent, present, no_type, IsDeclaration, declares, is_member_kind, is_local_kind, is_parameter_word, is_edge, IsEvent, edge, plain, IsInput, input, IsDeclared, declared, variable, IsGiven, given, IsConnection, connected, unconnected, IsGivenList, no_parameters, with_parameters, IsSemicolon, with_one, without, IsLabel, no_label, labelled, IsMember, declaration, of_type, continuous, parameter, macro, macro_with, import_member, instance, unclocked, clocked, conditional, function, loop, IsMembers, closed, and_member}
 use Rattle.vast_literal.specs.Plain.{is_plain_name, is_plain, are_plain}
 use Rattle.vast_literal.specs.Shape.{base_of, is_external, right_child_wraps, result_kind}
 use Rattle.vast_literal.proofs.ExprTokens.{wrapped_tokens, expr_tokens}

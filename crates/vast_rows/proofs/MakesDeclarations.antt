@@ -1,7 +1,7 @@
 -- The rows of declarations make what the typed relations say.
 use Rattle.std.proofs.Common.{[], ◌∷◌, Some, None, IsTrue, refl, append-nil}
 use Rattle.vast_literal.specs.FileGrammar.{is_kind, is_member_kind, is_local_kind, no_items, more_items, one, range, absent, present, no_type, own_type, packaged, declares}
-use Rattle.vast_literal.specs.Tokens.{Reserved, Word, Mark}
+use Rattle.vast_literal.specs.Tokens.{Word, Mark}
 use Rattle.vast_rows.specs.declared.rule.Rule.TheVariants.{Declaration, Declarator, AfterWord, OwnType, SignedName, GroupedName, AfterGroups, FirstGroups, Groups, BracketGroup, GroupEnd}
 use Rattle.vast_rows.specs.Numbers.{Key, WireKey, RegKey, LogicKey, IfKey, DoubleColon}
 use Rattle.vast_rows.specs.Phrases.{expression}
