@@ -153,6 +153,7 @@ own_spelled dialect d p w = opened (is_external (base_of d.type)) refl (opening 
   where
     spelled_parts : IsDeclaration (declared_tokens dialect d) (normal_declared dialect d)
     spelled_parts = declared_spelled dialect d (and_right (is_worded d.kind || is_external (base_of d.type)) (is_plain_declared d) p) (and_right (is_own_kind d.kind) (is_well_formed_type d.type) w)
+
     opened : (external : Bool) → is_external (base_of d.type) ≡ external → Opening d.kind external → IsMember (declared_tokens dialect d ++ (Mark Semicolon ∷ [])) (DeclarationPart (normal_declared dialect d))
     opened external x (by_kind k e h) = let f = kind_of dialect d in declaration (declared k (cc (e, f)) h spelled_parts)
     opened true x (by_type e) = let f = kind_of dialect d in let g = type_of dialect d in let g0 = g.0 in let g1 = g.1 in let (t, n, s) = external_name (base_of d.type) x in

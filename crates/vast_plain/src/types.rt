@@ -1,8 +1,9 @@
 //! Types and declarations. Arrays of arrays are walked to what they are made of.
 
-ghost use Rattle.std.specs.Prelude.{◌≡◌, ◌+◌, ◌≤◌, ◌&&◌, All, OnOk};
+ghost use Rattle.std.specs.Prelude.{◌≡◌, ◌+◌, ◌≤◌, ◌&&◌, ◌||◌, All, OnOk};
 ghost use Rattle.vast_literal.specs.Plain.{are_plain, is_plain, is_plain_type};
 ghost use Rattle.vast_literal.specs.PlainFile.{is_plain_declaration, is_plain_variable, is_worded};
+ghost use Rattle.vast_literal.specs.Shape.{base_of, is_external};
 ghost use Rattle.vast_core.specs.Bench.{OwnsExpr, OwnsType, OwnsDimension, trees_of, type_of, size_of};
 ghost use Rattle.vast_core.specs.Internal.BitCount.{sizes_of};
 ghost use Rattle.vast_core.specs.FileTree.{declared};
@@ -139,7 +140,15 @@ fn is_worded(kind: DataKind) -> bool
     }
 }
 
-/// Whether a word stands before what a module declares, of a kind or of a type, and its name and type are plain.
+/// Whether a word stands before what is declared, that of a kind or the name of a type.
+fn has_first_word(ast: &Ast, kind: DataKind, t: VastDataType) -> bool
+    requires { OwnsType (bench ast.now) t }
+    ensures { result ≡ (is_worded kind || is_external (base_of (type_of (bench ast.now) t))) }
+{
+    is_worded(kind) || ast.is_external(t)
+}
+
+/// Whether a word stands before what a module declares, and its name and type are plain.
 pub(crate) fn is_plain_variable(
     ast: &Ast,
     kind: DataKind,
@@ -149,6 +158,5 @@ pub(crate) fn is_plain_variable(
     requires { OwnsType (bench ast.now) t }
     ensures { Answers (is_plain_variable (declared (bench ast.now) kind name.now t)) result }
 {
-    let has_word = is_worded(kind) || ast.is_external(t);
-    Ok(has_word && is_plain_declaration(ast, t, name)?)
+    Ok(has_first_word(ast, kind, t) && is_plain_declaration(ast, t, name)?)
 }

@@ -19,7 +19,7 @@ type Row = (
     &'static [Kind],
 );
 
-const ROWS: [Row; 15] = [
+const ROWS: [Row; 17] = [
     (
         "",
         "",
@@ -110,6 +110,25 @@ const ROWS: [Row; 15] = [
         false,
         &[Kind::Reserved(Key::Wire)],
         &[Kind::Mark(Mark::Comma)],
+    ),
+    (
+        "module m; t 1",
+        "module m; t ",
+        false,
+        &[
+            Kind::Word,
+            Kind::Mark(Mark::Hash),
+            Kind::Mark(Mark::DoubleColon),
+            Kind::Mark(Mark::OpenBracket),
+        ],
+        &[OPEN, SEMICOLON],
+    ),
+    (
+        "module m; t x = 1",
+        "module m; t x ",
+        false,
+        &[OPEN, SEMICOLON, Kind::Mark(Mark::OpenBracket)],
+        &[Kind::Mark(Mark::Comma), Kind::Word],
     ),
     (
         "module m; initial begin $display(a) end",
