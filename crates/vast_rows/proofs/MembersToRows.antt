@@ -71,7 +71,7 @@ told_given i es (next_item p ps) = refl
 instance_to : {ts us : List Token} {p : List NormalConnection} {es fs : List Event} (i : List ℕ) → IsGivenList ts p → Spelled (mark OpenParen ∷ (rule Connections ∷ (mark CloseParen ∷ (mark Semicolon ∷ [])))) us es fs → Node AfterName (ts ++ (Word i ∷ us)) (trace_given p i es) fs
 unfolding trace_given
 instance_to i no_parameters q = at AfterName 3 refl (tok (Word i) refl (at AfterNames 2 refl q))
-instance_to {es = es} {fs = fs} i (with_parameters {ts = gs} j) q = subst (λ (v : List Event). Node AfterName ((Mark Hash ∷ (Mark OpenParen ∷ (gs ++ (Mark CloseParen ∷ [])))) ++ (Word i ∷ _)) v fs) (told_given i es j)
+instance_to {us = us} {es = es} {fs = fs} i (with_parameters {ts = gs} j) q = subst (λ (v : List Event). Node AfterName ((Mark Hash ∷ (Mark OpenParen ∷ (gs ++ (Mark CloseParen ∷ [])))) ++ (Word i ∷ us)) v fs) (told_given i es j)
     (at AfterName 2 refl (nod (given_list_to j) (tok (Word i) refl q)))
 
 connection_to : (ts : List Token) (c : NormalConnection) (es : List Event) → IsConnection ts c → Node Connection ts (trace_connection c es) es
