@@ -1109,6 +1109,18 @@ static inline int32_t vast_add_file_struct_typedef(vast_file *file, vast_string 
     return vast_call_make(file, made == NULL ? NULL : &made->id);
 }
 
+/* A variable of a type that is declared elsewhere, as the module's last member.
+ * VAST_REFUSED where the module has the name. */
+static inline int32_t vast_add_variable(vast_file *file, vast_module owner, vast_string name,
+                                        vast_type data_type, vast_signal *made)
+{
+    vast_call_begin(file, "AddVariable", 419);
+    vast_call_handle(file, owner.id);
+    vast_call_text(file, name);
+    vast_call_handle(file, data_type.id);
+    return vast_call_make(file, made == NULL ? NULL : &made->id);
+}
+
 /* Loops */
 
 /* A generate loop without members, as the module's last member.

@@ -1071,6 +1071,17 @@ static inline vast_type v_add_file_struct_typedef(vast_file *file, const char *n
     return answer;
 }
 
+/* `vast_add_variable`: a variable of a type that is declared elsewhere, as the module's last
+ * member. */
+static inline vast_signal v_add_variable(vast_file *file, vast_module owner, const char *name,
+                                         vast_type data_type)
+{
+    vast_signal answer = {{0, 0}};
+    if (file->fault == VAST_OK)
+        file->fault = vast_add_variable(file, owner, vast_str(name), data_type, &answer);
+    return answer;
+}
+
 /* `vast_add_generate_loop`: a generate loop without members, as the module's last member. */
 static inline vast_loop v_add_generate_loop(vast_file *file, vast_module owner, const char *name,
                                             vast_expression start, vast_expression end,

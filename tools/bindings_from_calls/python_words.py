@@ -67,6 +67,7 @@ REFUSALS = {
     "make_binary_pattern": "where there is another digit, none, or more than 1,048,576",
     "add_reg": "where the module has the name",
     "add_logic": "where the module has the name",
+    "add_variable": "where the module has the name",
     "add_function": "where the result is an unpacked array, or the module has the name",
     "function_add_input": IN_FUNCTION,
     "function_add_logic_input": IN_FUNCTION,

@@ -119,7 +119,7 @@ GROUPS = {
 # `block_add_casex` came before the trait.
 OWN = {"make_packed_array_type_expr", "make_unpacked_array_type_expr", "block_add_task_call", "block_add_for", "make_member",
        "add_import", "add_file_import",
-       "add_enum_typedef", "add_struct_typedef", "add_file_enum_typedef", "add_file_struct_typedef"} | {
+       "add_enum_typedef", "add_struct_typedef", "add_file_enum_typedef", "add_file_struct_typedef", "add_variable"} | {
     f"{scope}add_{block}"
     for scope in ("", "generate_")
     for block in ("always_star", "always_latch", "initial")

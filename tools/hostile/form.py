@@ -19,6 +19,7 @@ FORMATS = ("Binary", "Hex", "SignedDecimal", "UnsignedDecimal", "UnsizedBinary",
 CALLS = {
     "AddModule": (TEXT,), "MakeScalarType": (), "MakeBitVectorType": (INT64, TRUTH),
     "AddInput": (HANDLE, TEXT, HANDLE), "AddOutput": (HANDLE, TEXT, HANDLE), "AddLogic": (HANDLE, TEXT, HANDLE),
+    "AddVariable": (HANDLE, TEXT, HANDLE),
     "AddWire": (HANDLE, TEXT, HANDLE), "MakeContinuousAssignment": (HANDLE, HANDLE),
     "AddMemberContinuousAssignment": (HANDLE, HANDLE), "MakeLiteral": (TEXT, FORMAT), "MakeAdd": (HANDLE, HANDLE),
     "MakeUnsizedDecimalLiteral": (INT64,), "AddMemberInstantiation": (HANDLE, HANDLE),

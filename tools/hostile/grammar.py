@@ -286,7 +286,8 @@ class Reader:
                 self.joined_until(self.expression, ")")
             self.take(";")
         elif self.take_kind("name"):
-            self.instance()
+            self.named()
+            self.need(";")
         elif self.take("always_comb", "always_latch", "initial"):
             self.block()
         elif self.sees("always_ff", "always"):
@@ -346,15 +347,30 @@ class Reader:
         for _ in range(opened):
             self.need(")")
 
-    def instance(self):
+    def named(self):
+        """What follows a name: a variable of that type, or an instance of that module."""
         if self.take("#"):
             self.need("(")
             self.joined(self.connection)
             self.need(")")
-        self.need_kind("name")
+            self.need_kind("name")
+            self.ports()
+        elif self.sees("::", "["):
+            if self.take("::"):
+                self.need_kind("name")
+            self.groups()
+            self.need_kind("name")
+            self.groups()
+        else:
+            self.need_kind("name")
+            if self.sees("("):
+                self.ports()
+            else:
+                self.groups()
+
+    def ports(self):
         self.need("(")
         self.joined_until(self.open_connection, ")")
-        self.need(";")
 
     def connection(self):
         self.need(".")

@@ -116,6 +116,7 @@ FLAT = [
     flat("assignments", MODULE, "assign a=a;\n"),
     flat("macros with semicolons", MODULE, "`M;"),
     flat("instances", MODULE, "m i();"),
+    flat("variables", MODULE, "p::t a[a];"),
     flat("connections", ("module m;m i(", ".a());endmodule"), ".a(),"),
     flat("ports", ("module m(", "input a);endmodule"), "input a,"),
     flat("parameters", ("module m#(", "parameter a=a);endmodule"), "parameter a=a,"),

@@ -22,7 +22,8 @@ class Refusals(FileTest):
         module.input("z")
         module.wire("a")
         module.wire("middle")
-        for kind, call in (("reg", file.add_reg), ("logic", file.add_logic), ("function", file.add_function)):
+        calls = {"reg": file.add_reg, "logic": file.add_logic, "variable": file.add_variable}
+        for kind, call in {**calls, "function": file.add_function}.items():
             words = TWICE.format(kind, "a", "the same module", "a, middle, z")
             self.refuses(file, words, call, module, "a", 1)
 

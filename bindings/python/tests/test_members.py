@@ -1,6 +1,6 @@
 """Each call that makes an item, a member or a statement, with the text that the layout gives it."""
 from sessions import FileTest, over_each
-from vast import DataKind, ModulePortDirection, Port, RegisterDefinition, Reset
+from vast import DataKind, ModulePortDirection, Port, Refused, RegisterDefinition, Reset
 
 
 class Items(FileTest):
@@ -49,6 +49,16 @@ class Items(FileTest):
             "  } bit_t;",
             "endmodule",
         )
+
+    @over_each()
+    def test_variables(self, file):
+        module = file.add_module("m")
+        state = file.make_extern_type("state_t")
+        file.add_variable(module, "s", state)
+        module.variable("w", file.make_extern_package_type("p", "word_t"))
+        with self.assertRaises(Refused):
+            file.add_variable(module, "s", state)
+        self.assert_file(file, "module m;", "  state_t s;", "  p::word_t w;", "endmodule")
 
     @over_each()
     def test_ports(self, file):

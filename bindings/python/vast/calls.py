@@ -884,6 +884,18 @@ class Calls(Core):
             DataType,
         )
 
+    def add_variable(self, owner: Module, name: str, data_type: TypeLike) -> LogicRef:
+        """A variable of a type that is declared elsewhere, as the module's last member.
+
+        Raises `Refused` where the module has the name.
+        """
+        if not (isinstance(owner, Module) and owner.file is self):
+            owner = self._own(owner, Module)
+        if not (isinstance(data_type, DataType) and data_type.file is self):
+            data_type = self._type(data_type)
+        entry = f"{owner.step} {quoted(name)}"
+        return self._named("AddVariable", entry, data_type.step, LogicRef)
+
     def add_generate_loop(
         self,
         owner: Module,

@@ -394,6 +394,12 @@ class Module(ModuleWords):
         """
         return self.file.add_struct_typedef(self, name, fields)
 
+    def add_variable(self, name: str, data_type: TypeLike) -> LogicRef:
+        """`File.add_variable`: a variable of a type that is declared elsewhere, as the module's
+        last member.
+        """
+        return self.file.add_variable(self, name, data_type)
+
     def add_generate_loop(
         self,
         name: str,

@@ -119,6 +119,10 @@ class ModuleWords(ScopeWords):
         """A `logic` of this type, or of so many bits."""
         return self.file.add_logic(self, name, data_type)
 
+    def variable(self, name: str, data_type: TypeLike) -> LogicRef:
+        """A variable of this type, which has a name of its own."""
+        return self.file.add_variable(self, name, data_type)
+
     def parameter(self, name: str, value: Operand) -> LogicRef:
         """A parameter without a type, in the module's header."""
         return self.file.add_parameter_port(self, name, value)

@@ -105,6 +105,7 @@ pub(crate) enum Call {
     AddStructTypedef = 371,
     AddFileEnumTypedef = 387,
     AddFileStructTypedef = 403,
+    AddVariable = 419,
     AddGenerateLoop = 4,
     GenerateAddGenerateLoop = 20,
     GenerateGenvar = 36,

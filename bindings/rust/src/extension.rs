@@ -6,7 +6,7 @@ use crate::calls::Call;
 use crate::error::VastError;
 use crate::file::VastFile;
 use crate::handles::{
-    Def, Expr, GenerateLoop, VastAlwaysBase, VastDataType, VastModule, VastStatementBlock,
+    Def, Expr, GenerateLoop, LogicRef, VastAlwaysBase, VastDataType, VastModule, VastStatementBlock,
 };
 use crate::known::Width;
 
@@ -80,6 +80,18 @@ pub trait VastFileExtension {
     /// `typedef struct packed`, as the last item of the file, and the type of its name, as
     /// [`VastFile::add_struct_typedef`] in a module.
     fn add_file_struct_typedef(&mut self, name: &str, fields: &[Def]) -> VastDataType;
+
+    /// A variable of a type that is declared elsewhere, as the module's last member; returns its name as an
+    /// expression.
+    ///
+    /// # Errors
+    /// Where the library refuses the call, in its words.
+    fn add_variable(
+        &mut self,
+        owner: VastModule,
+        name: &str,
+        data_type: &VastDataType,
+    ) -> Result<LogicRef, VastError>;
 
     /// An `always @*` with an empty block, as the loop's last member.
     ///
@@ -253,6 +265,21 @@ impl VastFileExtension for VastFile {
         VastDataType(self.later(Call::AddFileStructTypedef, |calls| {
             calls.text(name).steps(&fields_steps)
         }))
+    }
+
+    fn add_variable(
+        &mut self,
+        owner: VastModule,
+        name: &str,
+        data_type: &VastDataType,
+    ) -> Result<LogicRef, VastError> {
+        let owner_step = self.own(owner.0);
+        let data_type_step = self.own(data_type.0);
+        Ok(LogicRef(self.allowed(
+            false,
+            Call::AddVariable,
+            |calls| calls.step(owner_step).text(name).step(data_type_step),
+        )?))
     }
 
     fn generate_add_always_star(

@@ -11,7 +11,7 @@ pub(crate) struct Row(
     pub(crate) &'static [Form],
 );
 
-pub(crate) static ROWS: [Row; 185] = [
+pub(crate) static ROWS: [Row; 186] = [
     Row(0, "MakeNot", &[Step]),
     Row(16, "MakeBitwiseNot", &[Step]),
     Row(32, "MakeNegate", &[Step]),
@@ -134,6 +134,7 @@ pub(crate) static ROWS: [Row; 185] = [
         &[Text, Step, List(&Text), List(&Optional(&Step))],
     ),
     Row(403, "AddFileStructTypedef", &[Text, List(&Step)]),
+    Row(419, "AddVariable", &[Step, Text, Step]),
     Row(
         4,
         "AddGenerateLoop",

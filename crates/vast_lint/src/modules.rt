@@ -18,6 +18,7 @@ pub(crate) enum Word {
     Wire,
     Reg,
     Logic,
+    Nothing,
 }
 
 /// What the call makes.
@@ -65,6 +66,10 @@ pub(crate) fn module(
         ModuleStep::AddLogic(owner, name, data_type) => {
             declare(known, declared, *owner, name, told)?;
             variable(known, Word::Logic, *data_type, told)
+        }
+        ModuleStep::AddVariable(owner, name, data_type) => {
+            declare(known, declared, *owner, name, told)?;
+            variable(known, Word::Nothing, *data_type, told)
         }
         _ => parameters(known, declared, step, told),
     }
@@ -160,6 +165,7 @@ fn port_rule(known: Known<'_>, word: Word, form: TypeForm) -> Option<Rule> {
 /// The rule that tells a net or a variable of this type after the word.
 pub(crate) fn variable_rule(known: Known<'_>, word: Word, form: TypeForm) -> Option<Rule> {
     match word {
+        Word::Nothing if !form.is_named() => Some(Rule::VariableWithoutType),
         Word::Logic if known.is_verilog() => Some(Rule::VerilogLogic),
         Word::Logic if form.is_named() => Some(Rule::KindBeforeType),
         Word::Reg if form.is_named() && form.packed > 0 => Some(Rule::KindBeforeType),

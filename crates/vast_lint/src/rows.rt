@@ -75,6 +75,9 @@ pub(crate) fn row_of(rule: Rule) -> Row {
         Rule::FieldKind => ("a field of such a kind is no SystemVerilog", Tools::All),
         Rule::FieldTwice => ("a second field of the name is no SystemVerilog", Tools::Verilator),
         Rule::NamedField => ("a field of a package's type, or of a packed array of a type's name", Tools::Yosys),
+        Rule::VariableWithoutType => {
+            ("a variable with neither a kind's word nor a type's name is no SystemVerilog", Tools::All)
+        }
         Rule::WireParameter => ("a parameter of the kind `wire` or `genvar` is no SystemVerilog", Tools::All),
         Rule::RegParameter => ("a parameter of the kind `reg`", Tools::Icarus),
         Rule::IntegerRange => {

@@ -56,6 +56,7 @@ pub enum Rule {
     FieldKind,
     FieldTwice,
     NamedField,
+    VariableWithoutType,
     // Parameters
     WireParameter,
     RegParameter,

@@ -30,7 +30,7 @@ module_names =
     codes "AddLogicInput" ∷ codes "AddLogicOutput" ∷ codes "AddWire" ∷ codes "AddReg" ∷ codes "AddLogic" ∷ codes "AddParameterPort" ∷
     codes "AddTypedParameterPort" ∷ codes "AddParameter" ∷ codes "AddParameterWithDef" ∷ codes "AddLocalparam" ∷ codes "AddIntLocalparam" ∷
     codes "AddTypedLocalparam" ∷ codes "HoistModuleDeclarations" ∷ codes "AddImport" ∷ codes "AddFileImport" ∷
-    codes "AddEnumTypedef" ∷ codes "AddStructTypedef" ∷ codes "AddFileEnumTypedef" ∷ codes "AddFileStructTypedef" ∷ []
+    codes "AddEnumTypedef" ∷ codes "AddStructTypedef" ∷ codes "AddFileEnumTypedef" ∷ codes "AddFileStructTypedef" ∷ codes "AddVariable" ∷ []
 
 abbrev pub loop_names : List (List ℕ)
 loop_names =

@@ -1,18 +1,18 @@
 -- The tokens of a member's page spell its normal form.
-use Rattle.std.proofs.Common.{◌≡◌, ℕ, List, [], ◌∷◌, ◌++◌, map, Bool, true, false, ◌&&◌, Option, Some, None, IsTrue, refl, append_assoc, append-nil}
+use Rattle.std.proofs.Common.{◌≡◌, ℕ, List, [], ◌∷◌, ◌++◌, map, Bool, true, false, ◌&&◌, ◌||◌, Option, Some, None, IsTrue, refl, append_assoc, append-nil}
 use Rattle.vast_literal.specs.Tokens.{OpenParen, CloseParen, OpenBrace, CloseBrace, Comma, Semicolon, Dot, Key, BeginKey, EndKey, WireKey, RegKey, LogicKey, IntegerKey, IntKey, TypedefKey, EnumKey, PosedgeKey, NegedgeKey, OrKey, Token, Reserved, Word, Mark}
-use Rattle.vast_literal.specs.Tree.{Dialect, ExprTree, NameTree, PosEdgeTree, NegEdgeTree, MacroTree, TypeTree, ScalarTree, VectorTree, IntegerTree, IntTree, PackedTree, UnpackedTree, MaybeExpr, NoExpr, SomeExpr, Exprs, NoExprs, MoreExprs, NoArguments, SomeArguments, Kind, RegKind, WireKind, LogicKind, Declaration, Continuous, AlwaysWord, AlwaysFFWord, AlwaysAtWord, AlwaysCombWord, AlwaysStarWord, AlwaysLatchWord, InitialWord, ParameterName, PlainParameter, IntParameter, DefinedParameter, Connection, InstanceTree, FunctionTree, TypedefTree, EnumTree, StructTree, MemberTree, DeclarationMember, AssignMember, ParameterMember, CommentMember, BlankMember, InlineMember, ImportMember, TypedefMember, MacroMember, InstanceMember, AlwaysMember, ConditionalMember, FunctionMember, LoopMember, Members, NoMembers, MoreMembers}
+use Rattle.vast_literal.specs.Tree.{Dialect, ExprTree, NameTree, PosEdgeTree, NegEdgeTree, MacroTree, TypeTree, ScalarTree, VectorTree, IntegerTree, IntTree, PackedTree, UnpackedTree, MaybeExpr, NoExpr, SomeExpr, Exprs, NoExprs, MoreExprs, NoArguments, SomeArguments, ExternalTree, PackageTree, Kind, RegKind, WireKind, LogicKind, UserKind, Declaration, Continuous, AlwaysWord, AlwaysFFWord, AlwaysAtWord, AlwaysCombWord, AlwaysStarWord, AlwaysLatchWord, InitialWord, ParameterName, PlainParameter, IntParameter, DefinedParameter, Connection, InstanceTree, FunctionTree, TypedefTree, EnumTree, StructTree, MemberTree, DeclarationMember, AssignMember, ParameterMember, CommentMember, BlankMember, InlineMember, ImportMember, TypedefMember, MacroMember, InstanceMember, AlwaysMember, ConditionalMember, FunctionMember, LoopMember, Members, NoMembers, MoreMembers}
 use Rattle.vast_literal.specs.NormalExpr.{NormalExpr}
-use Rattle.vast_literal.specs.NormalFile.{NormalStatements, Group, Event, NormalConnection, AssignPart, EnumPart, InstancePart, NormalMembers}
+use Rattle.vast_literal.specs.NormalFile.{NormalStatements, Group, Event, NormalConnection, DeclarationPart, AssignPart, EnumPart, InstancePart, NormalMembers}
 use Rattle.vast_literal.specs.Grammar.{Spells, name}
-use Rattle.vast_literal.specs.FileGrammar.{IsMany, no_items, more_items, IsJoined, last_item, next_item, IsList, empty, full, IsStatements, is_kind, IsGroup, absent, present, no_type, IsDeclaration, declares, is_member_kind, is_local_kind, is_parameter_word, is_edge, IsEvent, edge, plain, IsInput, input, IsDeclared, declared, IsGiven, given, IsConnection, connected, unconnected, IsGivenList, no_parameters, with_parameters, IsSemicolon, with_one, without, IsLabel, no_label, labelled, IsEntry, valued, counted, IsField, field, IsTypedef, enumeration, structure, IsMember, declaration, continuous, parameter, macro, macro_with, import_member, typedef_member, instance, unclocked, clocked, conditional, function, loop, IsMembers, closed, and_member}
+use Rattle.vast_literal.specs.FileGrammar.{IsMany, no_items, more_items, IsJoined, last_item, next_item, IsList, empty, full, IsStatements, is_kind, IsGroup, absent, present, no_type, IsDeclaration, declares, is_member_kind, is_local_kind, is_parameter_word, is_edge, IsEvent, edge, plain, IsInput, input, IsDeclared, declared, variable, IsGiven, given, IsConnection, connected, unconnected, IsGivenList, no_parameters, with_parameters, IsSemicolon, with_one, without, IsLabel, no_label, labelled, IsEntry, valued, counted, IsField, field, IsTypedef, enumeration, structure, IsMember, declaration, of_type, continuous, parameter, macro, macro_with, import_member, typedef_member, instance, unclocked, clocked, conditional, function, loop, IsMembers, closed, and_member}
 use Rattle.vast_literal.specs.Plain.{is_plain_name, is_plain, are_plain}
-use Rattle.vast_literal.specs.Shape.{base_of, base_kind, result_kind}
+use Rattle.vast_literal.specs.Shape.{base_of, base_kind, is_external, result_kind}
 use Rattle.vast_literal.proofs.ExprTokens.{expr_tokens}
 use Rattle.vast_literal.specs.WellFormed.{is_well_formed, is_well_formed_type}
 use Rattle.vast_literal.specs.NormalTree.{kind_key, package_of, type_name_of, sign_of, normal_declaration, normal_declared, normal_label, parameter_key, normal_parameter_name, normal_arguments, normal_macro, normal_connection, normal_event, normal_events, normal_always, normal_port_declaration, normal_function, normal_typedef, normal_member_before, normal_members}
 use Rattle.vast_literal.proofs.FileTokens.{maybe_tokens, type_name_tokens, declared_tokens, assignment_tokens, separated, parameter_name_tokens, semicolon_tokens, value_tokens, connection_tokens, each_connection, given_tokens, instance_tokens, more_event_tokens, event_tokens, always_tokens, each_input, local_tokens, function_tokens, loop_label_tokens, entry_value_tokens, each_entry, typedef_tokens, member_tokens, members_tokens}
-use Rattle.vast_literal.specs.PlainFile.{is_plain_maybe, is_left_side, is_plain_declaration, is_plain_declared, are_plain_statements, are_plain_alternates, is_plain_event, are_plain_events, are_plain_awaited, is_plain_parameter_name, are_plain_connections, is_plain_instance, is_plain_function, is_plain_label, is_built_in, is_plain_typedef, is_plain_member, are_plain_members}
+use Rattle.vast_literal.specs.PlainFile.{is_plain_maybe, is_left_side, is_plain_declaration, is_plain_declared, is_worded, is_plain_variable, are_plain_statements, are_plain_alternates, is_plain_event, are_plain_events, are_plain_awaited, is_plain_parameter_name, are_plain_connections, is_plain_instance, is_plain_function, is_plain_label, is_built_in, is_plain_typedef, is_plain_member, are_plain_members}
 use Rattle.vast_literal.specs.WellFormedFile.{is_well_formed_maybe, is_own_kind, is_local_word, is_macro, are_well_formed_statements, are_well_formed_alternates, is_well_formed_event, are_well_formed_events, is_well_formed_parameter_name, are_well_formed_connections, is_given, are_given, are_well_formed_inputs, are_well_formed_locals, is_well_formed_function, is_well_formed_typedef, is_well_formed_member, are_well_formed_members}
 use Rattle.vast_literal.proofs.ScanLaws.{and_left, and_right}
 use Rattle.vast_literal.proofs.Spelled.{list_spells, each_spelled}
@@ -112,12 +112,25 @@ always_spelled InitialWord es p w h = unclocked InitialWord refl h
 
 -- declarations
 
-own_kind : (kind : Kind) → is_own_kind kind ≡ true → (k : Key) × (kind_key kind ≡ Some k) × IsTrue (is_member_kind k)
+-- A member is declared with the word of its kind, or with the name of its type.
+data Opening : Kind → Bool → Type 0 where
+  by_kind : {kind : Kind} {external : Bool} (k : Key) → kind_key kind ≡ Some k → IsTrue (is_member_kind k) → Opening kind external
+  by_type : {kind : Kind} → kind_key kind ≡ None → Opening kind true
+
+opening : (kind : Kind) (external : Bool) → is_own_kind kind ≡ true → (is_worded kind || external) ≡ true → Opening kind external
 unfolding kind_key is_member_kind
-own_kind WireKind h = (WireKey, refl, refl)
-own_kind RegKind h = (RegKey, refl, refl)
-own_kind LogicKind h = (LogicKey, refl, refl)
-own_kind _ h = absurd (cc h)
+opening WireKind external h p = by_kind WireKey refl refl
+opening RegKind external h p = by_kind RegKey refl refl
+opening LogicKind external h p = by_kind LogicKey refl refl
+opening UserKind true h p = by_type refl
+opening UserKind false h p = absurd (cc p)
+opening _ external h p = absurd (cc h)
+
+external_name : (base : TypeTree) → is_external base ≡ true → (t : List ℕ) × (type_name_of base ≡ Some t) × (sign_of base ≡ None)
+unfolding type_name_of sign_of
+external_name (ExternalTree n) h = (n, refl, refl)
+external_name (PackageTree p n) h = (n, refl, refl)
+external_name _ h = absurd (cc h)
 
 local_kind : (kind : Kind) → is_local_word kind ≡ true → (k : Key) × (kind_key kind ≡ Some k) × IsTrue (is_local_kind k)
 unfolding kind_key is_local_kind
@@ -129,9 +142,20 @@ kind_of : (dialect : Dialect) (d : Declaration) → (normal_declared dialect d).
 unfolding normal_declared normal_declaration
 kind_of dialect d = refl
 
-own_spelled : (dialect : Dialect) (d : Declaration) → is_plain_declared d ≡ true → (is_own_kind d.kind && is_well_formed_type d.type) ≡ true → IsDeclared is_member_kind (declared_tokens dialect d ++ (Mark Semicolon ∷ [])) (normal_declared dialect d)
-own_spelled dialect d p w = let (k, e, h) = own_kind d.kind (and_left _ _ w) in let f = kind_of dialect d in
-    declared k (cc (e, f)) h (declared_spelled dialect d p (and_right (is_own_kind d.kind) (is_well_formed_type d.type) w))
+type_of : (dialect : Dialect) (d : Declaration) → ((normal_declared dialect d).type_name ≡ type_name_of (base_of d.type)) × ((normal_declared dialect d).sign ≡ sign_of (base_of d.type))
+unfolding normal_declared normal_declaration
+type_of dialect d = (refl, refl)
+
+own_spelled : (dialect : Dialect) (d : Declaration) → is_plain_variable d ≡ true → (is_own_kind d.kind && is_well_formed_type d.type) ≡ true → IsMember (declared_tokens dialect d ++ (Mark Semicolon ∷ [])) (DeclarationPart (normal_declared dialect d))
+own_spelled dialect d p w = opened (is_external (base_of d.type)) refl (opening d.kind _ (and_left _ _ w) (and_left _ (is_plain_declared d) p))
+  where
+    spelled_parts : IsDeclaration (declared_tokens dialect d) (normal_declared dialect d)
+    spelled_parts = declared_spelled dialect d (and_right (is_worded d.kind || is_external (base_of d.type)) (is_plain_declared d) p) (and_right (is_own_kind d.kind) (is_well_formed_type d.type) w)
+
+    opened : (external : Bool) → is_external (base_of d.type) ≡ external → Opening d.kind external → IsMember (declared_tokens dialect d ++ (Mark Semicolon ∷ [])) (DeclarationPart (normal_declared dialect d))
+    opened external x (by_kind k e h) = let f = kind_of dialect d in declaration (declared k (cc (e, f)) h spelled_parts)
+    opened true x (by_type e) = let f = kind_of dialect d in let g = type_of dialect d in let g0 = g.0 in let g1 = g.1 in let (t, n, s) = external_name (base_of d.type) x in
+        of_type (variable t (cc (e, f)) (cc (n, g0)) (cc (s, g1)) spelled_parts)
 
 local_spelled : (dialect : Dialect) (d : Declaration) → is_plain_declared d ≡ true → (is_local_word d.kind && is_well_formed_type d.type) ≡ true → IsDeclared is_local_kind (declared_tokens dialect d ++ (Mark Semicolon ∷ [])) (normal_declared dialect d)
 local_spelled dialect d p w = let (k, e, h) = local_kind d.kind (and_left _ _ w) in let f = kind_of dialect d in
@@ -241,7 +265,7 @@ mutual
       (before_spelled dialect m (and_left _ _ p) (and_left _ _ w) (members_spelled dialect k ms (and_right (is_plain_member m) (are_plain_members ms) p) (and_right (is_well_formed_member m) (are_well_formed_members ms) w)))
 
   before_spelled : (dialect : Dialect) (m : MemberTree) {k : Key} {us : List Token} {xs : NormalMembers} → is_plain_member m ≡ true → is_well_formed_member m ≡ true → IsMembers k us xs → IsMembers k (member_tokens dialect m ++ us) (normal_member_before dialect m xs)
-  before_spelled dialect (DeclarationMember d) p w rest = and_member (declaration (own_spelled dialect d p w)) rest
+  before_spelled dialect (DeclarationMember d) p w rest = and_member (own_spelled dialect d p w) rest
   before_spelled dialect (AssignMember l r) p w rest =
       and_member (assign_member (left_spelled l (and_left (is_left_side l && is_plain l) (is_plain r) p) (and_left _ _ w)) (value_spelled r (and_right (is_left_side l && is_plain l) (is_plain r) p) (and_right (is_well_formed l) (is_well_formed r) w))) rest
   before_spelled dialect (ParameterMember local n v) p w rest =

@@ -160,6 +160,10 @@ pub data IsInput : List Token → NormalDeclaration → Type 0 where
 pub data IsDeclared (test : Key → Bool) : List Token → NormalDeclaration → Type 0 where
   declared : {ds : List Token} {d : NormalDeclaration} (k : Key) → d.kind ≡ Some k → IsTrue (test k) → IsDeclaration ds d → IsDeclared test (ds ++ (Mark Semicolon ∷ [])) d
 
+-- A declaration of a type's name without a kind and a sign, and a semicolon.
+pub data IsVariable : List Token → NormalDeclaration → Type 0 where
+  variable : {ds : List Token} {d : NormalDeclaration} (t : List ℕ) → d.kind ≡ None → d.type_name ≡ Some t → d.sign ≡ None → IsDeclaration ds d → IsVariable (ds ++ (Mark Semicolon ∷ [])) d
+
 -- . n ( X )
 pub data IsGiven : List Token → NormalConnection → Type 0 where
   given : {xs : List Token} {x : NormalExpr} (n : List ℕ) → Spells 0 xs x → IsGiven (Mark Dot ∷ (Word n ∷ (Mark OpenParen ∷ (xs ++ (Mark CloseParen ∷ []))))) (record { name = n; value = Some x })
@@ -211,6 +215,8 @@ mutual
   -- The tokens spell the member.
   pub data IsMember : List Token → NormalMember → Type 0 where
     declaration : {ds : List Token} {d : NormalDeclaration} → IsDeclared is_member_kind ds d → IsMember ds (DeclarationPart d)
+    -- T n ; and p :: T n ;
+    of_type : {ds : List Token} {d : NormalDeclaration} → IsVariable ds d → IsMember ds (DeclarationPart d)
     -- assign L = X ;
     continuous : {ls rs : List Token} {l r : NormalExpr} → Spells 13 ls l → Spells 0 rs r →
         IsMember (Reserved AssignKey ∷ (ls ++ (Mark Assign ∷ (rs ++ (Mark Semicolon ∷ []))))) (AssignPart l r)

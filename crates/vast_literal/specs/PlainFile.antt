@@ -3,11 +3,11 @@ use Rattle.std.specs.Prelude.{ℕ, List, [], ◌∷◌, Bool, true, false, not, 
 use Rattle.vast_literal.specs.Tree.{ExprTree, NameTree, IndexTree, SliceTree, PartSelectTree, MemberOfTree, ConcatTree, PosEdgeTree, NegEdgeTree, MacroTree, CallTree, TypeTree, ScalarTree, VectorTree, IntegerTree, IntTree}
 use Rattle.vast_literal.specs.Tree.{MaybeExpr, NoExpr, SomeExpr, Exprs, NoExprs, MoreExprs, MaybeType, Untyped, Typed, Declaration}
 use Rattle.vast_literal.specs.Tree.{StatementTree, AssignTree, TaskTree, InlineTree, ConditionalTree, CaseTree, ForTree, Statements, NoStatements, MoreStatements, Alternates, NoElse, ElseIf, Else, CaseArms, NoCaseArms, CaseArm}
-use Rattle.vast_literal.specs.Tree.{AlwaysWord, ParameterName, PlainParameter, IntParameter, DefinedParameter, Connection, InstanceTree, FunctionTree, TypedefTree, EnumTree, StructTree}
+use Rattle.vast_literal.specs.Tree.{AlwaysWord, Kind, UserKind, UntypedEnumKind, ParameterName, PlainParameter, IntParameter, DefinedParameter, Connection, InstanceTree, FunctionTree, TypedefTree, EnumTree, StructTree}
 use Rattle.vast_literal.specs.Tree.{MemberTree, DeclarationMember, AssignMember, ParameterMember, InlineMember, ImportMember, TypedefMember, MacroMember, InstanceMember, AlwaysMember, ConditionalMember, FunctionMember, LoopMember, Members, NoMembers, MoreMembers}
 use Rattle.vast_literal.specs.Tree.{PortTree, ParameterPortTree, ModuleTree, FileItemTree, ModuleItem, IncludeItem, ImportItem, TypedefItem, FileTree}
 use Rattle.vast_literal.specs.LiteralToken.{every}
-use Rattle.vast_literal.specs.Shape.{has_events}
+use Rattle.vast_literal.specs.Shape.{has_events, base_of, is_external}
 use Rattle.vast_literal.specs.Plain.{is_plain_name, is_plain, is_plain_type}
 
 abbrev pub is_plain_maybe : MaybeExpr → Bool
@@ -30,6 +30,16 @@ is_plain_declaration type name = is_plain_name name && is_plain_type type
 
 abbrev pub is_plain_declared : Declaration → Bool
 is_plain_declared d = is_plain_declaration d.type d.name
+
+-- A kind that is written as a word.
+abbrev pub is_worded : Kind → Bool
+is_worded UserKind = false
+is_worded UntypedEnumKind = false
+is_worded _ = true
+
+-- Before the name that a module declares stands a kind's word or a type's name.
+abbrev pub is_plain_variable : Declaration → Bool
+is_plain_variable d = (is_worded d.kind || is_external (base_of d.type)) && is_plain_declared d
 
 abbrev mutual
   -- No inline text stands in the statement, and its names are plain.
@@ -97,7 +107,7 @@ is_plain_typedef (StructTree name fields) = is_plain_name name && every is_plain
 
 abbrev mutual
   pub is_plain_member : MemberTree → Bool
-  is_plain_member (DeclarationMember d) = is_plain_declared d
+  is_plain_member (DeclarationMember d) = is_plain_variable d
   is_plain_member (AssignMember left right) = is_plain_assignment left right
   is_plain_member (ParameterMember local parameter value) = is_plain_parameter_name parameter && is_plain value
   is_plain_member (InlineMember text) = false
@@ -141,7 +151,9 @@ are_plain_items (TypedefItem t ∷ items) = is_plain_typedef t && are_plain_item
 are_plain_items (_ ∷ items) = are_plain_items items
 
 -- The names of the file's modules, instances, ports, connections, parameters, labels, loops, packages, types and macros are plain, no
--- inline text stands in it, edges stand only in the lists of events, left sides are names, selects, members and concatenations, and what
--- stands as a statement by itself is a call, and enumerations are over bits, vectors and integers. What isn't printed is not asked: the types of names, and events that aren't listed.
+-- inline text stands in it, edges stand only in the lists of events, left sides are names, selects, members and concatenations, what
+-- stands as a statement by itself is a call, enumerations are over bits, vectors and integers, and what a module declares without a
+-- kind has a type's name. What isn't printed is not
+-- asked: the types of names, and events that aren't listed.
 abbrev pub is_plain_file : FileTree → Bool
 is_plain_file f = are_plain_items f.items

@@ -1,6 +1,6 @@
 -- Well-formed files: those whose expressions are well formed and whose kinds, events and macros are such. Each file that was built is one.
 use Rattle.std.specs.Prelude.{List, [], ◌∷◌, Bool, true, false, ◌&&◌}
-use Rattle.vast_literal.specs.Tree.{ExprTree, NameTree, PosEdgeTree, NegEdgeTree, MacroTree, Kind, WireKind, RegKind, LogicKind}
+use Rattle.vast_literal.specs.Tree.{ExprTree, NameTree, PosEdgeTree, NegEdgeTree, MacroTree, Kind, WireKind, RegKind, LogicKind, UserKind}
 use Rattle.vast_literal.specs.Tree.{MaybeExpr, NoExpr, SomeExpr, Exprs, NoExprs, MoreExprs, MaybeType, Untyped, Typed, Declaration}
 use Rattle.vast_literal.specs.Tree.{StatementTree, AssignTree, TaskTree, ConditionalTree, CaseTree, ForTree, Statements, NoStatements, MoreStatements, Alternates, NoElse, ElseIf, Else, CaseArms, NoCaseArms, CaseArm}
 use Rattle.vast_literal.specs.Tree.{ParameterName, PlainParameter, IntParameter, DefinedParameter, Connection, FunctionTree, TypedefTree, EnumTree, StructTree}
@@ -17,6 +17,7 @@ abbrev pub is_own_kind : Kind → Bool
 is_own_kind WireKind = true
 is_own_kind RegKind = true
 is_own_kind LogicKind = true
+is_own_kind UserKind = true
 is_own_kind _ = false
 
 abbrev pub is_local_word : Kind → Bool
@@ -136,7 +137,7 @@ are_well_formed_items (TypedefItem t ∷ items) = is_well_formed_typedef t && ar
 are_well_formed_items (CommentItem text ∷ items) = are_well_formed_items items
 are_well_formed_items (BlankItem ∷ items) = are_well_formed_items items
 
--- All expressions of the file are well formed, declarations of modules are wires, regs and logics, locals regs and logics, events
--- edges and names, and what stands as a macro is one.
+-- All expressions of the file are well formed, declarations of modules are wires, regs, logics and variables without a kind, locals
+-- regs and logics, events edges and names, and what stands as a macro is one.
 abbrev pub is_well_formed_file : FileTree → Bool
 is_well_formed_file f = are_well_formed_items f.items

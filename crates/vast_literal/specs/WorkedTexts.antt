@@ -53,6 +53,10 @@ ternary_label = AlwaysPart AlwaysCombWord [] (Then (CaseStatement false CasezKey
 unfoldable pub typed_wire : NormalMember
 typed_wire = DeclarationPart (record { kind = Some WireKey; package_name = None; type_name = Some (codes "t"); sign = None; groups = Range (Literal (codes "1")) (Literal (codes "0")) ∷ []; name = codes "x"; behind = [] })
 
+-- a variable x of the type t
+unfoldable pub typed_variable : NormalMember
+typed_variable = DeclarationPart (record { kind = None; package_name = None; type_name = Some (codes "t"); sign = None; groups = []; name = codes "x"; behind = [] })
+
 -- an array x of two wires, of no named type
 unfoldable pub wire_array : NormalMember
 wire_array = DeclarationPart (record { kind = Some WireKey; package_name = None; type_name = None; sign = None; groups = []; name = codes "x"; behind = Range (Literal (codes "0")) (Literal (codes "1")) ∷ [] })
@@ -119,6 +123,7 @@ pub record WorkedTexts : Type 0 where
   pub labelled_by_ternary : HasOneFile (codes "module m; always_comb begin casez (s) a ? b : c: x = 1; endcase end endmodule") (module_of ternary_label)
   -- A name before another is a type; one before brackets is what is declared.
   pub wire_of_type : HasOneFile (codes "module m; wire t [1:0] x; endmodule") (module_of typed_wire)
+  pub variable_of_type : HasOneFile (codes "module m; t x; endmodule") (module_of typed_variable)
   pub wire_of_name : HasOneFile (codes "module m; wire x [0:1]; endmodule") (module_of wire_array)
   -- A loop goes on while its name is less than something, and not while a disjunction holds.
   pub no_disjunction : HasNoFile (codes "module m; for (genvar i = 0; i < a || b; i = i + 1) begin end endmodule")

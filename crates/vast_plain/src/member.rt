@@ -15,7 +15,7 @@ use crate::names::{is_plain_label, is_plain_name};
 use crate::parts::{is_plain_always, is_plain_function, is_plain_instance, is_plain_parameter};
 use crate::statement::{is_plain_assignment, is_plain_conditional};
 use crate::typedefs::is_plain_typedef;
-use crate::types::is_plain_declaration;
+use crate::types::is_plain_variable;
 use std::alloc::AllocError;
 use vast_core::{Ast, GenerateLoop, LoopNode, Member};
 
@@ -28,7 +28,7 @@ fn is_plain_member(ast: &Ast, member: &Member) -> Result<bool, AllocError>
         (is_plain_member (member_tree (bench ast.now) member.now)) result }
 {
     match member {
-        Member::Declaration(_, name, t) => is_plain_declaration(ast, *t, name.as_str()),
+        Member::Declaration(kind, name, t) => is_plain_variable(ast, *kind, *t, name.as_str()),
         Member::ContinuousAssignment(a) => is_plain_assignment(ast, ast.continuous(*a)),
         Member::Parameter(_, form, value) => is_plain_parameter(ast, form, *value),
         Member::BlankLine => Ok(true),

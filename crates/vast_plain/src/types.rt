@@ -1,17 +1,19 @@
 //! Types and declarations. Arrays of arrays are walked to what they are made of.
 
-ghost use Rattle.std.specs.Prelude.{◌≡◌, ◌+◌, ◌≤◌, ◌&&◌, All, OnOk};
+ghost use Rattle.std.specs.Prelude.{◌≡◌, ◌+◌, ◌≤◌, ◌&&◌, ◌||◌, All, OnOk};
 ghost use Rattle.vast_literal.specs.Plain.{are_plain, is_plain, is_plain_type};
-ghost use Rattle.vast_literal.specs.PlainFile.{is_plain_declaration};
+ghost use Rattle.vast_literal.specs.PlainFile.{is_plain_declaration, is_plain_variable, is_worded};
+ghost use Rattle.vast_literal.specs.Shape.{base_of, is_external};
 ghost use Rattle.vast_core.specs.Bench.{OwnsExpr, OwnsType, OwnsDimension, trees_of, type_of, size_of};
 ghost use Rattle.vast_core.specs.Internal.BitCount.{sizes_of};
+ghost use Rattle.vast_core.specs.FileTree.{declared};
 ghost use Rattle.vast_core.specs.View.{bench};
 ghost use Rattle.vast_plain.specs.Internal.Values.{Answers, Begins, expr_weight, exprs_weight, type_weight};
 
 use crate::expression::{are_plain_values, wait};
 use crate::names::is_plain_name;
 use std::alloc::AllocError;
-use vast_core::{Ast, Dimension, Expr, TypeNode, VastDataType};
+use vast_core::{Ast, DataKind, Dimension, Expr, TypeNode, VastDataType};
 
 /// Lets a dimension wait. A number is always plain.
 #[tactic(auto, using(crate::proofs::Values::heads))]
@@ -120,4 +122,41 @@ pub(crate) fn is_plain_declaration(
     ensures { Answers (is_plain_declaration (type_of (bench ast.now) t) name.now) result }
 {
     Ok(is_plain_name(name) && is_plain_type(ast, t)?)
+}
+
+/// Whether the kind is written as a word.
+fn is_worded(kind: DataKind) -> bool
+    ensures { result ≡ is_worded kind }
+{
+    match kind {
+        DataKind::Reg => true,
+        DataKind::Wire => true,
+        DataKind::Logic => true,
+        DataKind::Integer => true,
+        DataKind::Int => true,
+        DataKind::User => false,
+        DataKind::UntypedEnum => false,
+        DataKind::Genvar => true,
+    }
+}
+
+/// Whether a word stands before what is declared, that of a kind or the name of a type.
+fn has_first_word(ast: &Ast, kind: DataKind, t: VastDataType) -> bool
+    requires { OwnsType (bench ast.now) t }
+    ensures { result ≡ (is_worded kind || is_external (base_of (type_of (bench ast.now) t))) }
+{
+    is_worded(kind) || ast.is_external(t)
+}
+
+/// Whether a word stands before what a module declares, and its name and type are plain.
+pub(crate) fn is_plain_variable(
+    ast: &Ast,
+    kind: DataKind,
+    t: VastDataType,
+    name: &str,
+) -> Result<bool, AllocError>
+    requires { OwnsType (bench ast.now) t }
+    ensures { Answers (is_plain_variable (declared (bench ast.now) kind name.now t)) result }
+{
+    Ok(has_first_word(ast, kind, t) && is_plain_declaration(ast, t, name)?)
 }

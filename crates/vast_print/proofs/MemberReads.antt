@@ -59,7 +59,7 @@ mutual
 
   -- The page of a plain, well-formed member that is printed without a refusal brings its tokens.
   pub member_whole : (dialect : Dialect) (m : MemberTree) → is_plain_member m ≡ true → is_well_formed_member m ≡ true → Whole (member_page dialect m) (member_tokens dialect m)
-  member_whole dialect (DeclarationMember d) p w = whole_written (closed (declared_reads dialect d p (search halves)) semicolon)
+  member_whole dialect (DeclarationMember d) p w = whole_written (closed (declared_reads dialect d (search halves) (search halves)) semicolon)
   member_whole dialect (AssignMember l r) p w = whole (assignment_open Continuous l r p w)
   member_whole dialect (ParameterMember local n v) p w = whole_written (simp printed_assoc (after (stands _ (parameter_free local)) (enclosing (parameter_name_reads dialect n (search halves) (search halves)) equals
       (expr_reads v (search halves) (search halves)) semicolon)))

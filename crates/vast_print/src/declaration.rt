@@ -11,7 +11,7 @@ ghost use Rattle.vast_print.specs.Declaration.{declaration_text};
 ghost use Rattle.vast_print.specs.Layout.{port_text, direction_word};
 
 use crate::refusal::PrintFault;
-use crate::types::{is_external, print_dimensions, print_type};
+use crate::types::{print_dimensions, print_type};
 use crate::writer::Writer;
 use vast_core::{Ast, DataKind, ModulePortDirection, Port, VastDataType};
 
@@ -66,7 +66,7 @@ pub(crate) fn port_kind(ast: &Ast, kind: DataKind, t: VastDataType) -> DataKind
     requires { OwnsType (bench ast.now) t }
     ensures { result ≡ port_kind kind (type_of (bench ast.now) t) }
 {
-    if is_external(ast, t) {
+    if ast.is_external(t) {
         DataKind::User
     } else {
         kind

@@ -26,7 +26,7 @@ use crate::words;
 use crate::writer::Writer;
 use vast_core::{Ast, DataKind, MacroRef, Member, VastDataType};
 
-/// Writes a wire, reg or logic on a line of its own.
+/// Writes a wire, reg, logic or variable without a kind on a line of its own.
 #[tactic(auto, using(crate::proofs::ArenaLaws::members))]
 fn print_variable(
     ast: &Ast,

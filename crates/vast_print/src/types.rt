@@ -2,7 +2,7 @@
 
 ghost use Rattle.std.specs.Prelude.{◌≡◌, ◌-ℤ◌, pos, All};
 ghost use Rattle.std.specs.Fmt.{signed_decimal};
-ghost use Rattle.vast_literal.specs.Shape.{literal_value, base_of, packed_dimensions, unpacked_dimensions, is_external};
+ghost use Rattle.vast_literal.specs.Shape.{literal_value, packed_dimensions, unpacked_dimensions};
 ghost use Rattle.vast_core.specs.Bench.{OwnsExpr, OwnsType, OwnsDimension, tree_of, type_of, size_of};
 ghost use Rattle.vast_core.specs.Internal.BitCount.{sizes_of};
 ghost use Rattle.vast_core.specs.View.{bench};
@@ -19,18 +19,6 @@ use crate::refusal::PrintFault;
 use crate::words;
 use crate::writer::Writer;
 use vast_core::{Ast, Dimension, Expr, TypeNode, VastDataType, VastFileType};
-
-/// Whether a type is declared elsewhere, through arrays.
-pub(crate) fn is_external(ast: &Ast, t: VastDataType) -> bool
-    requires { OwnsType (bench ast.now) t }
-    ensures { result ≡ is_external (base_of (type_of (bench ast.now) t)) }
-{
-    match ast.data_type(ast.base_type(t)) {
-        TypeNode::External(_) => true,
-        TypeNode::Package(_) => true,
-        _ => false,
-    }
-}
 
 /// The highest index of a number of elements or bits: the number minus one.
 pub(crate) fn print_highest_index(value: i64, out: &mut Writer) -> Result<(), PrintFault>

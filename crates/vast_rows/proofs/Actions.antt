@@ -6,13 +6,13 @@ use Rattle.vast_literal.specs.declared.kind.AlwaysKind.{AlwaysKind as AlwaysWord
 use Rattle.vast_literal.specs.declared.kind.AlwaysKind.TheVariants.{AlwaysFF as AlwaysFFWord, AlwaysAt as AlwaysAtWord, AlwaysComb as AlwaysCombWord, AlwaysStar as AlwaysStarWord, AlwaysLatch as AlwaysLatchWord, Initial as InitialWord}
 use Rattle.vast_rows.specs.Numbers.{Key, key_number, IfKey}
 use Rattle.vast_rows.specs.declared.action.Action.{Action}
-use Rattle.vast_rows.specs.declared.action.Action.TheVariants.{Nothing, Yes, No, ModuleItem, IncludeItem, HeaderParameter, DeclarationMember, AssignMember, MacroMember, InstanceMember, ConditionalMember, FunctionMember, LoopMember, NameBefore, Packaged, Declares, GroupOf, Connects, ChangeOf, Assigns, AssignsByWord, Chooses, UniqueCase, Conditional, NoArms, Arm, DefaultArm, ImportItem, ImportMember, Repeats, MemberItem, EnumMember, StructMember, Unnamed, NoMore, OneMore, PortOf, ParameterMember, AlwaysMember, KindOf, SignOf, EdgeOf, CaseOf}
+use Rattle.vast_rows.specs.declared.action.Action.TheVariants.{Nothing, Yes, No, ModuleItem, IncludeItem, HeaderParameter, DeclarationMember, AssignMember, MacroMember, NamedMember, ConditionalMember, FunctionMember, LoopMember, NameBefore, Packaged, Declares, GroupOf, Connects, ChangeOf, Assigns, AssignsByWord, Chooses, UniqueCase, Conditional, NoArms, Arm, DefaultArm, ImportItem, ImportMember, Repeats, MemberItem, EnumMember, StructMember, Unnamed, NoMore, OneMore, PortOf, ParameterMember, AlwaysMember, KindOf, SignOf, EdgeOf, CaseOf}
 use Rattle.vast_rows.specs.declared.action.Listed.{Listed}
 use Rattle.vast_rows.specs.declared.action.Listed.TheVariants as listed
 use Rattle.vast_rows.specs.Internal.Orders.{keys}
 
 abbrev plain : List Action
-plain = Nothing ∷ Yes ∷ No ∷ ModuleItem ∷ IncludeItem ∷ HeaderParameter ∷ DeclarationMember ∷ AssignMember ∷ MacroMember ∷ InstanceMember ∷ ConditionalMember ∷ FunctionMember ∷ LoopMember ∷ NameBefore ∷ Packaged ∷ Declares ∷ GroupOf ∷ Connects ∷ ChangeOf ∷ Assigns ∷ AssignsByWord ∷ Chooses ∷ UniqueCase ∷ Conditional ∷ NoArms ∷ Arm ∷ DefaultArm ∷ ImportItem ∷ ImportMember ∷ Repeats ∷ MemberItem ∷ EnumMember ∷ StructMember ∷ Unnamed ∷ []
+plain = Nothing ∷ Yes ∷ No ∷ ModuleItem ∷ IncludeItem ∷ HeaderParameter ∷ DeclarationMember ∷ AssignMember ∷ MacroMember ∷ NamedMember ∷ ConditionalMember ∷ FunctionMember ∷ LoopMember ∷ NameBefore ∷ Packaged ∷ Declares ∷ GroupOf ∷ Connects ∷ ChangeOf ∷ Assigns ∷ AssignsByWord ∷ Chooses ∷ UniqueCase ∷ Conditional ∷ NoArms ∷ Arm ∷ DefaultArm ∷ ImportItem ∷ ImportMember ∷ Repeats ∷ MemberItem ∷ EnumMember ∷ StructMember ∷ Unnamed ∷ []
 
 abbrev lists : List Listed
 lists = listed.Item ∷ listed.Parameter ∷ listed.Port ∷ listed.Member ∷ listed.Group ∷ listed.Declaration ∷ listed.Expression ∷ listed.Connection ∷ listed.Event ∷ listed.Statement ∷ []

@@ -16,7 +16,7 @@ use Rattle.vast_rows.proofs.Means.{AllMake, folds, ◌&◌}
 use Rattle.vast_rows.proofs.Meant.{MeantBy, is_key, is_arrow, is_macro, is_nothing, no_tails, more_tails}
 use Rattle.vast_rows.proofs.MakesDeclarations.{declaration0, declaration1, declarator0, declarator1, declarator2, after_word0, after_word1, after_word2, own_type0, signed_name0, signed_name1, grouped_name0, after_groups0, after_groups1, first_groups0, groups0, groups1, group0, group_end0, group_end1}
 use Rattle.vast_rows.proofs.MakesStatements.{lone_case0, statements0, statements1, statement0, statement1, statement2, statement3, statement4, after_target0, after_target1, assignment0, choice0, else0, else1, branch0, branch1, unique0, unique1, case0, case1, case2, arms0, arms1, arms2, bare_arms0, bare_arms1, bare_arms2, arm_body0, arm_body1}
-use Rattle.vast_rows.proofs.MakesMembers.{file0, file1, item0, item1, item2, item3, parameters0, parameters1, parameter0, ports0, ports1, port0, module_members0, module_members1, loop_members0, loop_members1, member0, member1, member2, member3, member4, member5, member6, member7, member8, member9, member10, member11, member12, member13, member14, member15, awaited0, awaited1, macro0, arguments0, arguments1, expressions0, expressions1, more_expressions0, more_expressions1, semicolon0, semicolon1, given_list0, given_list1, given0, connections0, connections1, connection0, connected0, connected1, events0, events1, event0, event1, event2, inputs0, inputs1, input0, locals0, locals1, local0, function_body0, function_body1, label0, label1, typedef0, type_form0, type_form1, base_sign0, base_sign1, base_groups0, entries0, entries1, entry0, entry_value0, entry_value1, fields0, fields1, field0}
+use Rattle.vast_rows.proofs.MakesMembers.{file0, file1, item0, item1, item2, item3, parameters0, parameters1, parameter0, ports0, ports1, port0, module_members0, module_members1, loop_members0, loop_members1, member0, member1, member2, member3, member4, member5, member6, member7, member8, member9, member10, member11, member12, member13, member14, member15, awaited0, awaited1, macro0, arguments0, arguments1, expressions0, expressions1, more_expressions0, more_expressions1, semicolon0, semicolon1, after_name0, after_name1, after_name2, after_name3, typed_name0, after_names0, after_names1, after_names2, given_list0, given0, connections0, connections1, connection0, connected0, connected1, events0, events1, event0, event1, event2, inputs0, inputs1, input0, locals0, locals1, local0, function_body0, function_body1, label0, label1, typedef0, type_form0, type_form1, base_sign0, base_sign1, base_groups0, entries0, entries1, entry0, entry_value0, entry_value1, fields0, fields1, field0}
 use Rattle.vast_rows.proofs.MembersToRows.{items_to}
 use Rattle.vast_rows.proofs.OnePage.{page_once}
 
@@ -34,7 +34,8 @@ makes =
     member9 & member10 & member11 & member12 & member13 & member14 & member15 & is_key WireKey refl & is_key RegKey refl & is_key LogicKey refl &
     is_nothing & awaited0 & awaited1 & macro0 &
     is_macro (codes "include") & arguments0 & arguments1 & expressions0 & expressions1 & more_expressions0 & more_expressions1 &
-    semicolon0 & semicolon1 & given_list0 & given_list1 & given0 & no_tails & more_tails & connections0 & connections1 &
+    semicolon0 & semicolon1 & after_name0 & after_name1 & after_name2 & after_name3 & typed_name0 & after_names0 &
+    after_names1 & after_names2 & given_list0 & given0 & no_tails & more_tails & connections0 & connections1 &
     connection0 & connected0 & connected1 & no_tails & more_tails & events0 & events1 & event0 & event1 & event2 & no_tails &
     more_tails & inputs0 & inputs1 & input0 & no_tails & more_tails & locals0 & locals1 & local0 & is_key RegKey refl &
     is_key LogicKey refl & function_body0 & function_body1 & lone_case0 & is_nothing & label0 & label1 &

@@ -4,12 +4,12 @@ use Rattle.vast_literal.specs.FileGrammar.{assignment}
 use Rattle.vast_literal.specs.NormalExpr.{NormalExprs, NoNormals, MoreNormals}
 use Rattle.vast_literal.specs.NormalFile as normal
 use Rattle.vast_literal.specs.NormalFile.{NormalStatement, BlockingStatement, NonblockingStatement, AssignStatement, TaskStatement, ChoiceStatement, CaseStatement, ForStatement, NormalStatements, Done, Then, Arms, Only, Otherwise, Or, Labels, NoLabels, Label, Group, One, Range, NormalDeclaration, EdgeEvent, NameEvent, NormalConnection, NormalMember, DeclarationPart, AssignPart, ParameterPart, MacroPart, ImportPart, EnumPart, StructPart, InstancePart, AlwaysPart, ConditionalPart, FunctionPart, LoopPart, NormalMembers, NoParts, MoreParts, NormalParameter, NormalPort, NormalItem, ModulePart, IncludePart, FileImportPart, MemberPart, NormalFile}
-use Rattle.vast_rows.specs.Built.{Seen, SeenAnswer, SeenExpressions, SeenGroup, SeenGroups, SeenDeclaration, SeenDeclarations, SeenConnection, SeenConnections, SeenEvent, SeenEvents, SeenStatement, SeenStatements, SeenArms, SeenLabels, SeenMember, SeenMembers, SeenParameter, SeenParameters, SeenPort, SeenPorts, SeenItem, SeenFile, of_one, of_two, of_three, of_four, make_none, make_more, declared, name_before, name_behind, assigned, alternated, make, happens, built}
+use Rattle.vast_rows.specs.Built.{Seen, SeenAnswer, SeenExpressions, SeenGroup, SeenGroups, SeenDeclaration, SeenDeclarations, SeenConnection, SeenConnections, SeenEvent, SeenEvents, SeenStatement, SeenStatements, SeenArms, SeenLabels, SeenMember, SeenMembers, SeenParameter, SeenParameters, SeenPort, SeenPorts, SeenItem, SeenFile, of_one, of_two, of_three, of_four, make_none, make_more, declared, name_before, name_behind, named_member, assigned, alternated, make, happens, built}
 use Rattle.vast_rows.specs.Events.{Event, Makes, Names}
 use Rattle.vast_rows.specs.Laws.{TraceBuilds, TraceIsOne}
 use Rattle.vast_rows.specs.Numbers.{Key}
-use Rattle.vast_rows.specs.Trace.{answer, trace_list, trace_statement, trace_statements, trace_arms, trace_labels, trace_group, trace_groups, trace_key, trace_package, trace_type, trace_named, trace_declaration, trace_declarations, trace_expressions, trace_arguments, trace_value, trace_connection, trace_connections, trace_event, trace_events, trace_label, trace_base, trace_member, trace_members, trace_parameter, trace_parameters, trace_port, trace_ports, trace_item, trace}
-use Rattle.vast_rows.specs.declared.action.Action.TheVariants.{KindOf, SignOf, Declares}
+use Rattle.vast_rows.specs.Trace.{answer, trace_list, trace_statement, trace_statements, trace_arms, trace_labels, trace_group, trace_groups, trace_key, trace_package, trace_type, trace_named, trace_declaration, trace_declarations, trace_variable, trace_expressions, trace_arguments, trace_value, trace_connection, trace_connections, trace_given, trace_event, trace_events, trace_label, trace_base, trace_member, trace_members, trace_parameter, trace_parameters, trace_port, trace_ports, trace_item, trace}
+use Rattle.vast_rows.specs.declared.action.Action.TheVariants.{NamedMember, KindOf, SignOf, Declares}
 use Rattle.vast_rows.specs.declared.action.Listed.{Listed}
 use Rattle.vast_rows.specs.declared.action.Listed.TheVariants as listed
 
@@ -113,6 +113,15 @@ declarations_build d p = list_builds listed.Declaration trace_declaration SeenDe
 
 -- Members.
 
+variable_builds : {es : List Event} {vs : List Seen} (k s : Option Key) (t w : Option (List ℕ)) (g : List Group) (n : List ℕ) (h : List Group) → Builds es vs → Builds (trace_variable k s t w g n h es) (SeenMember (DeclarationPart (declared_as k w t s g n h)) ∷ vs)
+unfolding trace_variable make of_one name_before named_member
+variable_builds None None (Some t) None [] n h p = on (on (on (on (groups_build h p) refl) refl) refl) refl
+variable_builds None None (Some t) None (x ∷ g) n h p = on (on (base_builds (x ∷ g) n h p) refl) refl
+variable_builds None None (Some t) (Some w) g n h p = on (on (on (on (on (base_builds g n h p) refl) refl) refl) refl) refl
+variable_builds None None None w g n h p = on (kind_builds None (named_builds w None None g n h p)) refl
+variable_builds None (Some s) t w g n h p = on (kind_builds None (named_builds w t (Some s) g n h p)) refl
+variable_builds (Some k) s t w g n h p = on (kind_builds (Some k) (named_builds w t s g n h p)) refl
+
 expressions_build : {es : List Event} {vs : List Seen} (xs : NormalExprs) → Builds es vs → Builds (trace_expressions xs es) (SeenExpressions xs ∷ vs)
 unfolding trace_expressions make make_none make_more of_one of_two
 expressions_build NoNormals p = on p refl
@@ -135,6 +144,11 @@ connections_build : {es : List Event} {vs : List Seen} (c : List NormalConnectio
 unfolding make_none make_more of_one of_two
 connections_build c p = list_builds listed.Connection trace_connection SeenConnection SeenConnections refl (λ x xs vs. refl) connection_builds c p
 
+given_builds : {es : List Event} {vs : List Seen} (m : List ℕ) (q : List NormalConnection) (i : List ℕ) (c : List NormalConnection) → Builds es (SeenConnections c ∷ vs) → Builds (Makes NamedMember ∷ Names m ∷ trace_given q i es) (SeenMember (InstancePart m q i c) ∷ vs)
+unfolding trace_given make of_one of_two name_before named_member
+given_builds m [] i c p = on (on (on (on p refl) refl) refl) refl
+given_builds m (x ∷ q) i c p = on (on (connections_build (x ∷ q) (on p refl)) refl) refl
+
 event_builds : (e : normal.Event) (es : List Event) (vs : List Seen) → Builds es vs → Builds (trace_event e es) (SeenEvent e ∷ vs)
 unfolding trace_event make of_one
 event_builds (EdgeEvent k x) es vs p = on (on p refl) refl
@@ -152,7 +166,7 @@ mutual
   unfolding trace_member trace_members trace_arguments trace_label make make_none make_more of_one of_two of_three of_four
 
   member_builds : {es : List Event} {vs : List Seen} (m : NormalMember) → Builds es vs → Builds (trace_member m es) (SeenMember m ∷ vs)
-  member_builds (DeclarationPart d) p = on (declaration_builds d _ _ p) refl
+  member_builds (DeclarationPart d) p = variable_builds d.kind d.sign d.type_name d.package_name d.groups d.name d.behind p
   member_builds (AssignPart l r) p = on (on (on p refl) refl) refl
   member_builds (ParameterPart k d x) p = on (declaration_builds d _ _ (on p refl)) refl
   member_builds (MacroPart m None s) p = on (on (on (answer_builds s p) refl) refl) refl
@@ -160,7 +174,7 @@ mutual
   member_builds (ImportPart w) p = on (on p refl) refl
   member_builds (EnumPart d e) p = on (unnamed_builds d (connections_build e (on (groups_build d.behind p) refl))) refl
   member_builds (StructPart n d) p = on (declarations_build d (on p refl)) refl
-  member_builds (InstancePart m q i c) p = on (on (connections_build q (on (connections_build c p) refl)) refl) refl
+  member_builds (InstancePart m q i c) p = given_builds m q i c (connections_build c p)
   member_builds (AlwaysPart k e b) p = on (events_build e (statements_build b p)) refl
   member_builds (ConditionalPart a) p = on (arms_build a p) refl
   member_builds (FunctionPart d i l b) p = on (declaration_builds d _ _ (declarations_build i (declarations_build l (statements_build b p)))) refl

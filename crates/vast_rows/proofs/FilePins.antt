@@ -7,8 +7,8 @@ use Rattle.vast_literal.specs.Scan.{tokens}
 use Rattle.vast_literal.specs.NormalExpr.{Name, Literal}
 use Rattle.vast_literal.specs.NormalFile.{BlockingStatement, CaseStatement, Done, Then, NoLabels, Label, NormalFile}
 use Rattle.vast_literal.specs.Grammar.{Spells, ternary, binary, name, number}
-use Rattle.vast_literal.specs.FileGrammar.{no_items, more_items, empty, arrow, assignment, not_unique, casez_word, simple, cases, IsCases, cased, assigns, done, then, no_labels, label, default, bare, is_kind, range, absent, present, no_type, own_type, declares, is_member_kind, declared, block_body, casez_body, declaration, unclocked, function, IsFile, DerivesFile}
-use Rattle.vast_literal.specs.WorkedTexts.{HasOneFile, module_of, given_comparison, ternary_label, typed_wire, wire_array, casez_function}
+use Rattle.vast_literal.specs.FileGrammar.{no_items, more_items, empty, arrow, assignment, not_unique, casez_word, simple, cases, IsCases, cased, assigns, done, then, no_labels, label, default, bare, is_kind, range, absent, present, no_type, own_type, declares, is_member_kind, declared, variable, block_body, casez_body, declaration, of_type, unclocked, function, IsFile, DerivesFile}
+use Rattle.vast_literal.specs.WorkedTexts.{HasOneFile, module_of, given_comparison, ternary_label, typed_wire, typed_variable, wire_array, casez_function}
 use Rattle.vast_literal.proofs.Levels.{lower}
 use Rattle.vast_literal.proofs.Longest.{scan_lexes}
 use Rattle.vast_rows.specs.Numbers.{LessEqual, OpenParen, CloseParen, Colon, Semicolon, Assign, CasezKey, EndCaseKey, DefaultKey, WireKey}
@@ -42,6 +42,11 @@ pub wire_of_type : HasOneFile (codes "module m; wire t [1:0] x; endmodule") (mod
 unfolding tokens word_token is_keyword reserved_keys key_text typed_wire is_kind is_member_kind
 wire_of_type = one _ _ (module_of typed_wire) refl (in_module _ typed_wire (declaration (declared WireKey refl refl
     (declares (codes "x") (present WireKey refl) (own_type (codes "t")) absent (more_items (range (number_at_zero (codes "1")) (number_at_zero (codes "0"))) no_items) no_items))))
+
+pub variable_of_type : HasOneFile (codes "module m; t x; endmodule") (module_of typed_variable)
+unfolding tokens word_token is_keyword reserved_keys key_text typed_variable
+variable_of_type = one _ _ (module_of typed_variable) refl (in_module _ typed_variable (of_type (variable (codes "t") refl refl refl
+    (declares (codes "x") absent (own_type (codes "t")) absent no_items no_items))))
 
 pub wire_of_name : HasOneFile (codes "module m; wire x [0:1]; endmodule") (module_of wire_array)
 unfolding tokens word_token is_keyword reserved_keys key_text wire_array is_kind is_member_kind

@@ -1,11 +1,11 @@
 -- The rows of declarations make what the typed relations say.
 use Rattle.std.proofs.Common.{[], ◌∷◌, Some, None, IsTrue, refl, append-nil}
 use Rattle.vast_literal.specs.FileGrammar.{is_kind, is_member_kind, is_local_kind, no_items, more_items, one, range, absent, present, no_type, own_type, packaged, declares}
-use Rattle.vast_literal.specs.Tokens.{Reserved, Word, Mark}
+use Rattle.vast_literal.specs.Tokens.{Word, Mark}
 use Rattle.vast_rows.specs.declared.rule.Rule.TheVariants.{Declaration, Declarator, AfterWord, OwnType, SignedName, GroupedName, AfterGroups, FirstGroups, Groups, BracketGroup, GroupEnd}
 use Rattle.vast_rows.specs.Numbers.{Key, WireKey, RegKey, LogicKey, IfKey, DoubleColon}
 use Rattle.vast_rows.specs.Phrases.{expression}
-use Rattle.vast_rows.proofs.Meant.{Makes, is_key}
+use Rattle.vast_rows.proofs.Meant.{Makes, is_key, is_grouped}
 
 pub declaration0 : Makes Declaration 0
 declaration0 ds d = let r = d [] None absent in (r.0, r.1)
@@ -14,7 +14,7 @@ pub declaration1 : Makes Declaration 1
 declaration1 ks (is_key k h) ds d = let r = d ks (Some k) (present k h) in (r.0, r.1)
 
 pub declarator0 : Makes Declarator 0
-declarator0 ss (is_key s h) us name = name [] (Reserved s ∷ []) None None (Some s) no_type (present s h)
+declarator0 ss (is_key s h) us (is_grouped n g b) ks k m = (_, declares n m no_type (present s h) g b, refl)
 
 pub declarator1 : Makes Declarator 1
 declarator1 fs f n hs b ks k m = (_, declares n m no_type absent f.1 b.1, refl)
@@ -26,7 +26,7 @@ pub after_word0 : Makes AfterWord 0
 after_word0 us own w = own w
 
 pub after_word1 : Makes AfterWord 1
-after_word1 ss (is_key s h) us name w = name (Word w ∷ []) (Reserved s ∷ []) None (Some w) (Some s) (own_type w) (present s h)
+after_word1 ss (is_key s h) us (is_grouped n g b) w ks k m = (_, declares n m (own_type w) (present s h) g b, refl)
 
 pub after_word2 : Makes AfterWord 2
 after_word2 gs g us after w = after w gs g.0 g.1
@@ -35,13 +35,13 @@ pub own_type0 : Makes OwnType 0
 own_type0 t us names p = names (Word p ∷ (Mark DoubleColon ∷ (Word t ∷ []))) (Some p) (Some t) (packaged p t)
 
 pub signed_name0 : Makes SignedName 0
-signed_name0 us name ts p t y = name ts [] p t None y absent
+signed_name0 us (is_grouped n g b) ts p t y ks k m = (_, declares n m y absent g b, refl)
 
 pub signed_name1 : Makes SignedName 1
-signed_name1 ss (is_key s h) us name ts p t y = name ts (Reserved s ∷ []) p t (Some s) y (present s h)
+signed_name1 ss (is_key s h) us (is_grouped n g b) ts p t y ks k m = (_, declares n m y (present s h) g b, refl)
 
 pub grouped_name0 : Makes GroupedName 0
-grouped_name0 gs g n hs b ts ss p t s y i ks k m = (_, declares n m y i g.1 b.1, refl)
+grouped_name0 gs g n hs b = is_grouped n g.1 b.1
 
 pub after_groups0 : Makes AfterGroups 0
 after_groups0 w gs g many ks k m = rw (append-nil gs) (_, declares w m no_type absent no_items many, refl)

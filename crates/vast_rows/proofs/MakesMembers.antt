@@ -1,14 +1,14 @@
 -- The rows of members, modules and files make what the typed relations say.
 use Rattle.std.proofs.Common.{[], ◌∷◌, Some, refl, append_assoc, append-nil}
-use Rattle.vast_literal.specs.FileGrammar.{is_parameter_word, is_edge, no_items, more_items, empty, full, absent, present, edge, plain, input, declared, given, connected, unconnected, no_parameters, with_parameters, with_one, without, no_label, labelled, block_body, casez_body, valued, counted, field, enumeration, structure, declaration, continuous, parameter, macro, macro_with, import_member, typedef_member, instance, unclocked, clocked, conditional, function, loop, closed, and_member, header_parameter, port, no_header_parameters, header_parameters, no_ports, ports, module_item, include_item, import_item, typedef_item}
+use Rattle.vast_literal.specs.FileGrammar.{is_parameter_word, is_edge, no_items, more_items, empty, full, absent, present, own_type, packaged, declares, edge, plain, input, declared, variable, given, connected, unconnected, no_parameters, with_parameters, with_one, without, no_label, labelled, block_body, casez_body, valued, counted, field, enumeration, structure, declaration, of_type, continuous, parameter, macro, macro_with, import_member, typedef_member, instance, unclocked, clocked, conditional, function, loop, closed, and_member, header_parameter, port, no_header_parameters, header_parameters, no_ports, ports, module_item, include_item, import_item, typedef_item}
 use Rattle.vast_literal.specs.Grammar.{none, some, last, next}
 use Rattle.vast_literal.specs.NormalFile.{LoopPart}
-use Rattle.vast_literal.specs.Tokens.{Mark}
+use Rattle.vast_literal.specs.Tokens.{Word, Mark}
 use Rattle.vast_literal.specs.declared.kind.AlwaysKind.TheVariants.{AlwaysFF as AlwaysFFWord, AlwaysAt as AlwaysAtWord, AlwaysComb as AlwaysCombWord, AlwaysStar as AlwaysStarWord, AlwaysLatch as AlwaysLatchWord, Initial as InitialWord}
-use Rattle.vast_rows.specs.declared.rule.Rule.TheVariants.{File, FileItem, Parameters, Parameter, Ports, Port, ModuleMembers, LoopMembers, Member, Awaited, AnyMacro, MacroArguments, Expressions, MoreExpressions, LastSemicolon, GivenList, Given, Connections, Connection, Connected, Events, OneEvent, Inputs, Input, Locals, Local, FunctionBody, LoopLabel, Typedef, TypeForm, BaseSign, BaseGroups, Entries, Entry, EntryValue, Fields, Field}
-use Rattle.vast_rows.specs.Numbers.{CloseParen, ParameterKey, LocalparamKey, PosedgeKey, NegedgeKey, EndModuleKey, EndKey}
+use Rattle.vast_rows.specs.declared.rule.Rule.TheVariants.{File, FileItem, Parameters, Parameter, Ports, Port, ModuleMembers, LoopMembers, Member, Awaited, AnyMacro, MacroArguments, Expressions, MoreExpressions, LastSemicolon, AfterName, TypedName, AfterNames, GivenList, Given, Connections, Connection, Connected, Events, OneEvent, Inputs, Input, Locals, Local, FunctionBody, LoopLabel, Typedef, TypeForm, BaseSign, BaseGroups, Entries, Entry, EntryValue, Fields, Field}
+use Rattle.vast_rows.specs.Numbers.{CloseParen, Semicolon, ParameterKey, LocalparamKey, PosedgeKey, NegedgeKey, EndModuleKey, EndKey}
 use Rattle.vast_rows.specs.Phrases.{expression, target, loop_head, path}
-use Rattle.vast_rows.proofs.Meant.{Makes, is_key, is_macro, is_nothing}
+use Rattle.vast_rows.proofs.Meant.{Makes, is_key, is_macro, is_nothing, is_grouped}
 use Rattle.vast_rows.proofs.MakesDeclarations.{net_is_kind, local_is_kind}
 
 pub file0 : Makes File 0
@@ -77,7 +77,7 @@ pub member4 : Makes Member 4
 member4 ts (is_macro m) us after ss s = after m ss s.0 s.1
 
 pub member5 : Makes Member 5
-member5 m ps p i cs c = (_, instance m i p.1 c.1)
+member5 w us after = after w
 
 pub member6 : Makes Member 6
 member6 ns is_nothing bs b = (_, unclocked AlwaysCombWord refl b.1)
@@ -142,11 +142,32 @@ semicolon0 = (_, without)
 pub semicolon1 : Makes LastSemicolon 1
 semicolon1 = (_, with_one)
 
-pub given_list0 : Makes GivenList 0
-given_list0 = (_, no_parameters)
+pub after_name0 : Makes AfterName 0
+after_name0 us typed w = typed w
 
-pub given_list1 : Makes GivenList 1
-given_list1 ts c us more = let r = more ts c.0 c.1 in rw (← append_assoc ts us (Mark CloseParen ∷ [])) (_, with_parameters r.1)
+pub after_name1 : Makes AfterName 1
+after_name1 fs f n hs b w = rw (← append_assoc fs (Word n ∷ hs) (Mark Semicolon ∷ [])) (_, of_type (variable w refl refl refl (declares n absent (own_type w) absent f.1 b.1)))
+
+pub after_name2 : Makes AfterName 2
+after_name2 ps p i cs c w = (_, instance w i p.1 c.1)
+
+pub after_name3 : Makes AfterName 3
+after_name3 v us after w = after w v
+
+pub typed_name0 : Makes TypedName 0
+typed_name0 t us (is_grouped n g b) p = (_, of_type (variable t refl refl refl (declares n absent (packaged p t) absent g b)))
+
+pub after_names0 : Makes AfterNames 0
+after_names0 w v = (_, of_type (variable w refl refl refl (declares v absent (own_type w) absent no_items no_items)))
+
+pub after_names1 : Makes AfterNames 1
+after_names1 gs g w v = (_, of_type (variable w refl refl refl (declares v absent (own_type w) absent no_items g.1)))
+
+pub after_names2 : Makes AfterNames 2
+after_names2 cs c w v = (_, instance w v no_parameters c.1)
+
+pub given_list0 : Makes GivenList 0
+given_list0 ts c us more = let r = more ts c.0 c.1 in rw (← append_assoc ts us (Mark CloseParen ∷ [])) (_, with_parameters r.1)
 
 pub given0 : Makes Given 0
 given0 n xs m (expression p) = (_, given n p)

@@ -25,6 +25,10 @@ pub data IsMacro : List Token → Type 0 where
 pub data IsNothing : List Token → Type 0 where
   is_nothing : IsNothing []
 
+-- Groups, a name and groups.
+pub data IsGrouped : List Token → Type 0 where
+  is_grouped : {gs hs : List Token} {g h : List normal.Group} (n : List ℕ) → IsMany IsGroup gs g → IsMany IsGroup hs h → IsGrouped (gs ++ (Word n ∷ hs))
+
 -- After an item the others of a list.
 abbrev pub Tails : {A : Type 0} (P : List Token → A → Type 0) (between : Token) → List Token → Type 0
 Tails {A} P between us = (ts : List Token) (x : A) → P ts x → (xs : List A) × IsJoined P between (ts ++ us) xs
@@ -62,7 +66,7 @@ Meant rule.SignWord ts = IsKey is_sign ts
 Meant rule.AfterWord ts = (w : List ℕ) → Declared (Word w ∷ ts)
 Meant rule.OwnType us = (p : List ℕ) → Declared (Word p ∷ (Mark DoubleColon ∷ us))
 Meant rule.SignedName us = (ts : List Token) (p t : Option (List ℕ)) → IsTypeName ts p t → Declared (ts ++ us)
-Meant rule.GroupedName us = (ts ss : List Token) (p t : Option (List ℕ)) (s : Option Key) → IsTypeName ts p t → IsMaybe is_sign ss s → Declared (ts ++ (ss ++ us))
+Meant rule.GroupedName ts = IsGrouped ts
 Meant rule.AfterGroups us = (w : List ℕ) (gs : List Token) (g : List normal.Group) → IsMany IsGroup gs g → Declared (Word w ∷ (gs ++ us))
 Meant rule.FirstGroups ts = (g : List normal.Group) × IsMany IsGroup ts g
 Meant rule.Groups ts = (g : List normal.Group) × IsMany IsGroup ts g
@@ -77,6 +81,9 @@ Meant rule.MacroArguments us = (m : List ℕ) (ss : List Token) (s : Bool) → I
 Meant rule.Expressions ts = (xs : NormalExprs) × SpellsList ts xs
 Meant rule.MoreExpressions us = (ts : List Token) (x : NormalExpr) → Spells 0 ts x → (xs : NormalExprs) × SpellsJoined (ts ++ us) xs
 Meant rule.LastSemicolon ts = (s : Bool) × IsSemicolon ts s
+Meant rule.AfterName us = (w : List ℕ) → (m : normal.NormalMember) × IsMember (Word w ∷ us) m
+Meant rule.TypedName us = (p : List ℕ) → (m : normal.NormalMember) × IsMember (Word p ∷ (Mark DoubleColon ∷ (us ++ (Mark Semicolon ∷ [])))) m
+Meant rule.AfterNames us = (w v : List ℕ) → (m : normal.NormalMember) × IsMember (Word w ∷ (Word v ∷ us)) m
 Meant rule.GivenList ts = (c : List normal.NormalConnection) × IsGivenList ts c
 Meant rule.Given ts = (c : normal.NormalConnection) × IsGiven ts c
 Meant rule.MoreGiven ts = Tails IsGiven (Mark Comma) ts

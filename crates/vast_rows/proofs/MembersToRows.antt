@@ -1,7 +1,7 @@
 -- What the typed relations say of members, modules and files, the page spells and tells.
-use Rattle.std.proofs.Common.{◌≡◌, ℕ, List, [], ◌∷◌, ◌++◌, Bool, true, false, codes, Option, IsTrue, refl, ap, append_assoc, append-nil}
+use Rattle.std.proofs.Common.{◌≡◌, ℕ, List, [], ◌∷◌, ◌++◌, Bool, true, false, codes, Option, IsTrue, refl, ap, subst, append_assoc, append-nil}
 use Rattle.std.specs.Str.{bytes_eq}
-use Rattle.vast_literal.specs.FileGrammar.{is_parameter_word, is_edge, is_direction, is_sign, is_local_kind, IsMany, no_items, more_items, IsList, empty, full, IsGroup, IsMaybe, absent, present, IsEvent, edge, plain, IsInput, input, IsDeclared, IsGiven, given, IsConnection, connected, unconnected, IsGivenList, no_parameters, with_parameters, IsSemicolon, with_one, without, IsLabel, no_label, labelled, IsFunctionBody, block_body, casez_body, IsEntry, valued, counted, IsField, field, IsTypedef, enumeration, structure, IsMember, declaration, continuous, parameter, macro, macro_with, import_member, typedef_member, instance, unclocked, clocked, conditional, function, loop, IsMembers, closed, and_member, IsParameter, header_parameter, IsPort, port, IsParameters, no_header_parameters, header_parameters, IsPorts, no_ports, ports, IsItem, module_item, include_item, import_item, typedef_item}
+use Rattle.vast_literal.specs.FileGrammar.{is_parameter_word, is_edge, is_direction, is_sign, is_local_kind, IsMany, no_items, more_items, IsJoined, last_item, next_item, IsList, empty, full, IsGroup, IsMaybe, absent, present, IsEvent, edge, plain, IsInput, input, IsDeclared, IsGiven, given, IsConnection, connected, unconnected, IsGivenList, no_parameters, with_parameters, IsSemicolon, with_one, without, IsLabel, no_label, labelled, IsFunctionBody, block_body, casez_body, IsEntry, valued, counted, IsField, field, IsTypedef, enumeration, structure, IsMember, declaration, of_type, continuous, parameter, macro, macro_with, import_member, typedef_member, instance, unclocked, clocked, conditional, function, loop, IsMembers, closed, and_member, IsParameter, header_parameter, IsPort, port, IsParameters, no_header_parameters, header_parameters, IsPorts, no_ports, ports, IsItem, module_item, include_item, import_item, typedef_item}
 use Rattle.vast_literal.specs.Grammar.{Spells, SpellsList, none, some, SpellsJoined, last, next}
 use Rattle.vast_literal.specs.NormalExpr.{NormalExpr, NormalExprs}
 use Rattle.vast_literal.specs.NormalFile as normal
@@ -15,13 +15,13 @@ use Rattle.vast_rows.specs.declared.action.Listed.TheVariants as what
 use Rattle.vast_rows.specs.declared.grammar.Item.{Item}
 use Rattle.vast_rows.specs.declared.grammar.Item.TheVariants.{Phrase}
 use Rattle.vast_rows.specs.declared.grammar.Phrase.TheVariants.{Expression}
-use Rattle.vast_rows.specs.declared.rule.Rule.TheVariants.{File, FileItem, Parameters, MoreParameters, Parameter, Ports, MorePorts, Port, Direction, ModuleMembers, LoopMembers, Member, AnyMacro, MacroArguments, Expressions, MoreExpressions, LastSemicolon, GivenList, Given, MoreGiven, Connections, Connection, Connected, MoreConnections, Events, OneEvent, MoreEvents, Inputs, Input, MoreInputs, Locals, Declaration, Statements, FunctionBody, NoWait, Awaited, LoopLabel, Typedef, TypeForm, BaseSign, BaseGroups, Entries, Entry, EntryValue, MoreEntries, Fields, Field}
+use Rattle.vast_rows.specs.declared.rule.Rule.TheVariants.{File, FileItem, Parameters, MoreParameters, Parameter, Ports, MorePorts, Port, Direction, ModuleMembers, LoopMembers, Member, AnyMacro, MacroArguments, Expressions, MoreExpressions, LastSemicolon, AfterName, AfterNames, GivenList, Given, MoreGiven, Connections, Connection, Connected, MoreConnections, Events, OneEvent, MoreEvents, Inputs, Input, MoreInputs, Locals, Declaration, Statements, FunctionBody, NoWait, Awaited, LoopLabel, Typedef, TypeForm, BaseSign, BaseGroups, Entries, Entry, EntryValue, MoreEntries, Fields, Field}
 use Rattle.vast_rows.specs.Events.{Event, Makes, Names}
-use Rattle.vast_rows.specs.Numbers.{Key, Comma, OpenParen, Semicolon, Assign, BeginKey, CloseParen, InputKey, OutputKey, InOutKey, ParameterKey, LocalparamKey, PosedgeKey, NegedgeKey, OrKey, EndModuleKey, EndKey, IfKey}
+use Rattle.vast_rows.specs.Numbers.{Key, Comma, Hash, OpenParen, Semicolon, Assign, BeginKey, CloseParen, InputKey, OutputKey, InOutKey, ParameterKey, LocalparamKey, PosedgeKey, NegedgeKey, OrKey, EndModuleKey, EndKey, IfKey}
 use Rattle.vast_rows.specs.Phrases.{expression, target, loop_head, path}
 use Rattle.vast_rows.specs.Symbols.{key, mark, rule}
-use Rattle.vast_rows.specs.Trace.{read, answer, trace_list, trace_groups, trace_key, trace_package, trace_type, trace_base, trace_statements, trace_declaration, trace_declarations, trace_expressions, trace_arguments, trace_value, trace_connection, trace_connections, trace_event, trace_events, trace_label, trace_member, trace_members, trace_parameter, trace_parameters, trace_port, trace_ports, trace_item, trace_items}
-use Rattle.vast_rows.proofs.DeclarationsToRows.{kind_to, sign_to, groups_to, declaration_to, net_declared, local_declared}
+use Rattle.vast_rows.specs.Trace.{read, answer, trace_list, trace_groups, trace_key, trace_package, trace_type, trace_base, trace_statements, trace_declaration, trace_declarations, trace_expressions, trace_arguments, trace_value, trace_connection, trace_connections, trace_given, trace_event, trace_events, trace_label, trace_member, trace_members, trace_parameter, trace_parameters, trace_port, trace_ports, trace_item, trace_items}
+use Rattle.vast_rows.proofs.DeclarationsToRows.{kind_to, sign_to, groups_to, declaration_to, net_to_rows, variable_to, local_declared}
 use Rattle.vast_rows.proofs.Spelling.{Node, Spelled, stop, tok, phr, phr_last, nod, at, along, listed, joined_to, closed_by}
 use Rattle.vast_rows.proofs.StatementsToRows.{loop_tokens, statements_to, choice_to, lone_to}
 
@@ -57,11 +57,22 @@ given_to : (ts : List Token) (c : NormalConnection) (es : List Event) → IsGive
 unfolding trace_connection trace_value
 given_to ts c es (given n e) = at Given 0 refl (tok _ refl (tok (Word n) refl (tok _ refl (phr (expression e) (tok _ refl stop)))))
 
-given_list_to : {ts : List Token} {c : List NormalConnection} {es : List Event} → IsGivenList ts c → Node GivenList ts (trace_connections c es) es
+given_list_to : {ts : List Token} {c : List NormalConnection} {es : List Event} → IsJoined IsGiven (Mark Comma) ts c → Node GivenList (Mark Hash ∷ (Mark OpenParen ∷ (ts ++ (Mark CloseParen ∷ [])))) (trace_connections c es) es
 unfolding trace_list
-given_list_to no_parameters = at GivenList 0 refl stop
-given_list_to (with_parameters j) = listed what.Connection trace_connection j (at GivenList 1 refl (tok _ refl (tok _ refl (closed_by
+given_list_to j = listed what.Connection trace_connection j (at GivenList 0 refl (tok _ refl (tok _ refl (closed_by
     (joined_to what.Connection trace_connection given_to (at MoreGiven 0 refl stop) (λ us fs p. at MoreGiven 1 refl (tok (Mark Comma) refl p)) j)))))
+
+told_given : {ts : List Token} {c : List NormalConnection} (i : List ℕ) (es : List Event) → IsJoined IsGiven (Mark Comma) ts c → trace_connections c (Names i ∷ es) ≡ trace_given c i es
+unfolding trace_given
+told_given i es (last_item p) = refl
+told_given i es (next_item p ps) = refl
+
+-- What follows the name of an instance's module.
+instance_to : {ts us : List Token} {p : List NormalConnection} {es fs : List Event} (i : List ℕ) → IsGivenList ts p → Spelled (mark OpenParen ∷ (rule Connections ∷ (mark CloseParen ∷ (mark Semicolon ∷ [])))) us es fs → Node AfterName (ts ++ (Word i ∷ us)) (trace_given p i es) fs
+unfolding trace_given
+instance_to i no_parameters q = at AfterName 3 refl (tok (Word i) refl (at AfterNames 2 refl q))
+instance_to {us = us} {es = es} {fs = fs} i (with_parameters {ts = gs} j) q = subst (λ (v : List Event). Node AfterName ((Mark Hash ∷ (Mark OpenParen ∷ (gs ++ (Mark CloseParen ∷ [])))) ++ (Word i ∷ us)) v fs) (told_given i es j)
+    (at AfterName 2 refl (nod (given_list_to j) (tok (Word i) refl q)))
 
 connection_to : (ts : List Token) (c : NormalConnection) (es : List Event) → IsConnection ts c → Node Connection ts (trace_connection c es) es
 unfolding trace_connection trace_value
@@ -196,12 +207,13 @@ mutual
   unfolding trace_member trace_members trace_arguments trace_list
 
   member_to : {ts : List Token} {m : NormalMember} {es : List Event} → IsMember ts m → Node Member ts (trace_member m es) es
-  member_to (declaration d) = at Member 0 refl (net_declared d)
+  member_to (declaration d) = net_to_rows d
+  member_to (of_type d) = variable_to d
   member_to (continuous p q) = at Member 1 refl (tok _ refl (phr (target p) (tok _ refl (phr (expression q) (tok _ refl stop)))))
   member_to (parameter k h d p) = parameter_member k h (nod (declaration_to d) (tok _ refl (phr (expression p) (tok _ refl stop))))
   member_to (macro m s) = at Member 4 refl (nod (macro_to m) (nod (at MacroArguments 0 refl stop) (semicolon_to s)))
   member_to (macro_with {ts = ts} {ss = ss} m es s) = at Member 4 refl (nod (macro_to m) (along (ap (λ (v : List Token). Mark OpenParen ∷ v) (append_assoc ts (Mark CloseParen ∷ []) ss)) (nod (at MacroArguments 1 refl (tok _ refl (nod (expressions_to es) (tok _ refl stop)))) (semicolon_to s))))
-  member_to (instance m i p c) = at Member 5 refl (tok (Word m) refl (nod (given_list_to p) (tok (Word i) refl (tok _ refl (nod (connections_to c) (tok _ refl (tok _ refl stop)))))))
+  member_to (instance m i p c) = at Member 5 refl (tok (Word m) refl (instance_to i p (tok _ refl (nod (connections_to c) (tok _ refl (tok _ refl stop))))))
   member_to (unclocked w h b) = unclocked_to w h (nod (at NoWait 0 refl stop) (tok _ refl (statements_to b)))
   member_to (clocked w h e b) = clocked_to w h (nod (events_to e) (tok _ refl (tok _ refl (statements_to b))))
   member_to (conditional a) = at Member 11 refl (choice_to a)

@@ -58,6 +58,7 @@ worked_texts =
       assigned_comparison = FilePins.assigned_comparison;
       labelled_by_ternary = FilePins.labelled_by_ternary;
       wire_of_type = FilePins.wire_of_type;
+      variable_of_type = FilePins.variable_of_type;
       wire_of_name = FilePins.wire_of_name;
       no_disjunction = no_disjunction;
       bare_body = FilePins.bare_body;

@@ -8,7 +8,7 @@ use Rattle.vast_rows.specs.Events.{Event, Makes, Reads, Names}
 use Rattle.vast_rows.specs.Numbers.{Key}
 use Rattle.vast_rows.specs.Phrases.{Meaning, IsExpression, IsLoop, IsPath}
 use Rattle.vast_rows.specs.declared.action.Action.{Action}
-use Rattle.vast_rows.specs.declared.action.Action.TheVariants.{Nothing, Yes, No, NoMore, OneMore, ModuleItem, IncludeItem, ImportItem, MemberItem, HeaderParameter, PortOf, DeclarationMember, AssignMember, ParameterMember, ImportMember, EnumMember, StructMember, MacroMember, InstanceMember, AlwaysMember, ConditionalMember, FunctionMember, LoopMember, KindOf, SignOf, NameBefore, Packaged, Declares, Unnamed, GroupOf, Connects, EdgeOf, ChangeOf, Assigns, AssignsByWord, Chooses, Repeats, UniqueCase, CaseOf, Conditional, NoArms, Arm, DefaultArm}
+use Rattle.vast_rows.specs.declared.action.Action.TheVariants.{Nothing, Yes, No, NoMore, OneMore, ModuleItem, IncludeItem, ImportItem, MemberItem, HeaderParameter, PortOf, DeclarationMember, AssignMember, ParameterMember, ImportMember, EnumMember, StructMember, MacroMember, NamedMember, AlwaysMember, ConditionalMember, FunctionMember, LoopMember, KindOf, SignOf, NameBefore, Packaged, Declares, Unnamed, GroupOf, Connects, EdgeOf, ChangeOf, Assigns, AssignsByWord, Chooses, Repeats, UniqueCase, CaseOf, Conditional, NoArms, Arm, DefaultArm}
 use Rattle.vast_rows.specs.declared.action.Listed.{Listed}
 use Rattle.vast_rows.specs.declared.action.Listed.TheVariants as listed
 
@@ -226,15 +226,23 @@ declared g n h = record { kind = None; package_name = None; type_name = None; si
 abbrev pub name_type : (name : List ℕ) → NormalDeclaration → NormalDeclaration
 name_type w d = elim d.package_name [ None ↦ with_type None (Some w) d | Some p ↦ with_type (Some w) d.type_name d ]
 
+-- Before ports stands the name of an instance whose parameters are given nothing.
 unfoldable pub name_before : (name : List ℕ) → List Seen → Option (List Seen)
 name_before w (SeenGroups h ∷ vs) = Some (SeenDeclaration (declared [] w h) ∷ vs)
 name_before w (SeenDeclaration d ∷ vs) = Some (SeenDeclaration (name_type w d) ∷ vs)
+name_before w (SeenConnections c ∷ vs) = Some (SeenConnections [] ∷ SeenName w ∷ SeenConnections c ∷ vs)
 name_before w _ = None
 
 unfoldable pub name_behind : List Group → List Seen → Option (List Seen)
 name_behind g (SeenNothing ∷ vs) = Some (SeenGroups g ∷ vs)
 name_behind g (SeenName n ∷ vs) = of_one as_groups (λ h. SeenDeclaration (declared g n h)) vs
 name_behind g _ = None
+
+-- A name before a declaration, and before what is given to parameters, a name and ports.
+unfoldable pub named_member : (name : List ℕ) → List Seen → Option (List Seen)
+named_member w (SeenDeclaration d ∷ vs) = Some (SeenMember (DeclarationPart (name_type w d)) ∷ vs)
+named_member w (SeenConnections p ∷ vs) = of_two as_name as_connections (λ i c. SeenMember (InstancePart w p i c)) vs
+named_member w _ = None
 
 -- Statements.
 
@@ -274,7 +282,7 @@ make MacroMember vs = of_three as_name (maybe as_expressions) as_answer (λ m a 
 make ImportMember vs = of_one as_name (λ p. SeenMember (ImportPart p)) vs
 make EnumMember vs = of_four as_declaration as_connections as_name as_groups (λ d e n h. SeenMember (EnumPart (with_name n h d) e)) vs
 make StructMember vs = of_two as_declarations as_name (λ d n. SeenMember (StructPart n d)) vs
-make InstanceMember vs = of_four as_name as_connections as_name as_connections (λ m p i c. SeenMember (InstancePart m p i c)) vs
+make NamedMember vs = and_then (first as_name vs) (λ w. named_member w.0 w.1)
 make (AlwaysMember k) vs = of_two as_events as_statements (λ e b. SeenMember (AlwaysPart k e b)) vs
 make ConditionalMember vs = of_one as_arms (λ a. SeenMember (ConditionalPart a)) vs
 make FunctionMember vs = of_four as_declaration as_declarations as_declarations as_statements (λ d i l b. SeenMember (FunctionPart d i l b)) vs

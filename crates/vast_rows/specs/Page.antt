@@ -11,9 +11,9 @@ use Rattle.vast_rows.specs.declared.grammar.Item.TheVariants.{Phrase}
 use Rattle.vast_rows.specs.declared.grammar.Phrase.TheVariants.{Expression, Target, LoopHead, Path}
 use Rattle.vast_rows.specs.Rows.{Row}
 use Rattle.vast_rows.specs.Symbols.{key, mark, op, word, macro_word, include_word, rule, ◌⟶◌, ◌⟹◌}
-use Rattle.vast_rows.specs.declared.action.Action.TheVariants.{Nothing, Yes, No, NoMore, OneMore, ModuleItem, IncludeItem, ImportItem, MemberItem, HeaderParameter, PortOf, DeclarationMember, AssignMember, ParameterMember, ImportMember, EnumMember, StructMember, MacroMember, InstanceMember, AlwaysMember, ConditionalMember, FunctionMember, LoopMember, KindOf, SignOf, NameBefore, Packaged, Declares, Unnamed, GroupOf, Connects, EdgeOf, ChangeOf, Assigns, AssignsByWord, Chooses, Repeats, UniqueCase, CaseOf, Conditional, NoArms, Arm, DefaultArm}
+use Rattle.vast_rows.specs.declared.action.Action.TheVariants.{Nothing, Yes, No, NoMore, OneMore, ModuleItem, IncludeItem, ImportItem, MemberItem, HeaderParameter, PortOf, DeclarationMember, AssignMember, ParameterMember, ImportMember, EnumMember, StructMember, MacroMember, NamedMember, AlwaysMember, ConditionalMember, FunctionMember, LoopMember, KindOf, SignOf, NameBefore, Packaged, Declares, Unnamed, GroupOf, Connects, EdgeOf, ChangeOf, Assigns, AssignsByWord, Chooses, Repeats, UniqueCase, CaseOf, Conditional, NoArms, Arm, DefaultArm}
 use Rattle.vast_rows.specs.declared.action.Listed.TheVariants as listed
-use Rattle.vast_rows.specs.declared.rule.Rule.TheVariants.{File, FileItem, Parameters, MoreParameters, Parameter, Ports, MorePorts, Port, Direction, ModuleMembers, LoopMembers, Declaration, KindWord, Declarator, SignWord, AfterWord, OwnType, SignedName, GroupedName, AfterGroups, FirstGroups, Groups, BracketGroup, GroupEnd, Member, NetKind, NoWait, Awaited, AnyMacro, MacroArguments, Expressions, MoreExpressions, LastSemicolon, GivenList, Given, MoreGiven, Connections, Connection, Connected, MoreConnections, Events, OneEvent, MoreEvents, Inputs, Input, MoreInputs, Locals, Local, LocalKind, FunctionBody, LoneCase, NoEnd, LoopLabel, Typedef, TypeForm, BaseSign, BaseGroups, Entries, Entry, EntryValue, MoreEntries, Fields, Field, Statements, Statement, AfterTarget, Assignment, Arrow, Choice, Else, Branch, Unique, CaseKind, CaseArms, BareArms, ArmBody}
+use Rattle.vast_rows.specs.declared.rule.Rule.TheVariants.{File, FileItem, Parameters, MoreParameters, Parameter, Ports, MorePorts, Port, Direction, ModuleMembers, LoopMembers, Declaration, KindWord, Declarator, SignWord, AfterWord, OwnType, SignedName, GroupedName, AfterGroups, FirstGroups, Groups, BracketGroup, GroupEnd, Member, NetKind, NoWait, Awaited, AnyMacro, MacroArguments, Expressions, MoreExpressions, LastSemicolon, AfterName, TypedName, AfterNames, GivenList, Given, MoreGiven, Connections, Connection, Connected, MoreConnections, Events, OneEvent, MoreEvents, Inputs, Input, MoreInputs, Locals, Local, LocalKind, FunctionBody, LoneCase, NoEnd, LoopLabel, Typedef, TypeForm, BaseSign, BaseGroups, Entries, Entry, EntryValue, MoreEntries, Fields, Field, Statements, Statement, AfterTarget, Assignment, Arrow, Choice, Else, Branch, Unique, CaseKind, CaseArms, BareArms, ArmBody}
 
 -- An expression, and what a value is assigned to.
 abbrev X : Item
@@ -83,7 +83,7 @@ page =
     ∷ (Member ⟶ key ParameterKey ∷ rule Declaration ∷ mark Assign ∷ X ∷ mark Semicolon ∷ [] ⟹ ParameterMember ParameterKey)
     ∷ (Member ⟶ key LocalparamKey ∷ rule Declaration ∷ mark Assign ∷ X ∷ mark Semicolon ∷ [] ⟹ ParameterMember LocalparamKey)
     ∷ (Member ⟶ rule AnyMacro ∷ rule MacroArguments ∷ rule LastSemicolon ∷ [] ⟹ MacroMember)
-    ∷ (Member ⟶ word ∷ rule GivenList ∷ word ∷ mark OpenParen ∷ rule Connections ∷ mark CloseParen ∷ mark Semicolon ∷ [] ⟹ InstanceMember)
+    ∷ (Member ⟶ word ∷ rule AfterName ∷ [] ⟹ NamedMember)
     ∷ (Member ⟶ key AlwaysCombKey ∷ rule NoWait ∷ key BeginKey ∷ rule Statements ∷ [] ⟹ AlwaysMember AlwaysCombWord)
     ∷ (Member ⟶ key AlwaysLatchKey ∷ rule NoWait ∷ key BeginKey ∷ rule Statements ∷ [] ⟹ AlwaysMember AlwaysLatchWord)
     ∷ (Member ⟶ key InitialKey ∷ rule NoWait ∷ key BeginKey ∷ rule Statements ∷ [] ⟹ AlwaysMember InitialWord)
@@ -110,7 +110,14 @@ page =
     ∷ (MoreExpressions ⟶ mark Comma ∷ X ∷ rule MoreExpressions ∷ [] ⟹ OneMore listed.Expression)
     ∷ (LastSemicolon ⟶ [] ⟹ No)
     ∷ (LastSemicolon ⟶ mark Semicolon ∷ [] ⟹ Yes)
-    ∷ (GivenList ⟶ [] ⟹ NoMore listed.Connection)
+    ∷ (AfterName ⟶ mark DoubleColon ∷ rule TypedName ∷ mark Semicolon ∷ [] ⟹ Packaged)
+    ∷ (AfterName ⟶ rule FirstGroups ∷ word ∷ rule Groups ∷ mark Semicolon ∷ [] ⟹ Declares)
+    ∷ (AfterName ⟶ rule GivenList ∷ word ∷ mark OpenParen ∷ rule Connections ∷ mark CloseParen ∷ mark Semicolon ∷ [])
+    ∷ (AfterName ⟶ word ∷ rule AfterNames ∷ [] ⟹ NameBefore)
+    ∷ (TypedName ⟶ word ∷ rule GroupedName ∷ [] ⟹ NameBefore)
+    ∷ (AfterNames ⟶ mark Semicolon ∷ [] ⟹ NoMore listed.Group)
+    ∷ (AfterNames ⟶ rule FirstGroups ∷ mark Semicolon ∷ [])
+    ∷ (AfterNames ⟶ mark OpenParen ∷ rule Connections ∷ mark CloseParen ∷ mark Semicolon ∷ [])
     ∷ (GivenList ⟶ mark Hash ∷ mark OpenParen ∷ rule Given ∷ rule MoreGiven ∷ mark CloseParen ∷ [] ⟹ OneMore listed.Connection)
     ∷ (Given ⟶ mark Dot ∷ word ∷ mark OpenParen ∷ X ∷ mark CloseParen ∷ [] ⟹ Connects)
     ∷ (MoreGiven ⟶ [] ⟹ NoMore listed.Connection)

@@ -7,7 +7,7 @@ use Rattle.vast_rows.specs.Events.{Event, Makes, Reads, Names}
 use Rattle.vast_rows.specs.Numbers.{Key}
 use Rattle.vast_rows.specs.Phrases.{IsExpression, IsLoop, IsPath}
 use Rattle.vast_rows.specs.declared.action.Action.{Action}
-use Rattle.vast_rows.specs.declared.action.Action.TheVariants.{Nothing, Yes, No, NoMore, OneMore, ModuleItem, IncludeItem, ImportItem, MemberItem, HeaderParameter, PortOf, DeclarationMember, AssignMember, ParameterMember, ImportMember, EnumMember, StructMember, MacroMember, InstanceMember, AlwaysMember, ConditionalMember, FunctionMember, LoopMember, KindOf, SignOf, NameBefore, Packaged, Declares, Unnamed, GroupOf, Connects, EdgeOf, ChangeOf, Assigns, AssignsByWord, Chooses, Repeats, UniqueCase, CaseOf, Conditional, NoArms, Arm, DefaultArm}
+use Rattle.vast_rows.specs.declared.action.Action.TheVariants.{Nothing, Yes, No, NoMore, OneMore, ModuleItem, IncludeItem, ImportItem, MemberItem, HeaderParameter, PortOf, DeclarationMember, AssignMember, ParameterMember, ImportMember, EnumMember, StructMember, MacroMember, NamedMember, AlwaysMember, ConditionalMember, FunctionMember, LoopMember, KindOf, SignOf, NameBefore, Packaged, Declares, Unnamed, GroupOf, Connects, EdgeOf, ChangeOf, Assigns, AssignsByWord, Chooses, Repeats, UniqueCase, CaseOf, Conditional, NoArms, Arm, DefaultArm}
 use Rattle.vast_rows.specs.declared.action.Listed.{Listed}
 use Rattle.vast_rows.specs.declared.action.Listed.TheVariants as listed
 
@@ -84,6 +84,14 @@ trace_declarations = trace_list listed.Declaration trace_declaration
 
 -- Members.
 
+-- What a module declares: the name of a type that stands first is told as that of a module is, and a name before groups alone as one
+-- before the ports of an instance.
+unfoldable pub trace_variable : (kind sign : Option Key) (type_name package_name : Option (List ℕ)) (groups : List Group) (name : List ℕ) (behind : List Group) → List Event → List Event
+trace_variable None None (Some t) None [] n h es = Makes NamedMember ∷ Names t ∷ Makes NameBefore ∷ Names n ∷ trace_groups h es
+trace_variable None None (Some t) None (g ∷ gs) n h es = Makes NamedMember ∷ Names t ∷ Makes Declares ∷ trace_groups (g ∷ gs) (Names n ∷ trace_groups h es)
+trace_variable None None (Some t) (Some p) g n h es = Makes NamedMember ∷ Names p ∷ Makes Packaged ∷ Makes NameBefore ∷ Names t ∷ Makes Declares ∷ trace_groups g (Names n ∷ trace_groups h es)
+trace_variable k s t p g n h es = Makes DeclarationMember ∷ trace_key KindOf k (trace_named p t s g n h es)
+
 unfoldable pub trace_expressions : NormalExprs → List Event → List Event
 trace_expressions NoNormals es = Makes (NoMore listed.Expression) ∷ es
 trace_expressions (MoreNormals x xs) es = Makes (OneMore listed.Expression) ∷ read x ∷ trace_expressions xs es
@@ -102,6 +110,11 @@ trace_connection c es = Makes Connects ∷ Names c.name ∷ trace_value c.value 
 abbrev pub trace_connections : List NormalConnection → List Event → List Event
 trace_connections = trace_list listed.Connection trace_connection
 
+-- What is given to the parameters of an instance, if anything, and its name.
+unfoldable pub trace_given : List NormalConnection → (name : List ℕ) → List Event → List Event
+trace_given [] i es = Makes NameBefore ∷ Names i ∷ es
+trace_given p i es = trace_connections p (Names i ∷ es)
+
 unfoldable pub trace_event : normal.Event → List Event → List Event
 trace_event (EdgeEvent k x) es = Makes (EdgeOf k) ∷ read x ∷ es
 trace_event (NameEvent w) es = Makes ChangeOf ∷ Names w ∷ es
@@ -119,14 +132,14 @@ trace_base d es = trace_key KindOf d.kind (trace_package d.package_name (trace_t
 
 unfoldable mutual
   pub trace_member : NormalMember → List Event → List Event
-  trace_member (DeclarationPart d) es = Makes DeclarationMember ∷ trace_declaration d es
+  trace_member (DeclarationPart d) es = trace_variable d.kind d.sign d.type_name d.package_name d.groups d.name d.behind es
   trace_member (AssignPart l r) es = Makes AssignMember ∷ read l ∷ read r ∷ es
   trace_member (ParameterPart k d x) es = Makes (ParameterMember k) ∷ trace_declaration d (read x ∷ es)
   trace_member (MacroPart m a s) es = Makes MacroMember ∷ Names m ∷ trace_arguments a (answer s ∷ es)
   trace_member (ImportPart p) es = Makes ImportMember ∷ Names p ∷ es
   trace_member (EnumPart d e) es = Makes EnumMember ∷ trace_base d (trace_connections e (Names d.name ∷ trace_groups d.behind es))
   trace_member (StructPart n d) es = Makes StructMember ∷ trace_declarations d (Names n ∷ es)
-  trace_member (InstancePart m p i c) es = Makes InstanceMember ∷ Names m ∷ trace_connections p (Names i ∷ trace_connections c es)
+  trace_member (InstancePart m p i c) es = Makes NamedMember ∷ Names m ∷ trace_given p i (trace_connections c es)
   trace_member (AlwaysPart k e b) es = Makes (AlwaysMember k) ∷ trace_events e (trace_statements b es)
   trace_member (ConditionalPart a) es = Makes ConditionalMember ∷ trace_arms a es
   trace_member (FunctionPart d i l b) es = Makes FunctionMember ∷ trace_declaration d (trace_declarations i (trace_declarations l (trace_statements b es)))

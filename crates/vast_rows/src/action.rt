@@ -69,8 +69,9 @@ pub enum Action {
     StructMember,
     /// A macro of its name, its arguments where it has any, and whether there is a semicolon.
     MacroMember,
-    /// An instance of its module's name, what is given to parameters, its name, and its ports.
-    InstanceMember,
+    /// What a name begins: a variable of that type, of its declaration, or an instance of that
+    /// module, of what is given to parameters, its name, and its ports.
+    NamedMember,
     /// A block of that kind, of what it waits for and its statements.
     AlwaysMember(AlwaysKind),
     /// A conditional of its arms.
@@ -138,7 +139,7 @@ impl Action {
             Action::DeclarationMember => 6,
             Action::AssignMember => 7,
             Action::MacroMember => 8,
-            Action::InstanceMember => 9,
+            Action::NamedMember => 9,
             Action::ConditionalMember => 10,
             Action::FunctionMember => 11,
             Action::LoopMember => 12,

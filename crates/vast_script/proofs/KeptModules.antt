@@ -3,7 +3,7 @@ use Rattle.std.specs.Prelude.{ℕ, nat_le, nat_eq, true, false, List, length, ma
 use Rattle.vast_literal.specs.declared.kind.ModulePortDirection.{ModulePortDirection}
 use Rattle.vast_literal.specs.declared.kind.ModulePortDirection.TheVariants.{Input, Output, InOut}
 use Rattle.vast_literal.specs.declared.kind.DataKind.{DataKind}
-use Rattle.vast_literal.specs.declared.kind.DataKind.TheVariants.{Wire, Reg, Logic}
+use Rattle.vast_literal.specs.declared.kind.DataKind.TheVariants.{Wire, Reg, Logic, User}
 use Rattle.vast_core.specs.declared.ast.scope.Scope.TheVariants.{Module as ScopeModule}
 use Rattle.vast_core.specs.declared.node.ParameterForm.TheVariants.{Plain as PlainForm, Int as IntForm, Defined as DefinedForm}
 use Rattle.vast_core.specs.Scopes.{with_scope_parameter}
@@ -18,7 +18,7 @@ use Rattle.xlsynth_vast.specs.Declarations.{names_in, unless_taken}
 use Rattle.xlsynth_vast.specs.Inspections.{members_in}
 use Rattle.vast_script.specs.declared.answer.Answer.TheVariants.{VastDataType, LogicRef, ParameterRef, LocalparamRef, Nothing}
 use Rattle.vast_script.specs.declared.step.ModuleStep.{ModuleStep}
-use Rattle.vast_script.specs.declared.step.ModuleStep.TheVariants.{AddInclude, AddBlankLine, AddCommentText, AddModule, AddInput, AddOutput, AddInout, AddLogicInput, AddLogicOutput, AddWire, AddReg, AddLogic, AddParameterPort, AddTypedParameterPort, AddParameter, AddParameterWithDef, AddLocalparam, AddIntLocalparam, AddTypedLocalparam, HoistModuleDeclarations, AddImport, AddFileImport, AddEnumTypedef, AddStructTypedef, AddFileEnumTypedef, AddFileStructTypedef}
+use Rattle.vast_script.specs.declared.step.ModuleStep.TheVariants.{AddInclude, AddBlankLine, AddCommentText, AddModule, AddInput, AddOutput, AddInout, AddLogicInput, AddLogicOutput, AddWire, AddReg, AddLogic, AddParameterPort, AddTypedParameterPort, AddParameter, AddParameterWithDef, AddLocalparam, AddIntLocalparam, AddTypedLocalparam, HoistModuleDeclarations, AddImport, AddFileImport, AddEnumTypedef, AddStructTypedef, AddFileEnumTypedef, AddFileStructTypedef, AddVariable}
 use Rattle.vast_script.specs.Outcome.{Made, provided, allowed}
 use Rattle.vast_core.specs.Records.{EnumType, StructType}
 use Rattle.xlsynth_vast.specs.Instances.{connected}
@@ -75,6 +75,7 @@ module-keeps (AddLogicOutput owner name type) = add_port-keeps Output Logic owne
 module-keeps (AddWire owner name type) = add_wire-keeps owner (string_bytes name) type
 module-keeps (AddReg owner name type) = add_variable-keeps Reg (codes "reg") owner (string_bytes name) type
 module-keeps (AddLogic owner name type) = add_variable-keeps Logic (codes "logic") owner (string_bytes name) type
+module-keeps (AddVariable owner name type) = add_variable-keeps User (codes "variable") owner (string_bytes name) type
 module-keeps (AddParameterPort owner name value) = λ b answers. given-keeps b (two a_module an_expr b answers owner value) (λ (owner, value). Made (LogicRef (next_logic_ref b)) (with_parameter_port owner (string_bytes name) None value b)) (λ (owner, value). parameter_port-kept owner (string_bytes name) None value b)
 module-keeps (AddTypedParameterPort owner name type value) = λ b answers. given-keeps b (three a_module a_type an_expr b answers owner type value) (λ (owner, type, value). Made (LogicRef (next_logic_ref b)) (with_parameter_port owner (string_bytes name) (Some type) value b)) (λ (owner, type, value). parameter_port-kept owner (string_bytes name) (Some type) value b)
 module-keeps (AddParameter owner name value) = λ b answers. given-keeps b (two a_module an_expr b answers owner value) (λ (owner, value). Made (ParameterRef (record { id = next_node b })) (with_scope_parameter (ScopeModule owner) false (PlainForm (string_bytes name)) value b)) (λ (owner, value). scope_parameter-kept (ScopeModule owner) false (PlainForm (string_bytes name)) value b)

@@ -3,7 +3,7 @@ use Rattle.std.specs.Prelude.{ℕ, nat_le, true, false, List, length, map, Some,
 use Rattle.vast_literal.specs.declared.kind.ModulePortDirection.{ModulePortDirection}
 use Rattle.vast_literal.specs.declared.kind.ModulePortDirection.TheVariants.{Input, Output, InOut}
 use Rattle.vast_literal.specs.declared.kind.DataKind.{DataKind}
-use Rattle.vast_literal.specs.declared.kind.DataKind.TheVariants.{Wire, Reg, Logic}
+use Rattle.vast_literal.specs.declared.kind.DataKind.TheVariants.{Wire, Reg, Logic, User}
 use Rattle.vast_core.specs.declared.ast.scope.Scope.TheVariants.{Module as ScopeModule}
 use Rattle.vast_core.specs.declared.node.ParameterForm.TheVariants.{Plain as PlainForm, Int as IntForm, Defined as DefinedForm}
 use Rattle.vast_core.specs.Scopes.{with_scope_parameter}
@@ -18,7 +18,7 @@ use Rattle.xlsynth_vast.specs.Declarations.{names_in, unless_taken}
 use Rattle.xlsynth_vast.specs.Inspections.{members_in}
 use Rattle.vast_script.specs.declared.answer.Answer.TheVariants.{VastModule, LogicRef, ParameterRef, LocalparamRef, Nothing}
 use Rattle.vast_script.specs.declared.step.ModuleStep.{ModuleStep}
-use Rattle.vast_script.specs.declared.step.ModuleStep.TheVariants.{AddInclude, AddBlankLine, AddCommentText, AddModule, AddInput, AddOutput, AddInout, AddLogicInput, AddLogicOutput, AddWire, AddReg, AddLogic, AddParameterPort, AddTypedParameterPort, AddParameter, AddParameterWithDef, AddLocalparam, AddIntLocalparam, AddTypedLocalparam, HoistModuleDeclarations, AddImport, AddFileImport, AddEnumTypedef, AddStructTypedef, AddFileEnumTypedef, AddFileStructTypedef}
+use Rattle.vast_script.specs.declared.step.ModuleStep.TheVariants.{AddInclude, AddBlankLine, AddCommentText, AddModule, AddInput, AddOutput, AddInout, AddLogicInput, AddLogicOutput, AddWire, AddReg, AddLogic, AddParameterPort, AddTypedParameterPort, AddParameter, AddParameterWithDef, AddLocalparam, AddIntLocalparam, AddTypedLocalparam, HoistModuleDeclarations, AddImport, AddFileImport, AddEnumTypedef, AddStructTypedef, AddFileEnumTypedef, AddFileStructTypedef, AddVariable}
 use Rattle.vast_script.specs.Outcome.{Call, Made, provided, allowed, makes}
 use Rattle.vast_script.specs.Kinds.{a_module, a_type, an_expr, a_definition, a_blank_line}
 use Rattle.vast_script.specs.Arguments.{takes_one, takes_two, takes_three}
@@ -63,6 +63,7 @@ module_call (AddLogicOutput owner name type) = add_port Output Logic owner (stri
 module_call (AddWire owner name type) = add_wire owner (string_bytes name) type
 module_call (AddReg owner name type) = add_variable Reg (codes "reg") owner (string_bytes name) type
 module_call (AddLogic owner name type) = add_variable Logic (codes "logic") owner (string_bytes name) type
+module_call (AddVariable owner name type) = add_variable User (codes "variable") owner (string_bytes name) type
 module_call (AddParameterPort owner name value) = takes_two a_module an_expr owner value
     (λ owner value. makes LogicRef next_logic_ref (with_parameter_port owner (string_bytes name) None value))
 module_call (AddTypedParameterPort owner name type value) = takes_three a_module a_type an_expr owner type value

@@ -196,6 +196,12 @@ pub(crate) fn replay_module(
             )?;
             refusable_logic_ref(file.add_logic(owner, name, &data_type))
         }
+        ModuleStep::AddVariable(owner, name, data_type) => {
+            let (owner, data_type): (VastModule, VastDataType) = two(
+                file, answers, *owner, *data_type,
+            )?;
+            refusable_logic_ref(file.add_variable(owner, name, &data_type))
+        }
         ModuleStep::AddParameterPort(owner, name, value) => {
             let (owner, value): (VastModule, Expr) = two(file, answers, *owner, *value)?;
             logic_ref(file.add_parameter_port(owner, name, &value))

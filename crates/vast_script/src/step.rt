@@ -135,6 +135,7 @@ pub enum ModuleStep {
     AddStructTypedef(usize, String, Vec<usize>),
     AddFileEnumTypedef(String, usize, Vec<String>, Vec<Option<usize>>),
     AddFileStructTypedef(String, Vec<usize>),
+    AddVariable(usize, String, usize),
 }
 
 /// Calls of generate loops and their members.

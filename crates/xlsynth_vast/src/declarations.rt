@@ -1,4 +1,4 @@
-//! Wires, regs and logics of modules (IEEE 1800-2017, 6.7 and 6.8), as in the crate `xlsynth-vast`.
+//! Wires, regs, logics and variables of modules (IEEE 1800-2017, 6.7 and 6.8), as in the crate `xlsynth-vast`.
 //!
 //! A module's ports, wires, variables and functions share one set of names; no name is declared twice.
 
@@ -148,6 +148,33 @@ impl VastFile {
         Ok(
             self.ast
                 .push_declaration(owner, DataKind::Logic, name, *data_type)?,
+        )
+    }
+
+    /// A variable of a type that is declared elsewhere, as the module's last member; returns its name as an expression.
+    ///
+    /// No kind's word is written before the type, `state_t s;`. Of any other type only its ranges and the name are, and
+    /// the file isn't plain.
+    ///
+    /// # Errors
+    /// As [`VastFile::add_reg`], with `variable` in the place of `reg`.
+    pub fn add_variable(
+        &mut self,
+        owner: VastModule,
+        name: &str,
+        data_type: &VastDataType,
+    ) -> Result<LogicRef, VastFault>
+        requires owner { OwnsModule self.old owner }
+        requires data_type { OwnsType self.old data_type.now }
+        ensures built { MayBuild self.old self.new result
+            (λ b. unless_taken (codes "variable") name.now (names_in b owner)) next_logic_ref
+            (λ _. with_declaration owner DataKind.User name.now data_type.now) }
+        ensures kept { Keeps self.old self.new }
+    {
+        self.refuse_taken(owner, "variable", name)?;
+        Ok(
+            self.ast
+                .push_declaration(owner, DataKind::User, name, *data_type)?,
         )
     }
 }

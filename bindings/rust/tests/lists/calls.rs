@@ -542,6 +542,14 @@ pub fn make(file: &mut VastFile, answers: &Answers, line: &Line) -> Result<Answe
                 file.add_file_struct_typedef(name, &fields),
             ))
         }
+        "AddVariable" => {
+            let owner = answers.handle(&words[0])?;
+            let name = words[1].text();
+            let data_type = answers.handle(&words[2])?;
+            Ok(Answer::LogicRef(
+                file.add_variable(owner, name, &data_type)?,
+            ))
+        }
         "AddGenerateLoop" => {
             let owner = answers.handle(&words[0])?;
             let name = words[1].text();

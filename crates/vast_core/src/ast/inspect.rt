@@ -2,7 +2,7 @@
 
 ghost use Rattle.std.specs.Prelude.{◌≡◌, ◌↔◌, IsTrue, IfNone, IfSome};
 ghost use Rattle.vast_core.specs.Types.{IsUsableWidth, width_of, vector_width, is_signed, is_packable, is_castable};
-ghost use Rattle.vast_literal.specs.Shape.{base_of};
+ghost use Rattle.vast_literal.specs.Shape.{base_of, is_external};
 ghost use Rattle.vast_core.specs.Internal.BitCount.{IsArrayOf, IsNoArray};
 ghost use Rattle.vast_core.specs.Bench.{OwnsExpr, OwnsType, tree_of, type_of, maybe_tree_of};
 ghost use Rattle.vast_core.specs.View.{bench};
@@ -71,6 +71,18 @@ impl Ast {
             base = element;
         }
         base
+    }
+
+    /// Whether the type within the arrays is one that is declared elsewhere.
+    pub fn is_external(&self, data_type: VastDataType) -> bool
+        requires { OwnsType (bench self.now) data_type }
+        ensures { result ≡ is_external (base_of (type_of (bench self.now) data_type)) }
+    {
+        match self.data_type(self.base_type(data_type)) {
+            TypeNode::External(_) => true,
+            TypeNode::Package(_) => true,
+            _ => false,
+        }
     }
 
     /// The width of the vector within the arrays, if a vector is within.

@@ -13,8 +13,8 @@ use vast_literal::DataKind;
 use vast_names::Word;
 
 impl Ast {
-    /// Adds a wire, reg or logic as the module's last member, and returns its name as an expression. The name is free
-    /// ([`Module::name_is_free`]), and is taken from then on.
+    /// Adds a wire, reg, logic or variable without a kind as the module's last member, and returns its name as an
+    /// expression. The name is free ([`Module::name_is_free`]), and is taken from then on.
     ///
     /// # Errors
     /// `AllocError` where a growth was refused; nothing changed.

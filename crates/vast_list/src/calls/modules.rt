@@ -49,6 +49,7 @@ pub(super) fn module_step(place: usize, arguments: &mut Arguments<'_>) -> Result
         23 => arguments.three(ModuleStep::AddStructTypedef),
         24 => arguments.four(ModuleStep::AddFileEnumTypedef),
         25 => arguments.two(ModuleStep::AddFileStructTypedef),
+        26 => arguments.three(ModuleStep::AddVariable),
         _ => Err(arguments.misfit(Problem::UnknownCall)),
     }
 }

@@ -7,7 +7,7 @@ use super::by_name::{
 use super::{CallRow, kinds};
 
 /// Calls of the file's items, and of modules with their ports, declarations and parameters.
-pub(crate) static CALLS: [CallRow; 26] = [
+pub(crate) static CALLS: [CallRow; 27] = [
     CallRow("AddInclude", &[INCLUDE], kinds::NOTHING),
     CallRow("AddBlankLine", &[BLANK_LINE], kinds::NOTHING),
     CallRow("AddCommentText", &[TEXT], kinds::NOTHING),
@@ -58,4 +58,5 @@ pub(crate) static CALLS: [CallRow; 26] = [
         kinds::TYPE,
     ),
     CallRow("AddFileStructTypedef", &[NAME, FIELDS], kinds::TYPE),
+    CallRow("AddVariable", &[OWNER, NAME, DATA_TYPE], kinds::SIGNAL),
 ];

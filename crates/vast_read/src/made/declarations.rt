@@ -93,7 +93,7 @@ fn typed_parts(typed: Option<Box<DeclaredType>>) -> DeclaredType
 }
 
 /// A name before what follows: a declaration's own before groups alone, else its type's, or its
-/// package's where it has one.
+/// package's where it has one. Before ports it is an instance's, whose parameters are given nothing.
 #[tactic(auto, unfolding(vast_rows::specs::Built::name_before, vast_rows::specs::Built::make, vast_rows::specs::Built::of_one, vast_rows::specs::Built::of_two, vast_rows::specs::Built::of_three, vast_rows::specs::Built::of_four))]
 pub(crate) fn name_before(alloc: Global, values: &mut Values<'_>) -> Result<(), AllocError>
     ensures { IfOk result (λ _. Grown (make action.NameBefore (denoted values.old)) values.new) }
@@ -126,6 +126,11 @@ fn named<'t>(
             declared.typed = name_type(alloc, name, declared.typed)?;
             values.push(Value::Declaration(declared))
         }
+        Value::Connections(ports) => {
+            values.push(Value::Connections(ports))?;
+            values.push(Value::Name(name))?;
+            values.push(Value::Connections(Children::new(alloc)))
+        }
         other => {
             drop(other);
             Ok(())
@@ -134,7 +139,7 @@ fn named<'t>(
 }
 
 /// A name before a type: that of its package, where this is still to come, else its own.
-fn name_type(
+pub(crate) fn name_type(
     alloc: Global,
     name: &str,
     typed: Option<Box<DeclaredType>>,

@@ -12,7 +12,7 @@ use crate::made::lists::{none_of, one_more};
 use crate::made::members::{
     always_member, assign_member, change_of, conditional_member, connects, declaration_member,
     edge_of, enum_member, function_member, header_parameter, import_item, import_member,
-    include_item, instance_member, loop_member, macro_member, member_item, module_item,
+    include_item, loop_member, macro_member, member_item, module_item, named_member,
     parameter_member, port_of, struct_member,
 };
 use crate::made::statements::{
@@ -49,7 +49,7 @@ pub(crate) fn make(alloc: Global, action: Action, values: &mut Values<'_>) -> Re
         Action::EnumMember => enum_member(alloc, values),
         Action::StructMember => struct_member(alloc, values),
         Action::MacroMember => macro_member(alloc, values),
-        Action::InstanceMember => instance_member(alloc, values),
+        Action::NamedMember => named_member(alloc, values),
         Action::AlwaysMember(kind) => always_member(alloc, kind, values),
         Action::ConditionalMember => conditional_member(alloc, values),
         Action::FunctionMember => function_member(alloc, values),

@@ -1,13 +1,14 @@
 //! Members, modules and files.
 #![tactic(auto, unfolding(vast_rows::specs::Built::make, vast_rows::specs::Built::of_one, vast_rows::specs::Built::of_two, vast_rows::specs::Built::of_three, vast_rows::specs::Built::of_four))]
 
-ghost use Rattle.std.specs.Prelude.{IfOk};
-ghost use Rattle.vast_rows.specs.Built.{make};
+ghost use Rattle.std.specs.Prelude.{◌∷◌, IfOk};
+ghost use Rattle.vast_rows.specs.Built.{make, named_member};
 ghost use Rattle.vast_rows.specs.declared.action.Action.TheVariants as action;
-ghost use Rattle.vast_read.specs.Internal.Made.{Grown, denoted};
+ghost use Rattle.vast_read.specs.Internal.Made.{Grown, denoted, value_view};
 
 use crate::children::Children;
 use crate::macros::wanted;
+use crate::made::declarations::name_type;
 use crate::made::part::{first, maybe};
 use crate::made::value::{Alternatives, Path, Range, Value, Values};
 use crate::tree::words::key_word;
@@ -112,22 +113,50 @@ pub(crate) fn macro_member(alloc: Global, values: &mut Values<'_>) -> Result<(),
     values.push(Value::Member(NormalMember::Macro(Box::new(alloc, made)?)))
 }
 
-/// An instance of its module's name, what is given to parameters, its name, and its ports.
-pub(crate) fn instance_member(alloc: Global, values: &mut Values<'_>) -> Result<(), AllocError>
-    ensures { IfOk result (λ _. Grown (make action.InstanceMember (denoted values.old))
-        values.new) }
+/// A variable of the type that a name is, or an instance of the module that it is.
+pub(crate) fn named_member(alloc: Global, values: &mut Values<'_>) -> Result<(), AllocError>
+    ensures { IfOk result (λ _. Grown (make action.NamedMember (denoted values.old)) values.new) }
 {
-    let definition = wanted!(first::<&str>(values));
-    let parameters = wanted!(first::<Children<Connection>>(values));
     let name = wanted!(first::<&str>(values));
-    let connections = wanted!(first::<Children<Connection>>(values));
-    let made = Instance {
-        definition: Word::new(alloc, definition)?,
-        parameters: parameters.reversed(),
-        name: Word::new(alloc, name)?,
-        connections: connections.reversed(),
-    };
-    values.push(Value::Member(NormalMember::Instance(Box::new(alloc, made)?)))
+    match values.pop() {
+        None => Ok(()),
+        Some(value) => member_of(alloc, name, value, values),
+    }
+}
+
+/// The same for a name and the value after it.
+#[tactic(auto, unfolding(vast_rows::specs::Built::named_member, vast_rows::specs::Built::of_one, vast_rows::specs::Built::of_two))]
+fn member_of<'t>(
+    alloc: Global,
+    name: &'t str,
+    value: Value<'t>,
+    values: &mut Values<'t>,
+) -> Result<(), AllocError>
+    ensures { IfOk result (λ _. Grown (named_member name.now
+        (value_view value.entry ∷ denoted values.old)) values.new) }
+{
+    match value {
+        Value::Declaration(mut declared) => {
+            declared.typed = name_type(alloc, name, declared.typed)?;
+            let declared = Box::new(alloc, declared)?;
+            values.push(Value::Member(NormalMember::Declaration(declared)))
+        }
+        Value::Connections(parameters) => {
+            let instance = wanted!(first::<&str>(values));
+            let ports = wanted!(first::<Children<Connection>>(values));
+            let made = Instance {
+                definition: Word::new(alloc, name)?,
+                parameters: parameters.reversed(),
+                name: Word::new(alloc, instance)?,
+                connections: ports.reversed(),
+            };
+            values.push(Value::Member(NormalMember::Instance(Box::new(alloc, made)?)))
+        }
+        other => {
+            drop(other);
+            Ok(())
+        }
+    }
 }
 
 /// A block of that kind, of what it waits for and its statements.

@@ -19,7 +19,7 @@ type Row = (
     &'static [Kind],
 );
 
-const ROWS: [Row; 1617] = [
+const ROWS: [Row; 20] = [
     (
         "",
         "",
@@ -132,6 +132,25 @@ const ROWS: [Row; 1617] = [
         false,
         &[Kind::Reserved(Key::Wire)],
         &[Kind::Mark(Mark::Comma)],
+    ),
+    (
+        "module m; t 1",
+        "module m; t ",
+        false,
+        &[
+            Kind::Word,
+            Kind::Mark(Mark::Hash),
+            Kind::Mark(Mark::DoubleColon),
+            Kind::Mark(Mark::OpenBracket),
+        ],
+        &[OPEN, SEMICOLON],
+    ),
+    (
+        "module m; t x = 1",
+        "module m; t x ",
+        false,
+        &[OPEN, SEMICOLON, Kind::Mark(Mark::OpenBracket)],
+        &[Kind::Mark(Mark::Comma), Kind::Word],
     ),
     (
         "module m; initial begin $display(a) end",
