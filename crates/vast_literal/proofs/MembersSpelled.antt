@@ -5,7 +5,7 @@ use Rattle.vast_literal.specs.Tree.{Dialect, ExprTree, NameTree, PosEdgeTree, Ne
 use Rattle.vast_literal.specs.NormalExpr.{NormalExpr}
 use Rattle.vast_literal.specs.NormalFile.{NormalStatements, Group, Event, NormalConnection, DeclarationPart, AssignPart, EnumPart, InstancePart, NormalMembers}
 use Rattle.vast_literal.specs.Grammar.{Spells, name}
-use Rattle.vast_literal.specs.FileGrammar.{IsMany, no_items, more_items, IsJoined, last_item, next_item, IsList, empty, full, IsStatements, is_kind, IsGroup, absent, present, no_type, IsDeclaration, declares, is_member_kind, is_local_kind, is_parameter_word, is_edge, IsEvent, edge, plain, IsInput, input, IsDeclared, declared, variable, IsGiven, given, IsConnection, connected, unconnected, IsGivenList, no_parameters, with_parameters, IsSemicolon, with_one, without, IsLabel, no_label, labelled, IsEntry, valued, counted, IsField, field, IsTypedef, enumeration, structure, IsMember, declaration, of_type, continuous, parameter, macro, macro_with, import_member, typedef_member, instance, unclocked, clocked, conditional, function, loop, IsMembers, closed, and_member}
+use Rattle.vast_literal.specs.FileGrammar.{IsMany, no_items, more_items, IsJoined, last_item, next_item, IsList, empty, full, IsStatements, is_kind, IsGroup, absent, present, no_type, IsDeclaration, declares, is_member_kind, is_local_kind, is_parameter_word, is_edge, IsEvent, edge, plain, IsInput, input, IsDeclared, declared, variable, IsGiven, given, IsConnection, connected, unconnected, IsGivenList, no_parameters, with_parameters, IsSemicolon, with_one, without, IsLabel, no_label, labelled, IsEntry, valued, unvalued, IsField, field, IsTypedef, enumeration, structure, IsMember, declaration, of_type, continuous, parameter, macro, macro_with, import_member, typedef_member, instance, unclocked, clocked, conditional, function, loop, IsMembers, closed, and_member}
 use Rattle.vast_literal.specs.Plain.{is_plain_name, is_plain, are_plain}
 use Rattle.vast_literal.specs.Shape.{base_of, base_kind, is_external, result_kind}
 use Rattle.vast_literal.proofs.ExprTokens.{expr_tokens}
@@ -185,7 +185,7 @@ function_spelled dialect f p w =
 
 entry_spelled : (n : List ℕ) (v : MaybeExpr) → is_plain_maybe v ≡ true → is_well_formed_maybe v ≡ true → IsEntry (Word n ∷ entry_value_tokens v) (record { name = n; value = normal_label v })
 unfolding entry_value_tokens normal_label
-entry_spelled n NoExpr p w = counted n
+entry_spelled n NoExpr p w = unvalued n
 entry_spelled n (SomeExpr e) p w = valued n (value_spelled e p w)
 
 entries_spelled : (cs : List Connection) → are_plain_connections cs ≡ true → are_well_formed_connections cs ≡ true → Each IsEntry (each_entry cs) (map normal_connection cs)

@@ -195,7 +195,7 @@ pub data IsFunctionBody : List Token → NormalStatements → Type 0 where
 -- E = X and E
 pub data IsEntry : List Token → NormalConnection → Type 0 where
   valued : {xs : List Token} {x : NormalExpr} (n : List ℕ) → Spells 0 xs x → IsEntry (Word n ∷ (Mark Assign ∷ xs)) (record { name = n; value = Some x })
-  counted : (n : List ℕ) → IsEntry (Word n ∷ []) (record { name = n; value = None })
+  unvalued : (n : List ℕ) → IsEntry (Word n ∷ []) (record { name = n; value = None })
 
 -- decl ;
 pub data IsField : List Token → NormalDeclaration → Type 0 where

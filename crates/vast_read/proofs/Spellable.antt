@@ -8,7 +8,7 @@ use Rattle.vast_literal.specs.declared.token.Key.{Key}
 use Rattle.vast_literal.specs.NormalExpr.{NormalExpr, NormalExprs}
 use Rattle.vast_literal.specs.NormalFile.{NormalStatement, NormalStatements, Arms, Labels, Group, NormalDeclaration, Event, NormalConnection, NormalMember, NormalMembers, NormalParameter, NormalPort, NormalItem, NormalFile}
 use Rattle.vast_literal.specs.Grammar.{Spells, up, ternary, binary, unary, index, slice, part_select, member_of, name, number, based, quoted, paren, call, system_alone, system_call, concat, replicated, array_pattern, macro_alone, macro_call, number_cast, name_cast, package_cast, paren_cast, word_cast, SpellsList, none, some, SpellsJoined, last, next}
-use Rattle.vast_literal.specs.FileGrammar.{IsMany, no_items, more_items, IsJoined, last_item, next_item, IsList, empty, full, arrow, IsUnique, unique, not_unique, IsStatement, simple, assigned, task, choice, cases, counted, IsCases, cased, IsAssign, assigns, IsStatements, done, then, IsChoice, only, otherwise, or, IsLabels, no_labels, label, default, IsBody, body, bare, IsGroup, one, range, IsMaybe, absent, present, IsTypeName, no_type, own_type, packaged, IsDeclaration, declares, IsEvent, edge, plain, IsInput, input, IsDeclared, declared, variable, IsGiven, given, IsConnection, connected, unconnected, IsGivenList, no_parameters, with_parameters, IsSemicolon, with_one, without, IsLabel, no_label, labelled, IsFunctionBody, block_body, casez_body, IsEntry, valued, counted, IsField, field, IsTypedef, enumeration, structure, IsMember, declaration, of_type, continuous, parameter, macro, macro_with, import_member, typedef_member, instance, unclocked, clocked, conditional, function, loop, IsMembers, closed, and_member, IsParameter, header_parameter, IsPort, port, IsParameters, no_header_parameters, header_parameters, IsPorts, no_ports, ports, IsItem, module_item, include_item, import_item, typedef_item, IsFile, file}
+use Rattle.vast_literal.specs.FileGrammar.{IsMany, no_items, more_items, IsJoined, last_item, next_item, IsList, empty, full, arrow, IsUnique, unique, not_unique, IsStatement, simple, assigned, task, choice, cases, counted, IsCases, cased, IsAssign, assigns, IsStatements, done, then, IsChoice, only, otherwise, or, IsLabels, no_labels, label, default, IsBody, body, bare, IsGroup, one, range, IsMaybe, absent, present, IsTypeName, no_type, own_type, packaged, IsDeclaration, declares, IsEvent, edge, plain, IsInput, input, IsDeclared, declared, variable, IsGiven, given, IsConnection, connected, unconnected, IsGivenList, no_parameters, with_parameters, IsSemicolon, with_one, without, IsLabel, no_label, labelled, IsFunctionBody, block_body, casez_body, IsEntry, valued, unvalued, IsField, field, IsTypedef, enumeration, structure, IsMember, declaration, of_type, continuous, parameter, macro, macro_with, import_member, typedef_member, instance, unclocked, clocked, conditional, function, loop, IsMembers, closed, and_member, IsParameter, header_parameter, IsPort, port, IsParameters, no_header_parameters, header_parameters, IsPorts, no_ports, ports, IsItem, module_item, include_item, import_item, typedef_item, IsFile, file}
 
 -- Whether a token is one of the grammar's.
 abbrev pub is_used : Token → Bool
@@ -186,7 +186,7 @@ function_body_used (casez_body c) = cases_used c
 
 entry_used : {ts : List Token} {c : NormalConnection} → IsEntry ts c → Used ts
 entry_used (valued n x) = and refl (and refl (expression_used x))
-entry_used (counted n) = and refl nothing
+entry_used (unvalued n) = and refl nothing
 
 field_used : {ts : List Token} {d : NormalDeclaration} → IsField ts d → Used ts
 field_used (field i) = both (declaration_used i) (and refl nothing)

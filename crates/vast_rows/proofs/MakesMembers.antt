@@ -1,6 +1,6 @@
 -- The rows of members, modules and files make what the typed relations say.
 use Rattle.std.proofs.Common.{[], ◌∷◌, Some, refl, append_assoc, append-nil}
-use Rattle.vast_literal.specs.FileGrammar.{is_parameter_word, is_edge, no_items, more_items, empty, full, absent, present, own_type, packaged, declares, edge, plain, input, declared, variable, given, connected, unconnected, no_parameters, with_parameters, with_one, without, no_label, labelled, block_body, casez_body, valued, counted, field, enumeration, structure, declaration, of_type, continuous, parameter, macro, macro_with, import_member, typedef_member, instance, unclocked, clocked, conditional, function, loop, closed, and_member, header_parameter, port, no_header_parameters, header_parameters, no_ports, ports, module_item, include_item, import_item, typedef_item}
+use Rattle.vast_literal.specs.FileGrammar.{is_parameter_word, is_edge, no_items, more_items, empty, full, absent, present, own_type, packaged, declares, edge, plain, input, declared, variable, given, connected, unconnected, no_parameters, with_parameters, with_one, without, no_label, labelled, block_body, casez_body, valued, unvalued, field, enumeration, structure, declaration, of_type, continuous, parameter, macro, macro_with, import_member, typedef_member, instance, unclocked, clocked, conditional, function, loop, closed, and_member, header_parameter, port, no_header_parameters, header_parameters, no_ports, ports, module_item, include_item, import_item, typedef_item}
 use Rattle.vast_literal.specs.Grammar.{none, some, last, next}
 use Rattle.vast_literal.specs.NormalFile.{LoopPart}
 use Rattle.vast_literal.specs.Tokens.{Word, Mark}
@@ -262,7 +262,7 @@ pub entry0 : Makes Entry 0
 entry0 n us after = after n
 
 pub entry_value0 : Makes EntryValue 0
-entry_value0 n = (_, counted n)
+entry_value0 n = (_, unvalued n)
 
 pub entry_value1 : Makes EntryValue 1
 entry_value1 xs m (expression p) n = (_, valued n p)

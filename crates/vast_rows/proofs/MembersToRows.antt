@@ -1,7 +1,7 @@
 -- What the typed relations say of members, modules and files, the page spells and tells.
 use Rattle.std.proofs.Common.{◌≡◌, ℕ, List, [], ◌∷◌, ◌++◌, Bool, true, false, codes, Option, IsTrue, refl, ap, subst, append_assoc, append-nil}
 use Rattle.std.specs.Str.{bytes_eq}
-use Rattle.vast_literal.specs.FileGrammar.{is_parameter_word, is_edge, is_direction, is_sign, is_local_kind, IsMany, no_items, more_items, IsJoined, last_item, next_item, IsList, empty, full, IsGroup, IsMaybe, absent, present, IsEvent, edge, plain, IsInput, input, IsDeclared, IsGiven, given, IsConnection, connected, unconnected, IsGivenList, no_parameters, with_parameters, IsSemicolon, with_one, without, IsLabel, no_label, labelled, IsFunctionBody, block_body, casez_body, IsEntry, valued, counted, IsField, field, IsTypedef, enumeration, structure, IsMember, declaration, of_type, continuous, parameter, macro, macro_with, import_member, typedef_member, instance, unclocked, clocked, conditional, function, loop, IsMembers, closed, and_member, IsParameter, header_parameter, IsPort, port, IsParameters, no_header_parameters, header_parameters, IsPorts, no_ports, ports, IsItem, module_item, include_item, import_item, typedef_item}
+use Rattle.vast_literal.specs.FileGrammar.{is_parameter_word, is_edge, is_direction, is_sign, is_local_kind, IsMany, no_items, more_items, IsJoined, last_item, next_item, IsList, empty, full, IsGroup, IsMaybe, absent, present, IsEvent, edge, plain, IsInput, input, IsDeclared, IsGiven, given, IsConnection, connected, unconnected, IsGivenList, no_parameters, with_parameters, IsSemicolon, with_one, without, IsLabel, no_label, labelled, IsFunctionBody, block_body, casez_body, IsEntry, valued, unvalued, IsField, field, IsTypedef, enumeration, structure, IsMember, declaration, of_type, continuous, parameter, macro, macro_with, import_member, typedef_member, instance, unclocked, clocked, conditional, function, loop, IsMembers, closed, and_member, IsParameter, header_parameter, IsPort, port, IsParameters, no_header_parameters, header_parameters, IsPorts, no_ports, ports, IsItem, module_item, include_item, import_item, typedef_item}
 use Rattle.vast_literal.specs.Grammar.{Spells, SpellsList, none, some, SpellsJoined, last, next}
 use Rattle.vast_literal.specs.NormalExpr.{NormalExpr, NormalExprs}
 use Rattle.vast_literal.specs.NormalFile as normal
@@ -153,7 +153,7 @@ expressions_to (some (next p j)) = at Expressions 1 refl (phr (expression p) (mo
 entry_to : (ts : List Token) (c : NormalConnection) (es : List Event) → IsEntry ts c → Node Entry ts (trace_connection c es) es
 unfolding trace_connection trace_value
 entry_to ts c es (valued n e) = at Entry 0 refl (tok (Word n) refl (at EntryValue 1 refl (tok _ refl (phr_last (expression e)))))
-entry_to ts c es (counted n) = at Entry 0 refl (tok (Word n) refl (at EntryValue 0 refl stop))
+entry_to ts c es (unvalued n) = at Entry 0 refl (tok (Word n) refl (at EntryValue 0 refl stop))
 
 entries_to : {ts : List Token} {c : List NormalConnection} {es : List Event} → IsList IsEntry (Mark Comma) ts c → Node Entries ts (trace_connections c es) es
 unfolding trace_list
