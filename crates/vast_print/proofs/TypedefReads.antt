@@ -28,11 +28,10 @@ use Rattle.vast_print.proofs.PageReads.{Whole, page_regrouped, whole_above, whol
 -- entries
 
 entry_reads : (c : Connection) → is_plain_name c.name ≡ true → is_plain_maybe c.value ≡ true → is_well_formed_maybe c.value ≡ true → Prints Reads (entry_text c) (Word c.name ∷ entry_value_tokens c.value)
-unfolding entry_text
+unfolding entry_text entry_value_tokens
 entry_reads c p q w = valued c.value q w
   where
     valued : (v : MaybeExpr) → is_plain_maybe v ≡ true → is_well_formed_maybe v ≡ true → Prints Reads (entry_text (record { name = c.name; value = v })) (Word c.name ∷ entry_value_tokens v)
-    unfolding entry_text entry_value_tokens
     valued NoExpr q w = goes_on (stands _ (name_reads c.name p)) rest_none
     valued (SomeExpr e) q w = parted (stands _ (name_reads c.name p)) equals (expr_reads e q w)
 
