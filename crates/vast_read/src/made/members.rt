@@ -114,7 +114,7 @@ pub(crate) fn macro_member(alloc: Global, values: &mut Values<'_>) -> Result<(),
 }
 
 /// A variable of the type that a name is, or an instance of the module that it is.
-#[tactic(auto, unfolding(vast_rows::specs::Built::named_member))]
+#[tactic(auto, unfolding(vast_rows::specs::Built::named_member, vast_rows::specs::Built::make, vast_rows::specs::Built::of_one, vast_rows::specs::Built::of_two, vast_rows::specs::Built::of_three, vast_rows::specs::Built::of_four))]
 pub(crate) fn named_member(alloc: Global, values: &mut Values<'_>) -> Result<(), AllocError>
     ensures { IfOk result (λ _. Grown (make action.NamedMember (denoted values.old)) values.new) }
 {
