@@ -1012,8 +1012,8 @@ static inline int32_t vast_add_typed_localparam(vast_file *file, vast_module own
     return vast_call_make(file, made == NULL ? NULL : &made->id);
 }
 
-/* Puts the module's wires, regs and logics from the member `start` on before the other members
- * from there on.
+/* Puts the module's wires, regs, logics and variables from the member `start` on before the
+ * other members from there on.
  * `start`: in members, from 0.
  * VAST_CONDITION unless: start at most `vast_module_member_count`. */
 static inline int32_t vast_hoist_module_declarations(vast_file *file, vast_module owner,

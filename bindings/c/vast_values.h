@@ -995,8 +995,8 @@ static inline vast_localparam v_add_typed_localparam(vast_file *file, vast_modul
 #define v_add_typed_localparam(file, owner, definition, rhs) \
     v_add_typed_localparam(file, owner, definition, vast_expression_of(rhs))
 
-/* `vast_hoist_module_declarations`: puts the module's wires, regs and logics from the member
- * `start` on before the other members from there on. */
+/* `vast_hoist_module_declarations`: puts the module's wires, regs, logics and variables from the
+ * member `start` on before the other members from there on. */
 static inline void v_hoist_module_declarations(vast_file *file, vast_module owner, uint64_t start)
 {
     if (file->fault == VAST_OK)

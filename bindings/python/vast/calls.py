@@ -802,8 +802,8 @@ class Calls(Core):
         )
 
     def hoist_module_declarations(self, owner: Module, start: int) -> None:
-        """Puts the module's wires, regs and logics from the member `start` on before the other
-        members from there on.
+        """Puts the module's wires, regs, logics and variables from the member `start` on before the
+        other members from there on.
 
         `start`: in members, from 0.
         Raises `Condition` unless: start at most `module_member_count`.

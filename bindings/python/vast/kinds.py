@@ -367,8 +367,8 @@ class Module(ModuleWords):
         return self.file.add_typed_localparam(self, definition, rhs)
 
     def hoist_module_declarations(self, start: int) -> None:
-        """`File.hoist_module_declarations`: puts the module's wires, regs and logics from the
-        member `start` on before the other members from there on.
+        """`File.hoist_module_declarations`: puts the module's wires, regs, logics and variables
+        from the member `start` on before the other members from there on.
         """
         return self.file.hoist_module_declarations(self, start)
 

@@ -170,7 +170,7 @@ abbrev pub names_of : Option ModuleRecord → List (List ℕ)
 names_of None = []
 names_of (Some m) = m.names
 
--- No port, wire, reg, logic or function of the module has the name.
+-- No port, wire, reg, logic, variable or function of the module has the name.
 abbrev pub NameIsFree : Bench → VastModule → List ℕ → Type 0
 NameIsFree b m name = IsFree name (names_of (slice_get b.modules m.id.index))
 

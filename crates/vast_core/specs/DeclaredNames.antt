@@ -22,7 +22,7 @@ names_by_member functions (DeclarationEntry kind name data_type) = name ∷ []
 names_by_member functions (FunctionEntry f) = name_of_function (slice_get functions f.id.index) ∷ []
 names_by_member functions _ = []
 
--- The names of the module's ports, and those of its wires, regs, logics and functions.
+-- The names of the module's ports, and those of its wires, regs, logics, variables and functions.
 abbrev pub names_declared : List Port → List FunctionRecord → ModuleRecord → List (List ℕ)
 names_declared ports functions m = flat_map (names_by_port ports) m.ports ++ flat_map (names_by_member functions) m.members
 

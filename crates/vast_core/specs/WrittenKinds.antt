@@ -1,5 +1,5 @@
--- What the grammar has where a file names a kind or gives a value: a module declares wires, regs and logics, the locals of
--- a function are regs and logics, and each parameter of an instance has a value.
+-- What the grammar has where a file names a kind or gives a value: a module declares wires, regs, logics and variables without
+-- a kind, the locals of a function are regs and logics, and each parameter of an instance has a value.
 use Rattle.std.specs.Prelude.{Bool, true, false, IsTrue, Option, Some, None}
 use Rattle.vast_literal.specs.WellFormedFile.{is_own_kind, is_local_word}
 use Rattle.vast_core.specs.Handles.{Expr}

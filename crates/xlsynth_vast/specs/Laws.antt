@@ -15,7 +15,7 @@ use Rattle.vast_core.specs.Hoisting.{with_hoisted}
 abbrev pub HoistingAgain : Type 0
 HoistingAgain = (owner : VastModule) (start : ℕ) (b : Bench) → with_hoisted owner start (with_hoisted owner start b) ≡ with_hoisted owner start b
 
--- Names that a module declares: those of its ports, its wires, regs and logics, and its functions are pairwise distinct,
+-- Names that a module declares: those of its ports, its wires, regs, logics and variables, and its functions are pairwise distinct,
 -- and they are the names that are taken in it.
 pub record ModuleDeclaresDistinctly (ports : List Port) (functions : List FunctionRecord) (m : ModuleRecord) : Type 0 where
   pub distinct : AreDistinct (names_declared ports functions m)

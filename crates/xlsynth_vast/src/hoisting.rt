@@ -12,8 +12,8 @@ use std::alloc::AllocError;
 use vast_core::VastModule;
 
 impl VastFile {
-    /// Puts the module's wires, regs and logics from the member `start` on before the other members from there on.
-    /// Declarations keep their order, and so do the others; the members before `start` stay. `start` is at most
+    /// Puts the module's wires, regs, logics and variables from the member `start` on before the other members from there
+    /// on. Declarations keep their order, and so do the others; the members before `start` stay. `start` is at most
     /// [`VastFile::module_member_count`].
     ///
     /// Hoisting again from the same start changes nothing ([`crate::laws::hoisting_again`]).

@@ -22,8 +22,8 @@ pub fn containers_have_one_parent(file: &VastFile)
     file.ast.file_is_sound();
 }
 
-/// The names that a module declares, of its ports, wires, regs, logics and functions, are pairwise distinct in every
-/// file, and they are the names that are taken in it.
+/// The names that a module declares, of its ports, wires, regs, logics, variables and functions, are pairwise distinct in
+/// every file, and they are the names that are taken in it.
 pub fn module_names_are_distinct(file: &VastFile, owner: VastModule)
     requires { OwnsModule file.now owner }
     ensures { ModuleNamesAreDistinct file.now owner }

@@ -301,9 +301,9 @@ impl VastFile {
         }))
     }
 
-    /// Puts the module's wires, regs and logics from the member `start` on before the other members from
-    /// there on. Declarations keep their order, and so do the others; the members before `start` stay.
-    /// `start` is at most [`VastFile::module_member_count`].
+    /// Puts the module's wires, regs, logics and variables from the member `start` on before the other
+    /// members from there on. Declarations keep their order, and so do the others; the members before `start`
+    /// stay. `start` is at most [`VastFile::module_member_count`].
     ///
     /// # Panics
     /// With `the start lies behind the module's members`, where that is not so.
