@@ -53,9 +53,13 @@ TELLS = {
     REFUSALS["case_set_unique"]: "!unique || self.file_type == VastFileType::SystemVerilog",
 }
 
-# What is kept of a call that is made, to tell so of later ones.
+# What is kept of a call that is made, to tell so of later ones; or what is asked with it, since all will ask it.
 KEEPS = {
     "conditional_add_else": "self.known().keep_else(conditional_step);",
+    **{
+        name: "self.answer_next(Call::ConditionalThenBlock, made);"
+        for name in ("add_conditional", "block_add_cond", "generate_add_conditional")
+    },
 }
 
 # Directions of ports, which are kept for the calls that answer handles of ports.
@@ -243,7 +247,8 @@ def signature(name, method, receiver, result):
 def asked_once(call, method):
     """The body of a call that answers the same handle each time."""
     label = method.parameters[0][0]
-    step = f"self.answered({variant(call)}, {label}.0)"
+    looks = "answered_next" if call.method == "conditional_then_block" else "answered"
+    step = f"self.{looks}({variant(call)}, {label}.0)"
     if method.answer == "IndexableExpr":
         return (f"        let step = {step}.step;\n        let expression = {label}.0;\n"
                 "        IndexableExpr { expression, step }")
@@ -258,8 +263,10 @@ def certainty(entry):
     return " && ".join(test for test in told if test != "true") or "true"
 
 
-def made_by(entry, method, write):
-    """The expression that makes the call, whose arguments are written by a closure."""
+def made_by(entry, written):
+    """The expression that makes the call, whose arguments are written so: by a closure, or whole where they are steps."""
+    write = written_by(written)
+    steps = steps_of(written)
     name = entry.method
     told = certainty(entry)
     is_certain = told if told in ("true", "false") else "is_certain"
@@ -267,6 +274,8 @@ def made_by(entry, method, write):
         return f"self.allowed({is_certain}, {variant(entry)}, {write})?"
     if name in LOOKS:
         return f"self.made_or({is_certain}, {variant(entry)}, {write}, {LOOKS[name]})"
+    if told == "true" and steps:
+        return f"self.later_of({variant(entry)}, [{', '.join(steps)}])"
     if told == "true":
         return f"self.later({variant(entry)}, {write})"
     condition = "module ports must have unique names" if name in PORTS else CONDITIONS[name]
@@ -291,7 +300,7 @@ def body(entry, method):
     told = certainty(entry)
     if told not in ("true", "false"):
         lines.append(f"let is_certain = {told};")
-    made = made_by(entry, method, written_by(written))
+    made = made_by(entry, written)
     answers = method.answer != "()" and name not in BLOCK_ANSWERS
     kept = [KEEPS[name]] if name in KEEPS else []
     if name in PORTS:
@@ -316,6 +325,12 @@ def body(entry, method):
 def written_by(written):
     """The closure that writes the arguments."""
     return "|calls| calls" + "".join(written)
+
+
+def steps_of(written):
+    """The steps that are all arguments; `None` where another is among them."""
+    steps = [re.fullmatch(r"\.step\((\w+)\)", it) for it in written]
+    return None if None in steps else [step[1] for step in steps]
 
 
 def result_of(name, method):

@@ -288,9 +288,7 @@ impl VastFileExtension for VastFile {
     ) -> Result<VastAlwaysBase, VastError> {
         let generate_step = self.own(generate.0);
         Ok(VastAlwaysBase(
-            self.later(Call::GenerateAddAlwaysStar, |calls| {
-                calls.step(generate_step)
-            }),
+            self.later_of(Call::GenerateAddAlwaysStar, [generate_step]),
         ))
     }
 
@@ -300,9 +298,7 @@ impl VastFileExtension for VastFile {
     ) -> Result<VastAlwaysBase, VastError> {
         let generate_step = self.own(generate.0);
         Ok(VastAlwaysBase(
-            self.later(Call::GenerateAddAlwaysLatch, |calls| {
-                calls.step(generate_step)
-            }),
+            self.later_of(Call::GenerateAddAlwaysLatch, [generate_step]),
         ))
     }
 
@@ -312,37 +308,35 @@ impl VastFileExtension for VastFile {
     ) -> Result<VastAlwaysBase, VastError> {
         let generate_step = self.own(generate.0);
         Ok(VastAlwaysBase(
-            self.later(Call::GenerateAddInitial, |calls| calls.step(generate_step)),
+            self.later_of(Call::GenerateAddInitial, [generate_step]),
         ))
     }
 
     fn add_always_star(&mut self, owner: VastModule) -> Result<VastAlwaysBase, VastError> {
         let owner_step = self.own(owner.0);
-        Ok(VastAlwaysBase(self.later(Call::AddAlwaysStar, |calls| {
-            calls.step(owner_step)
-        })))
+        Ok(VastAlwaysBase(
+            self.later_of(Call::AddAlwaysStar, [owner_step]),
+        ))
     }
 
     fn add_always_latch(&mut self, owner: VastModule) -> Result<VastAlwaysBase, VastError> {
         let owner_step = self.own(owner.0);
-        Ok(VastAlwaysBase(self.later(Call::AddAlwaysLatch, |calls| {
-            calls.step(owner_step)
-        })))
+        Ok(VastAlwaysBase(
+            self.later_of(Call::AddAlwaysLatch, [owner_step]),
+        ))
     }
 
     fn add_initial(&mut self, owner: VastModule) -> Result<VastAlwaysBase, VastError> {
         let owner_step = self.own(owner.0);
         Ok(VastAlwaysBase(
-            self.later(Call::AddInitial, |calls| calls.step(owner_step)),
+            self.later_of(Call::AddInitial, [owner_step]),
         ))
     }
 
     fn block_add_task_call(&mut self, block: VastStatementBlock, call: &Expr) {
         let block_step = self.own(block.0);
         let call_step = self.own(call.0);
-        self.later(Call::BlockAddTaskCall, |calls| {
-            calls.step(block_step).step(call_step)
-        });
+        self.later_of(Call::BlockAddTaskCall, [block_step, call_step]);
     }
 
     fn block_add_for(

@@ -25,6 +25,7 @@ static NEXT_FILE: AtomicU64 = AtomicU64::new(1);
 pub struct VastFile {
     pub(crate) file_type: VastFileType,
     pub(crate) file_id: u64,
+    has_lint: bool,
     state: Mutex<State>,
 }
 
@@ -51,6 +52,7 @@ impl VastFile {
         VastFile {
             file_type,
             file_id: NEXT_FILE.fetch_add(1, Ordering::Relaxed),
+            has_lint: false,
             state: Mutex::new(state),
         }
     }
@@ -61,6 +63,7 @@ impl VastFile {
     /// Where memory is refused.
     pub fn with_lint(file_type: VastFileType) -> VastFile {
         let mut file = VastFile::new(file_type);
+        file.has_lint = true;
         file.state().keep_calls();
         file
     }
@@ -152,10 +155,35 @@ impl VastFile {
         self.id(answer)
     }
 
+    /// Asks at once what the call returns for the handle that was made last, in the next step. A file with a lint asks where
+    /// its user does, since warnings count calls.
+    #[inline]
+    pub(crate) fn answer_next(&mut self, call: Call, of: Id) {
+        if !self.has_lint {
+            self.later_of(call, [of.step]);
+        }
+    }
+
+    /// What a call returns for the handle, that was asked with it ([`answer_next`](VastFile::answer_next)).
+    #[inline]
+    pub(crate) fn answered_next(&self, call: Call, of: Id) -> Id {
+        if self.has_lint {
+            return self.answered(call, of);
+        }
+        self.id(self.own(of) + 1)
+    }
+
     /// Makes the call, which nothing refuses, with the arguments that `write` writes; it waits.
     #[inline]
     pub(crate) fn later(&mut self, call: Call, write: impl FnOnce(&mut Calls) -> &mut Calls) -> Id {
         self.made(true, call, "", write)
+    }
+
+    /// The same for a call whose arguments are these steps.
+    #[inline]
+    pub(crate) fn later_of<const COUNT: usize>(&mut self, call: Call, steps: [usize; COUNT]) -> Id {
+        let step = self.state().later(call, steps);
+        self.id(step)
     }
 
     /// Makes the call; it waits where its conditions are met for certain.

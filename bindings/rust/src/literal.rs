@@ -7,24 +7,31 @@ const MOST_DIGITS: usize = 1_048_576;
 /// `i32::MAX` which they hold, so that each format takes it.
 pub(crate) fn is_small_literal(text: &str) -> bool {
     let parts = text
-        .strip_prefix("bits[")
-        .and_then(|rest| rest.split_once("]:"));
-    let Some((width, number)) = parts else {
-        return false;
-    };
-    match (small_number(width), small_number(number)) {
-        (Some(width @ 1..=64), Some(number)) => number.checked_shr(width).unwrap_or(0) == 0,
+        .as_bytes()
+        .strip_prefix(b"bits[")
+        .and_then(small_number)
+        .and_then(|(width, behind)| Some((width, behind.strip_prefix(b"]:")?)))
+        .and_then(|(width, behind)| Some((width, small_number(behind)?)));
+    match parts {
+        Some((width @ 1..=64, (number, []))) => number.checked_shr(width).unwrap_or(0) == 0,
         _ => false,
     }
 }
 
-/// The number of at most `i32::MAX` that some decimal digits write, of which the first is no 0 unless it stands alone.
-fn small_number(digits: &str) -> Option<u32> {
-    let is_plain = digits.len() <= 10
-        && digits.bytes().all(|byte| byte.is_ascii_digit())
-        && (digits == "0" || !digits.starts_with('0'));
-    let number = digits.parse().ok().filter(|_| is_plain)?;
-    i32::try_from(number).is_ok().then_some(number)
+/// The number of at most `i32::MAX` whose decimal digits stand at the front, of which the first is no 0 unless it stands
+/// alone, and what stands after them.
+fn small_number(text: &[u8]) -> Option<(u32, &[u8])> {
+    let mut number = 0u32;
+    let mut behind = text;
+    while let [digit @ b'0'..=b'9', rest @ ..] = behind {
+        number = number
+            .checked_mul(10)?
+            .checked_add(u32::from(digit - b'0'))?;
+        behind = rest;
+    }
+    let count = text.len() - behind.len();
+    let is_plain = count == 1 || (count > 1 && text[0] != b'0');
+    (is_plain && i32::try_from(number).is_ok()).then_some((number, behind))
 }
 
 /// Whether the text is some digits `0`, `1` and `?`, no more than a pattern has.

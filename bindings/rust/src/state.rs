@@ -8,7 +8,7 @@ use crate::calls::Call;
 use crate::kinds::VastFileType;
 use crate::known::Known;
 use crate::packed::Calls;
-use crate::session::{warned, Fault, Session, Stop};
+use crate::session::{warned, Fault, Session};
 use crate::unpacked::lines_of;
 
 pub(crate) struct State {
@@ -63,6 +63,21 @@ impl State {
         Ok(step)
     }
 
+    /// The same for a call of steps that nothing refuses; it waits.
+    ///
+    /// # Panics
+    /// Where memory is refused to a call that waited.
+    #[inline]
+    pub(crate) fn later<const COUNT: usize>(&mut self, call: Call, steps: [usize; COUNT]) -> usize {
+        if self.calls.are_many() {
+            self.flush();
+        }
+        self.calls.push(call, steps);
+        let step = self.steps;
+        self.steps += 1;
+        step
+    }
+
     /// Makes the calls that wait and the last, whose fault it returns.
     ///
     /// # Panics
@@ -94,16 +109,25 @@ impl State {
 
     /// Sends the calls; those that are made wait no more.
     fn send(&mut self) -> Result<(), Fault> {
-        let (made, sent) = match self.session.make(self.calls.as_bytes()) {
-            Ok(()) => (self.calls.as_bytes(), Ok(())),
-            Err(Stop { taken, fault }) => (self.calls.first(taken), Err(fault)),
+        let sent = self.session.make(self.calls.as_bytes());
+        let made = match &sent {
+            Ok(()) => self.calls.as_bytes(),
+            Err(stop) => self.calls.first(stop.taken),
         };
         if let Some(kept) = &mut self.made {
             kept.extend_from_slice(made);
         }
-        let length = made.len();
-        self.calls.forget_front(length);
-        sent
+        match sent {
+            Ok(()) => {
+                self.calls.clear();
+                Ok(())
+            }
+            Err(stop) => {
+                let length = made.len();
+                self.calls.forget_front(length);
+                Err(stop.fault)
+            }
+        }
     }
 
     /// What the question answers, over the calls so far.

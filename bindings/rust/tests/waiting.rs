@@ -137,3 +137,27 @@ fn many_calls_wait() {
     assert_eq!(panics(|| other.make_not(&sum)).lines().count(), 3);
     assert_eq!(other.emit(), "");
 }
+
+#[test]
+fn a_then_block_is_the_same_whenever_it_is_asked() {
+    let texts = [VastFile::new, VastFile::with_lint].map(|open| {
+        let mut file = open(VastFileType::SystemVerilog);
+        let module = file.add_module("m");
+        let bit = file.make_scalar_type();
+        let a = file.add_input(module, "a", &bit).to_expr();
+        let b = file.add_output(module, "b", &bit).to_expr();
+        let always = file.add_always_comb(module).unwrap();
+        let body = file.statement_block(always);
+        let [first, second] = [(); 2].map(|()| file.block_add_cond(body, &a));
+        let inner = file.conditional_then_block(second);
+        file.block_add_blocking_assignment(inner, &b, &a);
+        let outer = file.conditional_then_block(first);
+        assert_ne!(outer, inner);
+        assert_eq!(outer, file.conditional_then_block(first));
+        assert_eq!(inner, file.conditional_then_block(second));
+        file.block_add_blocking_assignment(outer, &b, &b);
+        file.emit()
+    });
+    assert_eq!(texts[0], texts[1]);
+    assert!(texts[0].contains("b = b;"), "{}", texts[0]);
+}

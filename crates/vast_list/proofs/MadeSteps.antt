@@ -30,7 +30,7 @@ use Rattle.vast_list.specs.PackedLists.{GaveFront, IsCallSplit, IsToldOfFront}
 use Rattle.vast_list.specs.Questions.{Asks}
 use Rattle.vast_list.specs.Session.{Calls, IsFileLeft, IsLeft, IsMade, IsSame, IsSameFile, IsSameKnown, next_number}
 use Rattle.vast_list.specs.Internal.CallRows.{name_at}
-use Rattle.vast_list.specs.Internal.PackedCalls.{GavePacked, IsPlaceFront, IsStepAt}
+use Rattle.vast_list.specs.Internal.PackedCalls.{GavePacked, IsPlaceFront, IsStepAt, MadeAt}
 use Rattle.vast_list.specs.Internal.Written.{AreLeft}
 use Rattle.vast_list.proofs.Acted.{left_over}
 use Rattle.vast_list.proofs.CallRows.{call_in_front}
@@ -56,14 +56,19 @@ left_memory old new h = (ap tree h.0, h.1)
 
 pub ruleset made = (refused_same, left_memory)
 
--- The step that the bytes are was made.
+-- The step of the place was made, which is the one that the bytes are.
 
-pub made_packed_step :
-    (old new : Session) (bytes arguments : List ℕ) (place : Place) (step : ScriptStep) → IsPlaceFront bytes place arguments → IsStepAt old.skipped.items place arguments step → IsMade old new (StepCall step) →
-    IsSameKnown old new → GavePacked old new bytes
-made_packed_step old new bytes arguments place step p s m k =
+pub made_step_at :
+    (old new : Session) (arguments : List ℕ) (place : Place) (step : ScriptStep) → IsStepAt old.skipped.items place arguments step → IsMade old new (StepCall step) → IsSameKnown old new →
+    MadeAt old new place arguments
+made_step_at old new arguments place step s m k = (step, s, m, k)
+
+pub made_packed_step : (old new : Session) (bytes arguments : List ℕ) (place : Place) → IsPlaceFront bytes place arguments → MadeAt old new place arguments → GavePacked old new bytes
+made_packed_step old new bytes arguments place p made =
+    let step : ScriptStep = made.0 in
     let name : Bor (List ℕ) = record { ref_ptr = (0, 0); now = step_name step } in
-    (Step (next_number old) name, (refl, step, (refl, (arguments, call_in_front bytes arguments (step_name step) place p.0 p.1 p.2 s.0, s.1), m, k)))
+    let s : IsStepAt old.skipped.items place arguments step = made.1 in
+    (Step (next_number old) name, (refl, step, (refl, (arguments, call_in_front bytes arguments (step_name step) place p.0 p.1 p.2 s.0, s.1), made.2, made.3)))
 
 pub same_whole : (old new : Session) → IsSameFile old new → IsSameKnown old new → IsSame old new
 same_whole old new f k = (f, k)
@@ -74,7 +79,9 @@ left_whole old new f k = (f, k)
 pub same_itself : (session : Session) → IsSame session session
 same_itself session = ((refl, refl), (refl, refl))
 
-pub ruleset calls = (made_packed_step, same_whole, left_whole, same_itself)
+pub ruleset places = (made_step_at, same_whole, left_whole, same_itself)
+
+pub ruleset calls = (made_packed_step, same_itself)
 
 -- The call at the front.
 

@@ -21,12 +21,14 @@ use Rattle.vast_list.proofs.Words.{reads_word}
 pub digit_last : (byte : ℕ) (bytes behind : List ℕ) → byte < 128 → bytes ≡ byte ∷ behind → IsNumberFront bytes byte behind
 digit_last byte bytes behind h e = (byte ∷ [], inl (h, refl, refl), e)
 
+pub digit_above : (byte n more : ℕ) (bytes behind rest : List ℕ) → 128 ≤ byte → bytes ≡ byte ∷ behind → IsNumberFront behind more rest → n ≡ more * 128 + (byte - 128) → IsNumberFront bytes n rest
+digit_above byte n more bytes behind rest h e k p = (byte ∷ k.0, inr (more, h, k.1, omega (arith, p)), e ∙ ap (λ (xs : List ℕ). byte ∷ xs) k.2)
+
 pub digit_more :
     (byte n more high : ℕ) (bytes behind rest : List ℕ) → 128 ≤ byte → bytes ≡ byte ∷ behind → IsNumberFront behind more rest → high ≡ more * 128 → n ≡ high + (byte - 128) → IsNumberFront bytes n rest
-digit_more byte n more high bytes behind rest h e k s p =
-    (byte ∷ k.0, inr (more, h, k.1, omega (arith, s, p)), e ∙ ap (λ (xs : List ℕ). byte ∷ xs) k.2)
+digit_more byte n more high bytes behind rest h e k s p = digit_above byte n more bytes behind rest h e k (omega (arith, s, p))
 
-pub ruleset digits = (digit_last, digit_more)
+pub ruleset digits = (digit_last, digit_above, digit_more)
 
 one_packed : (skipped : List ℕ) (p : Piece) (bytes : List ℕ) → IsPacked skipped p bytes → ArePacked skipped (p ∷ []) bytes
 one_packed skipped p bytes h = (bytes, [], h, refl, sym (append-nil bytes))

@@ -56,6 +56,7 @@ pub(crate) trait FromArguments: Sized + Drop {
 pub(crate) const SKIPPED: usize = usize::MAX;
 
 /// The place among the answers of the step of this number.
+#[inline(always)]
 pub(crate) fn place_of(skipped: &[usize], number: usize) -> usize
     ensures { IsPlaceOf skipped.now number result }
 {
@@ -67,6 +68,7 @@ pub(crate) fn place_of(skipped: &[usize], number: usize) -> usize
 
 impl<'a> Arguments<'a> {
     /// These arguments.
+    #[inline(always)]
     pub(crate) fn new(known: Known<'a>, rest: Rest<'a>) -> Self
         ensures known { result.known ≡ known.entry }
         ensures rest { result.rest ≡ rest.entry }
@@ -88,6 +90,7 @@ impl<'a> Arguments<'a> {
     }
 
     /// Whether they are those of a packed call.
+    #[inline(always)]
     pub(crate) fn is_packed(&self) -> bool
         ensures { result ≡ is_packed self.now.rest }
     {
@@ -119,6 +122,7 @@ impl<'a> Arguments<'a> {
     }
 
     /// The place among the answers of the step of this number.
+    #[inline(always)]
     pub(crate) fn place(&self, number: usize) -> usize
         ensures { IsPlaceOf self.now.known.skipped.now number result }
     {
@@ -182,6 +186,7 @@ impl<'a> Arguments<'a> {
     }
 
     /// The next number of a packed call.
+    #[inline(always)]
     #[tactic(auto, using(crate::proofs::PackedWords::numbers))]
     pub(crate) fn number(&mut self) -> Result<usize, Misfit>
         ensures { IfOk result (λ number. GoesNumber self.old self.new number) }
@@ -356,6 +361,7 @@ impl<'a> Arguments<'a> {
     }
 
     /// Nothing is left.
+    #[inline(always)]
     fn end(&self) -> Result<(), Misfit>
         ensures { OnOk result (rest_left self.now.rest ≡ []) }
     {

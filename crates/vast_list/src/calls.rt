@@ -27,10 +27,21 @@ use statements::statement_step;
 use types::data_type_step;
 use vast_script::Step;
 
+/// What was made as a step; `?` would copy a large one once more.
+macro_rules! step {
+    ($group:ident, $made:expr) => {
+        match $made {
+            Ok(step) => Ok(Step::$group(step)),
+            Err(misfit) => Err(misfit),
+        }
+    };
+}
+
 /// The step of this place over the arguments.
 ///
 /// # Errors
 /// Where the place is no step's or the arguments are not those of the step, and out of memory.
+#[inline(always)]
 #[tactic(auto, using(crate::proofs::CallRows::steps))]
 pub(crate) fn make_step(place: Place, arguments: &mut Arguments<'_>) -> Result<Step, Misfit>
     ensures named { IfOk result (λ step. name_at place ≡ Some (step_name step)) }
@@ -39,12 +50,12 @@ pub(crate) fn make_step(place: Place, arguments: &mut Arguments<'_>) -> Result<S
 {
     match place {
         Place::Operator(place) => Ok(Step::Operators(operator_step(place, arguments)?)),
-        Place::Expression(place) => Ok(Step::Expressions(expression_step(place, arguments)?)),
+        Place::Expression(place) => step!(Expressions, expression_step(place, arguments)),
         Place::DataType(place) => Ok(Step::Types(data_type_step(place, arguments)?)),
-        Place::Module(place) => Ok(Step::Modules(module_step(place, arguments)?)),
-        Place::Loop(place) => Ok(Step::Loops(generate_loop_step(place, arguments)?)),
+        Place::Module(place) => step!(Modules, module_step(place, arguments)),
+        Place::Loop(place) => step!(Loops, generate_loop_step(place, arguments)),
         Place::Statement(place) => Ok(Step::Statements(statement_step(place, arguments)?)),
-        Place::Artifact(place) => Ok(Step::Artifacts(artifact_step(place, arguments)?)),
+        Place::Artifact(place) => step!(Artifacts, artifact_step(place, arguments)),
         Place::Question(_) | Place::Helper(_) => Err(arguments.misfit(Problem::UnknownCall)),
     }
 }

@@ -129,15 +129,25 @@ pub(crate) fn handle(arguments: &Arguments<'_>, word: &str) -> Result<usize, Pro
 impl FromArguments for usize {
     ghost pieces = { place };
 
+    #[inline(always)]
     #[tactic(auto, using(crate::proofs::Words::pieces))]
     fn take(arguments: &mut Arguments<'_>) -> Result<usize, Misfit> {
         if arguments.is_packed() {
             let number = arguments.number()?;
             return Ok(arguments.place(number));
         }
-        let (left, word) = arguments.word_at()?;
-        handle(arguments, word).map_err(|problem| Misfit { left, problem })
+        written_place(arguments)
     }
+}
+
+/// The next handle of a line.
+#[inline(never)]
+#[tactic(auto, using(crate::proofs::Words::pieces))]
+fn written_place(arguments: &mut Arguments<'_>) -> Result<usize, Misfit>
+    ensures { IfOk result (λ at. Reads arguments.old arguments.new (place at)) }
+{
+    let (left, word) = arguments.word_at()?;
+    handle(arguments, word).map_err(|problem| Misfit { left, problem })
 }
 
 impl FromArguments for Count {
@@ -227,6 +237,7 @@ impl FromArguments for String {
 impl<A: FromArguments, B: FromArguments> FromArguments for (A, B) {
     ghost pieces = { λ pair. A.pieces pair.0 ++ B.pieces pair.1 };
 
+    #[inline(always)]
     #[tactic(auto, using(crate::proofs::Words::reads_then))]
     fn take(arguments: &mut Arguments<'_>) -> Result<(A, B), Misfit> {
         let first = A::take(arguments)?;

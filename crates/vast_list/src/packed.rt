@@ -1,6 +1,6 @@
 //! Numbers, texts and words of packed calls.
 
-ghost use Rattle.std.specs.Prelude.{◌≡◌, IfSome, map};
+ghost use Rattle.std.specs.Prelude.{◌≡◌, ◌<◌, IfSome, map};
 ghost use Rattle.vast_list.specs.Packed.{IsFolded, choice_words};
 ghost use Rattle.vast_list.specs.Internal.Packed.{IsNumberFront};
 
@@ -72,18 +72,49 @@ impl Choice {
     }
 }
 
-/// The number at the front, of 64 bits at most, and what stands after it.
+/// The number at the front, of 64 bits at most, and what stands after it. Most have three digits at most.
+#[inline(always)]
 #[tactic(auto, using(crate::proofs::PackedWords::digits))]
 pub(crate) fn number_front(bytes: &[u8]) -> Option<(usize, &[u8])>
     ensures { IfSome result (λ read. IsNumberFront bytes.now read.0 read.1.now) }
 {
-    match bytes.split_first() {
-        Some((first, behind)) if *first < 128 => Some((*first as usize, behind)),
-        _ => digits_front(bytes, MOST_DIGITS - 1),
+    let Some((first, behind)) = bytes.split_first() else {
+        return None;
+    };
+    let digit = *first as usize;
+    if digit < 128 {
+        return Some((digit, behind));
+    }
+    match short_front(behind) {
+        Some((more, behind)) => Some((more * 128 + (digit - 128), behind)),
+        None => digits_front(bytes, MOST_DIGITS - 1),
+    }
+}
+
+/// The same of a number of one digit or two.
+#[inline(always)]
+#[tactic(auto, using(crate::proofs::PackedWords::digits))]
+fn short_front(bytes: &[u8]) -> Option<(usize, &[u8])>
+    ensures front { IfSome result (λ read. IsNumberFront bytes.now read.0 read.1.now) }
+    ensures short { IfSome result (λ read. read.0 < 16384) }
+{
+    let Some((first, behind)) = bytes.split_first() else {
+        return None;
+    };
+    let digit = *first as usize;
+    if digit < 128 {
+        return Some((digit, behind));
+    }
+    match behind.split_first() {
+        Some((last, behind)) if *last < 128 => {
+            Some((*last as usize * 128 + (digit - 128), behind))
+        }
+        _ => None,
     }
 }
 
 /// The same of as many digits at most after the first.
+#[inline(never)]
 #[tactic(auto, using(crate::proofs::PackedWords::digits))]
 fn digits_front(bytes: &[u8], most: usize) -> Option<(usize, &[u8])>
     ensures { IfSome result (λ read. IsNumberFront bytes.now read.0 read.1.now) }

@@ -12,6 +12,7 @@ pub(crate) struct Select {
 }
 
 /// Keeps the line of an answer that is a select. There is room for one more.
+#[inline(always)]
 pub(crate) fn keep_select(selects: &mut Vec<Select>, answer: Answer, line: usize) {
     let expression = match answer {
         Answer::Index(index) => index.to_expr(),

@@ -42,6 +42,7 @@ pub(crate) fn unpacked(known: Known<'_>, bytes: &[u8]) -> Result<PackedCall, Mis
 }
 
 /// The first call's bytes, which stand after how many they are, and what stands after them.
+#[inline(always)]
 #[tactic(auto, using(crate::proofs::PackedSessions::splitting))]
 pub(crate) fn split_call(bytes: &[u8]) -> Option<(&[u8], &[u8])>
     ensures { IfSome result (λ split. IsCallSplit bytes.now split.0.now split.1.now) }
@@ -53,6 +54,7 @@ pub(crate) fn split_call(bytes: &[u8]) -> Option<(&[u8], &[u8])>
 }
 
 /// The call whose number stands at the front, and what stands after that.
+#[inline(always)]
 pub(crate) fn place_front(bytes: &[u8]) -> Option<(Place, &[u8])>
     ensures { IfSome result (λ read. IsPlaceFront bytes.now read.0 read.1.now) }
 {

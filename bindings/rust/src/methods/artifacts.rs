@@ -52,27 +52,21 @@ impl VastFile {
     pub fn make_continuous_assignment(&mut self, lhs: &Expr, rhs: &Expr) -> ContinuousAssignment {
         let lhs_step = self.own(lhs.0);
         let rhs_step = self.own(rhs.0);
-        ContinuousAssignment(self.later(Call::MakeContinuousAssignment, |calls| {
-            calls.step(lhs_step).step(rhs_step)
-        }))
+        ContinuousAssignment(self.later_of(Call::MakeContinuousAssignment, [lhs_step, rhs_step]))
     }
 
     /// The procedural assignment `lhs <= rhs` (IEEE 1800-2017, 10.4.2).
     pub fn make_nonblocking_assignment(&mut self, lhs: &Expr, rhs: &Expr) -> VastStatement {
         let lhs_step = self.own(lhs.0);
         let rhs_step = self.own(rhs.0);
-        VastStatement(self.later(Call::MakeNonblockingAssignment, |calls| {
-            calls.step(lhs_step).step(rhs_step)
-        }))
+        VastStatement(self.later_of(Call::MakeNonblockingAssignment, [lhs_step, rhs_step]))
     }
 
     /// The procedural assignment `lhs = rhs` (IEEE 1800-2017, 10.4.1).
     pub fn make_blocking_assignment(&mut self, lhs: &Expr, rhs: &Expr) -> VastStatement {
         let lhs_step = self.own(lhs.0);
         let rhs_step = self.own(rhs.0);
-        VastStatement(self.later(Call::MakeBlockingAssignment, |calls| {
-            calls.step(lhs_step).step(rhs_step)
-        }))
+        VastStatement(self.later_of(Call::MakeBlockingAssignment, [lhs_step, rhs_step]))
     }
 
     /// An instance of a module, with an expression for each named parameter, and for each named port an
@@ -117,9 +111,10 @@ impl VastFile {
     pub fn add_member_instantiation(&mut self, owner: VastModule, instantiation: Instantiation) {
         let owner_step = self.own(owner.0);
         let instantiation_step = self.own(instantiation.0);
-        self.later(Call::AddMemberInstantiation, |calls| {
-            calls.step(owner_step).step(instantiation_step)
-        });
+        self.later_of(
+            Call::AddMemberInstantiation,
+            [owner_step, instantiation_step],
+        );
     }
 
     /// The assignment, as the module's last member.
@@ -130,27 +125,24 @@ impl VastFile {
     ) {
         let owner_step = self.own(owner.0);
         let assignment_step = self.own(assignment.0);
-        self.later(Call::AddMemberContinuousAssignment, |calls| {
-            calls.step(owner_step).step(assignment_step)
-        });
+        self.later_of(
+            Call::AddMemberContinuousAssignment,
+            [owner_step, assignment_step],
+        );
     }
 
     /// A blank line, as the module's last member.
     pub fn add_member_blank_line(&mut self, owner: VastModule, blank: BlankLine) {
         let owner_step = self.own(owner.0);
         let blank_step = self.own(blank.0);
-        self.later(Call::AddMemberBlankLine, |calls| {
-            calls.step(owner_step).step(blank_step)
-        });
+        self.later_of(Call::AddMemberBlankLine, [owner_step, blank_step]);
     }
 
     /// The comment, as the module's last member.
     pub fn add_member_comment(&mut self, owner: VastModule, comment: Comment) {
         let owner_step = self.own(owner.0);
         let comment_step = self.own(comment.0);
-        self.later(Call::AddMemberComment, |calls| {
-            calls.step(owner_step).step(comment_step)
-        });
+        self.later_of(Call::AddMemberComment, [owner_step, comment_step]);
     }
 
     /// The text, as the module's last member.
@@ -161,17 +153,13 @@ impl VastFile {
     ) {
         let owner_step = self.own(owner.0);
         let statement_step = self.own(statement.0);
-        self.later(Call::AddMemberInlineStatement, |calls| {
-            calls.step(owner_step).step(statement_step)
-        });
+        self.later_of(Call::AddMemberInlineStatement, [owner_step, statement_step]);
     }
 
     /// The use of a macro, as the module's last member.
     pub fn add_member_macro_statement(&mut self, owner: VastModule, statement: MacroStatement) {
         let owner_step = self.own(owner.0);
         let statement_step = self.own(statement.0);
-        self.later(Call::AddMemberMacroStatement, |calls| {
-            calls.step(owner_step).step(statement_step)
-        });
+        self.later_of(Call::AddMemberMacroStatement, [owner_step, statement_step]);
     }
 }

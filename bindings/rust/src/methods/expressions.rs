@@ -114,18 +114,14 @@ impl VastFile {
         let subject_step = self.own_indexable(subject);
         let hi_step = self.own(hi.0);
         let lo_step = self.own(lo.0);
-        Slice(self.later(Call::MakeSliceExpr, |calls| {
-            calls.step(subject_step).step(hi_step).step(lo_step)
-        }))
+        Slice(self.later_of(Call::MakeSliceExpr, [subject_step, hi_step, lo_step]))
     }
 
     /// The bit `s[index]`, by an expression.
     pub fn make_index_expr(&mut self, subject: &IndexableExpr, index: &Expr) -> Index {
         let subject_step = self.own_indexable(subject);
         let index_step = self.own(index.0);
-        Index(self.later(Call::MakeIndexExpr, |calls| {
-            calls.step(subject_step).step(index_step)
-        }))
+        Index(self.later_of(Call::MakeIndexExpr, [subject_step, index_step]))
     }
 
     /// The range `s[start +: width]` of so many bits upwards.
@@ -200,21 +196,17 @@ impl VastFile {
         let condition_step = self.own(condition.0);
         let consequent_step = self.own(consequent.0);
         let alternate_step = self.own(alternate.0);
-        Expr(self.later(Call::MakeTernary, |calls| {
-            calls
-                .step(condition_step)
-                .step(consequent_step)
-                .step(alternate_step)
-        }))
+        Expr(self.later_of(
+            Call::MakeTernary,
+            [condition_step, consequent_step, alternate_step],
+        ))
     }
 
     /// The value, cast to a width: `w'(v)`.
     pub fn make_width_cast(&mut self, width: &Expr, value: &Expr) -> Expr {
         let width_step = self.own(width.0);
         let value_step = self.own(value.0);
-        Expr(self.later(Call::MakeWidthCast, |calls| {
-            calls.step(width_step).step(value_step)
-        }))
+        Expr(self.later_of(Call::MakeWidthCast, [width_step, value_step]))
     }
 
     /// The value, cast to a type that is no array; [`VastFile::type_can_be_cast`] is the test.
@@ -236,13 +228,13 @@ impl VastFile {
     /// The event of a rising edge, `posedge a`.
     pub fn make_pos_edge(&mut self, expression: &Expr) -> Expr {
         let expression_step = self.own(expression.0);
-        Expr(self.later(Call::MakePosEdge, |calls| calls.step(expression_step)))
+        Expr(self.later_of(Call::MakePosEdge, [expression_step]))
     }
 
     /// The event of a falling edge, `negedge a`.
     pub fn make_neg_edge(&mut self, expression: &Expr) -> Expr {
         let expression_step = self.own(expression.0);
-        Expr(self.later(Call::MakeNegEdge, |calls| calls.step(expression_step)))
+        Expr(self.later_of(Call::MakeNegEdge, [expression_step]))
     }
 
     /// The use of a macro without arguments, `` `M ``.

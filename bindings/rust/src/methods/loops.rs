@@ -74,9 +74,7 @@ impl VastFile {
     ) -> Result<VastAlwaysBase, VastError> {
         let generate_step = self.own(generate.0);
         Ok(VastAlwaysBase(
-            self.later(Call::GenerateAddAlwaysComb, |calls| {
-                calls.step(generate_step)
-            }),
+            self.later_of(Call::GenerateAddAlwaysComb, [generate_step]),
         ))
     }
 
@@ -141,12 +139,10 @@ impl VastFile {
         let generate_step = self.own(generate.0);
         let definition_step = self.own(definition.0);
         let rhs_step = self.own(rhs.0);
-        LocalparamRef(self.later(Call::GenerateAddTypedLocalparam, |calls| {
-            calls
-                .step(generate_step)
-                .step(definition_step)
-                .step(rhs_step)
-        }))
+        LocalparamRef(self.later_of(
+            Call::GenerateAddTypedLocalparam,
+            [generate_step, definition_step, rhs_step],
+        ))
     }
 
     /// The assignment `assign lhs = rhs`, as the loop's last member.
@@ -159,9 +155,10 @@ impl VastFile {
         let generate_step = self.own(generate.0);
         let lhs_step = self.own(lhs.0);
         let rhs_step = self.own(rhs.0);
-        VastStatement(self.later(Call::GenerateAddContinuousAssignment, |calls| {
-            calls.step(generate_step).step(lhs_step).step(rhs_step)
-        }))
+        VastStatement(self.later_of(
+            Call::GenerateAddContinuousAssignment,
+            [generate_step, lhs_step, rhs_step],
+        ))
     }
 
     /// A conditional with an empty block, as the loop's last member.
@@ -172,26 +169,25 @@ impl VastFile {
     ) -> Conditional {
         let generate_step = self.own(generate.0);
         let condition_step = self.own(condition.0);
-        Conditional(self.later(Call::GenerateAddConditional, |calls| {
-            calls.step(generate_step).step(condition_step)
-        }))
+        let made = self.later_of(
+            Call::GenerateAddConditional,
+            [generate_step, condition_step],
+        );
+        self.answer_next(Call::ConditionalThenBlock, made);
+        Conditional(made)
     }
 
     /// A blank line, as the loop's last member.
     pub fn generate_add_blank_line(&mut self, generate: GenerateLoop) {
         let generate_step = self.own(generate.0);
-        self.later(Call::GenerateAddBlankLine, |calls| {
-            calls.step(generate_step)
-        });
+        self.later_of(Call::GenerateAddBlankLine, [generate_step]);
     }
 
     /// The comment, as the loop's last member.
     pub fn generate_add_comment(&mut self, generate: GenerateLoop, comment: &Comment) {
         let generate_step = self.own(generate.0);
         let comment_step = self.own(comment.0);
-        self.later(Call::GenerateAddComment, |calls| {
-            calls.step(generate_step).step(comment_step)
-        });
+        self.later_of(Call::GenerateAddComment, [generate_step, comment_step]);
     }
 
     /// The instantiation, as the loop's last member.
@@ -202,9 +198,10 @@ impl VastFile {
     ) {
         let generate_step = self.own(generate.0);
         let instantiation_step = self.own(instantiation.0);
-        self.later(Call::GenerateAddInstantiation, |calls| {
-            calls.step(generate_step).step(instantiation_step)
-        });
+        self.later_of(
+            Call::GenerateAddInstantiation,
+            [generate_step, instantiation_step],
+        );
     }
 
     /// The text, as the loop's last member.
@@ -215,9 +212,10 @@ impl VastFile {
     ) {
         let generate_step = self.own(generate.0);
         let statement_step = self.own(statement.0);
-        self.later(Call::GenerateAddInlineStatement, |calls| {
-            calls.step(generate_step).step(statement_step)
-        });
+        self.later_of(
+            Call::GenerateAddInlineStatement,
+            [generate_step, statement_step],
+        );
     }
 
     /// The use of a macro, as the loop's last member.
@@ -228,8 +226,9 @@ impl VastFile {
     ) {
         let generate_step = self.own(generate.0);
         let statement_step = self.own(statement.0);
-        self.later(Call::GenerateAddMacroStatement, |calls| {
-            calls.step(generate_step).step(statement_step)
-        });
+        self.later_of(
+            Call::GenerateAddMacroStatement,
+            [generate_step, statement_step],
+        );
     }
 }

@@ -19,7 +19,7 @@ impl VastFile {
     /// A blank line, as the last item of the file.
     pub fn add_blank_line(&mut self, blank_line: BlankLine) {
         let blank_line_step = self.own(blank_line.0);
-        self.later(Call::AddBlankLine, |calls| calls.step(blank_line_step));
+        self.later_of(Call::AddBlankLine, [blank_line_step]);
     }
 
     /// A comment, as the last item of the file; each line of the text becomes a line of its own.
@@ -257,9 +257,10 @@ impl VastFile {
         let owner_step = self.own(owner.0);
         let definition_step = self.own(definition.0);
         let rhs_step = self.own(rhs.0);
-        ParameterRef(self.later(Call::AddParameterWithDef, |calls| {
-            calls.step(owner_step).step(definition_step).step(rhs_step)
-        }))
+        ParameterRef(self.later_of(
+            Call::AddParameterWithDef,
+            [owner_step, definition_step, rhs_step],
+        ))
     }
 
     /// `localparam NAME = VALUE`, as the module's last member; returns its name.
@@ -296,9 +297,10 @@ impl VastFile {
         let owner_step = self.own(owner.0);
         let definition_step = self.own(definition.0);
         let rhs_step = self.own(rhs.0);
-        LocalparamRef(self.later(Call::AddTypedLocalparam, |calls| {
-            calls.step(owner_step).step(definition_step).step(rhs_step)
-        }))
+        LocalparamRef(self.later_of(
+            Call::AddTypedLocalparam,
+            [owner_step, definition_step, rhs_step],
+        ))
     }
 
     /// Puts the module's wires, regs, logics and variables from the member `start` on before the other

@@ -162,9 +162,9 @@ impl VastFile {
     /// Where the library refuses the call, in its words.
     pub fn add_always_comb(&mut self, owner: VastModule) -> Result<VastAlwaysBase, VastError> {
         let owner_step = self.own(owner.0);
-        Ok(VastAlwaysBase(self.later(Call::AddAlwaysComb, |calls| {
-            calls.step(owner_step)
-        })))
+        Ok(VastAlwaysBase(
+            self.later_of(Call::AddAlwaysComb, [owner_step]),
+        ))
     }
 
     /// The block of the always block.
@@ -182,9 +182,10 @@ impl VastFile {
         let block_step = self.own(block.0);
         let lhs_step = self.own(lhs.0);
         let rhs_step = self.own(rhs.0);
-        VastStatement(self.later(Call::BlockAddBlockingAssignment, |calls| {
-            calls.step(block_step).step(lhs_step).step(rhs_step)
-        }))
+        VastStatement(self.later_of(
+            Call::BlockAddBlockingAssignment,
+            [block_step, lhs_step, rhs_step],
+        ))
     }
 
     /// The assignment `lhs <= rhs`, as the block's last statement.
@@ -197,9 +198,10 @@ impl VastFile {
         let block_step = self.own(block.0);
         let lhs_step = self.own(lhs.0);
         let rhs_step = self.own(rhs.0);
-        VastStatement(self.later(Call::BlockAddNonblockingAssignment, |calls| {
-            calls.step(block_step).step(lhs_step).step(rhs_step)
-        }))
+        VastStatement(self.later_of(
+            Call::BlockAddNonblockingAssignment,
+            [block_step, lhs_step, rhs_step],
+        ))
     }
 
     /// The assignment `assign lhs = rhs`, as the block's last statement.
@@ -212,9 +214,10 @@ impl VastFile {
         let block_step = self.own(block.0);
         let lhs_step = self.own(lhs.0);
         let rhs_step = self.own(rhs.0);
-        VastStatement(self.later(Call::BlockAddContinuousAssignment, |calls| {
-            calls.step(block_step).step(lhs_step).step(rhs_step)
-        }))
+        VastStatement(self.later_of(
+            Call::BlockAddContinuousAssignment,
+            [block_step, lhs_step, rhs_step],
+        ))
     }
 
     /// A comment, as the block's last statement; each line of the text becomes a line of its own.
@@ -246,7 +249,7 @@ impl VastFile {
     /// A blank line, as the block's last statement.
     pub fn block_add_blank_line(&mut self, block: VastStatementBlock) -> VastStatement {
         let block_step = self.own(block.0);
-        self.later(Call::BlockAddBlankLine, |calls| calls.step(block_step));
+        self.later_of(Call::BlockAddBlankLine, [block_step]);
         VastStatement(block.0)
     }
 
@@ -254,23 +257,23 @@ impl VastFile {
     pub fn add_conditional(&mut self, owner: VastModule, condition: &Expr) -> Conditional {
         let owner_step = self.own(owner.0);
         let condition_step = self.own(condition.0);
-        Conditional(self.later(Call::AddConditional, |calls| {
-            calls.step(owner_step).step(condition_step)
-        }))
+        let made = self.later_of(Call::AddConditional, [owner_step, condition_step]);
+        self.answer_next(Call::ConditionalThenBlock, made);
+        Conditional(made)
     }
 
     /// A conditional with an empty block, as the block's last statement.
     pub fn block_add_cond(&mut self, block: VastStatementBlock, condition: &Expr) -> Conditional {
         let block_step = self.own(block.0);
         let condition_step = self.own(condition.0);
-        Conditional(self.later(Call::BlockAddCond, |calls| {
-            calls.step(block_step).step(condition_step)
-        }))
+        let made = self.later_of(Call::BlockAddCond, [block_step, condition_step]);
+        self.answer_next(Call::ConditionalThenBlock, made);
+        Conditional(made)
     }
 
     /// The block of the conditional's first arm.
     pub fn conditional_then_block(&self, conditional: Conditional) -> VastStatementBlock {
-        VastStatementBlock(self.answered(Call::ConditionalThenBlock, conditional.0))
+        VastStatementBlock(self.answered_next(Call::ConditionalThenBlock, conditional.0))
     }
 
     /// An arm `else if` with an empty block, as the conditional's last; returns the block. The conditional
@@ -316,43 +319,35 @@ impl VastFile {
     pub fn block_add_case(&mut self, block: VastStatementBlock, selector: &Expr) -> CaseStatement {
         let block_step = self.own(block.0);
         let selector_step = self.own(selector.0);
-        CaseStatement(self.later(Call::BlockAddCase, |calls| {
-            calls.step(block_step).step(selector_step)
-        }))
+        CaseStatement(self.later_of(Call::BlockAddCase, [block_step, selector_step]))
     }
 
     /// A `casez` statement without arms, as the block's last statement.
     pub fn block_add_casez(&mut self, block: VastStatementBlock, selector: &Expr) -> CaseStatement {
         let block_step = self.own(block.0);
         let selector_step = self.own(selector.0);
-        CaseStatement(self.later(Call::BlockAddCasez, |calls| {
-            calls.step(block_step).step(selector_step)
-        }))
+        CaseStatement(self.later_of(Call::BlockAddCasez, [block_step, selector_step]))
     }
 
     /// A `casex` statement without arms, as the block's last statement.
     pub fn block_add_casex(&mut self, block: VastStatementBlock, selector: &Expr) -> CaseStatement {
         let block_step = self.own(block.0);
         let selector_step = self.own(selector.0);
-        CaseStatement(self.later(Call::BlockAddCasex, |calls| {
-            calls.step(block_step).step(selector_step)
-        }))
+        CaseStatement(self.later_of(Call::BlockAddCasex, [block_step, selector_step]))
     }
 
     /// An arm with this label and an empty block, as the case statement's last; returns the block.
     pub fn case_add_item(&mut self, case: CaseStatement, pattern: &Expr) -> VastStatementBlock {
         let case_step = self.own(case.0);
         let pattern_step = self.own(pattern.0);
-        VastStatementBlock(self.later(Call::CaseAddItem, |calls| {
-            calls.step(case_step).step(pattern_step)
-        }))
+        VastStatementBlock(self.later_of(Call::CaseAddItem, [case_step, pattern_step]))
     }
 
     /// A `default` arm with an empty block, as the case statement's last; returns the block. There may be
     /// more than one.
     pub fn case_add_default(&mut self, case: CaseStatement) -> VastStatementBlock {
         let case_step = self.own(case.0);
-        VastStatementBlock(self.later(Call::CaseAddDefault, |calls| calls.step(case_step)))
+        VastStatementBlock(self.later_of(Call::CaseAddDefault, [case_step]))
     }
 
     /// Makes the case statement `unique`, or not. It takes no memory.

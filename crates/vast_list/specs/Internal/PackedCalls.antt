@@ -12,7 +12,7 @@ use Rattle.vast_list.specs.declared.table.numbered.Place.{Place}
 use Rattle.vast_script.specs.declared.step.Step.{Step as ScriptStep}
 use Rattle.vast_list.specs.PackedCalls.{GivesPacked, IsCallFront, NamesPacked}
 use Rattle.vast_list.specs.PackedLists.{RunsPacked}
-use Rattle.vast_list.specs.Session.{IsLeft}
+use Rattle.vast_list.specs.Session.{IsLeft, IsMade, IsSameKnown}
 use Rattle.std.specs.Borrow.{Bor}
 use Rattle.vast_list.specs.declared.line.Call.{Call}
 use Rattle.vast_list.specs.declared.line.Call.TheVariants.{Step as StepCall, Helper as HelperCall}
@@ -33,6 +33,11 @@ IsPlaceFront bytes place behind = (n : ℕ) × IsNumberFront bytes n behind × (
 -- The arguments are those of this step, which the place is.
 abbrev pub IsStepAt : (skipped : List ℕ) → Place → (arguments : List ℕ) → ScriptStep → Type 0
 IsStepAt skipped place arguments step = (name_at place ≡ Some (step_name step)) × ArePacked skipped (step_pieces step) arguments
+
+-- The call of this place over the arguments is a step, which was made.
+abbrev pub MadeAt : (old new : Session) → Place → (arguments : List ℕ) → Type 0
+MadeAt old new place arguments =
+    (step : ScriptStep) × IsStepAt old.skipped.items place arguments step × IsMade old new (StepCall step) × IsSameKnown old new
 
 -- The bytes are a step, which was made.
 abbrev pub GavePacked : (old new : Session) → (bytes : List ℕ) → Type 0

@@ -7,7 +7,7 @@ ghost use Rattle.vast_list.specs.PackedLists.{GaveFront, GivesFront, IsToldOfFro
 ghost use Rattle.vast_list.specs.Session.{IsFileLeft, IsLeft, IsMade, IsSame, IsSameFile, IsSameKnown};
 ghost use Rattle.vast_list.specs.declared.fault.Fault.TheVariants.{Memory};
 ghost use Rattle.vast_list.specs.declared.line.Call.TheVariants.{Step as StepCall};
-ghost use Rattle.vast_list.specs.Internal.PackedCalls.{GavePacked, IsStepAt, IsToldMispacked, IsUnpacked, RunsAll, TakesPacked, given_by};
+ghost use Rattle.vast_list.specs.Internal.PackedCalls.{GavePacked, IsStepAt, MadeAt, IsToldMispacked, IsUnpacked, RunsAll, TakesPacked, given_by};
 
 use crate::arguments::{Arguments, Rest};
 use crate::calls::make_step;
@@ -77,7 +77,8 @@ impl Session {
         }
     }
 
-    /// The same of a call's bytes; whether it was made.
+    /// The same of a call's bytes; whether it was made. Each group of calls has its own code here, in which a step takes as
+    /// much room as those of the group.
     #[tactic(auto, using(crate::proofs::MadeSteps::calls))]
     fn made_call(&mut self, number: usize, bytes: &[u8]) -> Result<bool, AllocError>
         ensures made { result ≡ Ok true → GavePacked self.old self.new bytes.now }
@@ -87,6 +88,27 @@ impl Session {
         let Some((place, arguments)) = place_front(bytes) else {
             return Ok(false);
         };
+        match place {
+            Place::Operator(at) => self.made_at(number, Place::Operator(at), arguments),
+            Place::Expression(at) => self.made_at(number, Place::Expression(at), arguments),
+            Place::DataType(at) => self.made_at(number, Place::DataType(at), arguments),
+            Place::Module(at) => self.made_at(number, Place::Module(at), arguments),
+            Place::Loop(at) => self.made_at(number, Place::Loop(at), arguments),
+            Place::Statement(at) => self.made_at(number, Place::Statement(at), arguments),
+            Place::Artifact(at) => self.made_at(number, Place::Artifact(at), arguments),
+            Place::Question(_) | Place::Helper(_) => Ok(false),
+        }
+    }
+
+    /// The same of the call of this place, over the arguments.
+    #[inline(always)]
+    #[tactic(auto, using(crate::proofs::MadeSteps::places))]
+    fn made_at(&mut self, number: usize, place: Place, arguments: &[u8]) -> Result<bool, AllocError>
+        ensures made { result ≡ Ok true →
+            MadeAt self.old self.new place arguments.now }
+        ensures same { result ≡ Ok false → IsSame self.old self.new }
+        ensures left { OnErr result (IsLeft self.old self.new Memory) }
+    {
         let Ok(step) = self.step_at(place, arguments) else {
             return Ok(false);
         };
@@ -94,6 +116,7 @@ impl Session {
     }
 
     /// The step of this place over the arguments.
+    #[inline(always)]
     #[tactic(auto, using(crate::proofs::MadeSteps::steps))]
     fn step_at(&self, place: Place, arguments: &[u8]) -> Result<Step, Misfit>
         ensures { IfOk result (IsStepAt self.now.skipped.items place arguments.now) }
@@ -103,6 +126,7 @@ impl Session {
     }
 
     /// Makes the step and keeps its answer; whether it is not refused.
+    #[inline(always)]
     #[tactic(auto, using(crate::proofs::MadeSteps::made))]
     fn made_by(&mut self, number: usize, step: &Step) -> Result<bool, AllocError>
         ensures made { result ≡ Ok true → IsMade self.old self.new (StepCall step.now) }
@@ -115,7 +139,7 @@ impl Session {
         match replay_step(&mut self.file, &self.answers, step) {
             Ok(answer) => {
                 keep_select(&mut self.selects, answer, number);
-                self.answers.push(answer)?;
+                self.answers.push_reserved(answer);
                 Ok(true)
             }
             Err(StepFault::Memory) => Err(AllocError),
