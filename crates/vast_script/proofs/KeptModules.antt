@@ -20,7 +20,7 @@ use Rattle.vast_script.specs.declared.answer.Answer.TheVariants.{VastDataType, L
 use Rattle.vast_script.specs.declared.step.ModuleStep.{ModuleStep}
 use Rattle.vast_script.specs.declared.step.ModuleStep.TheVariants.{AddInclude, AddBlankLine, AddCommentText, AddModule, AddInput, AddOutput, AddInout, AddLogicInput, AddLogicOutput, AddWire, AddReg, AddLogic, AddParameterPort, AddTypedParameterPort, AddParameter, AddParameterWithDef, AddLocalparam, AddIntLocalparam, AddTypedLocalparam, HoistModuleDeclarations, AddImport, AddFileImport, AddEnumTypedef, AddStructTypedef, AddFileEnumTypedef, AddFileStructTypedef, AddVariable}
 use Rattle.vast_script.specs.Outcome.{Made, provided, allowed}
-use Rattle.vast_core.specs.Records.{EnumType, StructType}
+use Rattle.vast_core.specs.declared.typedef.DeclaredType.TheVariants.{Enum as EnumType, Struct as StructType}
 use Rattle.xlsynth_vast.specs.Instances.{connected}
 use Rattle.vast_script.specs.Kinds.{a_module, a_type, an_expr, a_definition, a_blank_line}
 use Rattle.vast_script.specs.Arguments.{one, two, three, many, one_and_many, one_and_open, two_and_open}

@@ -1,7 +1,7 @@
 -- What becomes of a call of a type that is declared by name.
 use Rattle.std.specs.Prelude.{ℕ, nat_eq, List, length, Option}
 use Rattle.vast_core.specs.Growth.{next_type, with_typedef, with_file_typedef}
-use Rattle.vast_core.specs.Records.{EnumType, StructType}
+use Rattle.vast_core.specs.declared.typedef.DeclaredType.TheVariants.{Enum as EnumType, Struct as StructType}
 use Rattle.xlsynth_vast.specs.Instances.{connected}
 use Rattle.vast_script.specs.declared.answer.Answer.TheVariants.{VastDataType}
 use Rattle.vast_script.specs.Outcome.{Call, provided, makes}

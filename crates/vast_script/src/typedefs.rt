@@ -3,7 +3,7 @@
 ghost use Rattle.std.specs.Prelude.{◌≡◌, All, IfSome, length, map, string_bytes};
 ghost use Rattle.vast_core.specs.Bench.{OwnsExpr, OwnsModule, OwnsType};
 ghost use Rattle.vast_core.specs.Growth.{Builds, next_type, with_typedef, with_file_typedef};
-ghost use Rattle.vast_core.specs.Records.{EnumType};
+ghost use Rattle.vast_core.specs.declared.typedef.DeclaredType.TheVariants.{Enum as EnumType};
 ghost use Rattle.xlsynth_vast.specs.Instances.{connected};
 ghost use Rattle.vast_script.specs.Outcome.{Replays};
 ghost use Rattle.vast_script.specs.Typedefs.{add_enum_typedef, add_struct_typedef, add_file_enum_typedef, add_file_struct_typedef};

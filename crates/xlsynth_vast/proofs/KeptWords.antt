@@ -16,7 +16,8 @@ use Rattle.vast_literal.specs.declared.kind.ModulePortDirection.{ModulePortDirec
 use Rattle.vast_literal.specs.declared.kind.DataKind.{DataKind}
 use Rattle.vast_literal.specs.declared.kind.AlwaysKind.{AlwaysKind}
 use Rattle.vast_literal.specs.declared.kind.CaseKind.{CaseKind}
-use Rattle.vast_core.specs.Records.{InstanceRecord, DeclaredType, new_module}
+use Rattle.vast_core.specs.Records.{InstanceRecord, new_module}
+use Rattle.vast_core.specs.declared.typedef.DeclaredType.{DeclaredType}
 use Rattle.vast_core.specs.declared.node.FileItem.{FileItem}
 use Rattle.vast_core.specs.declared.node.FileItem.TheVariants.{Module as ModuleEntry}
 use Rattle.vast_core.specs.declared.node.Artifact.{Artifact}

@@ -5,7 +5,9 @@ use Rattle.vast_core.specs.declared.handle.Def.{Def}
 use Rattle.vast_core.specs.declared.handle.ModulePort.{ModulePort}
 use Rattle.vast_core.specs.declared.handle.VastStatementBlock.{VastStatementBlock}
 use Rattle.vast_core.specs.declared.node.Assignment.{Assignment}
-use Rattle.vast_core.specs.Records.{ModuleRecord, InstanceRecord, DeclaredType, EnumType, StructType}
+use Rattle.vast_core.specs.Records.{ModuleRecord, InstanceRecord}
+use Rattle.vast_core.specs.declared.typedef.DeclaredType.{DeclaredType}
+use Rattle.vast_core.specs.declared.typedef.DeclaredType.TheVariants.{Enum as EnumType, Struct as StructType}
 use Rattle.vast_core.specs.declared.node.FileItem.{FileItem}
 use Rattle.vast_core.specs.declared.node.FileItem.TheVariants.{Module as ModuleEntry, Include as IncludeEntry, Import as FileImportEntry, Typedef as FileTypedefEntry, Comment as FileCommentEntry, BlankLine as FileBlankEntry}
 use Rattle.vast_core.specs.declared.node.Artifact.{Artifact}

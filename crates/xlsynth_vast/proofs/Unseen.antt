@@ -13,7 +13,9 @@ use Rattle.vast_core.specs.declared.node.Assignment.{Assignment}
 use Rattle.vast_core.specs.declared.node.ElseIf.{ElseIf}
 use Rattle.vast_core.specs.declared.node.CaseArm.{CaseArm}
 use Rattle.vast_core.specs.Nodes.{maybe_type_in, maybe_expr_in}
-use Rattle.vast_core.specs.Records.{ModuleRecord, InstanceRecord, DeclaredType, EnumType, StructType}
+use Rattle.vast_core.specs.Records.{ModuleRecord, InstanceRecord}
+use Rattle.vast_core.specs.declared.typedef.DeclaredType.{DeclaredType}
+use Rattle.vast_core.specs.declared.typedef.DeclaredType.TheVariants.{Enum as EnumType, Struct as StructType}
 use Rattle.vast_core.specs.declared.node.ParameterPort.{ParameterPort}
 use Rattle.vast_core.specs.declared.node.FileItem.{FileItem}
 use Rattle.vast_core.specs.declared.node.FileItem.TheVariants.{Module as ModuleEntry, Typedef as FileTypedefEntry}

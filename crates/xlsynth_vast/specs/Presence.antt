@@ -6,7 +6,9 @@ use Rattle.vast_core.specs.declared.handle.ModulePort.{ModulePort}
 use Rattle.vast_core.specs.declared.handle.VastStatementBlock.{VastStatementBlock}
 use Rattle.vast_core.specs.declared.node.ElseIf.{ElseIf}
 use Rattle.vast_core.specs.declared.node.CaseArm.{CaseArm}
-use Rattle.vast_core.specs.Records.{ModuleRecord, DeclaredType, StructType}
+use Rattle.vast_core.specs.Records.{ModuleRecord}
+use Rattle.vast_core.specs.declared.typedef.DeclaredType.{DeclaredType}
+use Rattle.vast_core.specs.declared.typedef.DeclaredType.TheVariants.{Struct as StructType}
 use Rattle.vast_core.specs.declared.node.Definition.{Definition}
 use Rattle.vast_core.specs.declared.node.FileItem.{FileItem}
 use Rattle.vast_core.specs.declared.node.FileItem.TheVariants.{Typedef as FileTypedefEntry, BlankLine as FileBlankEntry}

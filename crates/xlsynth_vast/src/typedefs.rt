@@ -4,7 +4,7 @@
 ghost use Rattle.std.specs.Prelude.{◌≡◌, All, IfOk, IfSome, length, map, option_copied};
 ghost use Rattle.vast_core.specs.Bench.{OwnsDef, OwnsExpr, OwnsModule, OwnsType};
 ghost use Rattle.vast_core.specs.Growth.{Builds, next_type, with_typedef, with_file_typedef};
-ghost use Rattle.vast_core.specs.Records.{EnumType, StructType};
+ghost use Rattle.vast_core.specs.declared.typedef.DeclaredType.TheVariants.{Enum as EnumType, Struct as StructType};
 ghost use Rattle.vast_core.specs.Sound.{TypedefSound};
 ghost use Rattle.xlsynth_vast.specs.Instances.{connected};
 ghost use Rattle.xlsynth_vast.specs.Keeps.{Keeps};
