@@ -2,8 +2,11 @@
 use Rattle.std.proofs.Common.{◌≡◌, ℕ, zero, suc, ◌+◌, ◌<◌, List, [], ◌∷◌, ◌++◌, length, map, All, Option, Some, None, refl, ap, arith, take, get_or, add-one, Bor, IfSome, option_copied}
 use Rattle.vast_core.specs.declared.node.Connection.{Connection}
 use Rattle.vast_core.specs.declared.handle.Expr.{Expr}
-use Rattle.vast_core.specs.Bench.{Bench, OwnsExpr}
-use Rattle.vast_core.specs.Sound.{Each, ConnectionSound}
+use Rattle.vast_core.specs.declared.handle.VastDataType.{VastDataType}
+use Rattle.vast_core.specs.declared.typedef.DeclaredType.{DeclaredType}
+use Rattle.vast_core.specs.declared.typedef.DeclaredType.TheVariants.{Enum as EnumType}
+use Rattle.vast_core.specs.Bench.{Bench, OwnsExpr, OwnsType}
+use Rattle.vast_core.specs.Sound.{Each, ConnectionSound, TypedefSound}
 use Rattle.vast_core.specs.WrittenKinds.{HasValue}
 use Rattle.vast_core.proofs.Lists.{All-own, All-head, All-tail}
 use Rattle.xlsynth_vast.specs.Instances.{connected}
@@ -58,3 +61,12 @@ some-owned b (Some x) h = h
 pub each-copied : (b : Bench) (es : List (Option (Bor Expr))) → All (λ e. IfSome e (λ x. OwnsExpr b x.now)) es → Each (λ o. IfSome o (OwnsExpr b)) (map option_copied es)
 each-copied b [] h = tt
 each-copied b (e ∷ es) h = (some-owned b e (All-head (λ e. IfSome e (λ x. OwnsExpr b x.now)) e es h), each-copied b es (All-tail (λ e. IfSome e (λ x. OwnsExpr b x.now)) e es h))
+
+-- An enumeration of a type and of values of the file.
+
+pub enum-sound :
+    (b : Bench) (t : DeclaredType) (d : VastDataType) (n : List ℕ) (names : List (List ℕ)) (values : List (Option (Bor Expr))) (made : List Connection) → t ≡ EnumType d n made →
+    made ≡ connected names (map option_copied values) → OwnsType b d → All (λ e. IfSome e (λ x. OwnsExpr b x.now)) values → TypedefSound b t
+enum-sound b t d n names values made e m o v = rw e (o, connected-sound b names (map option_copied values) made m (each-copied b values v))
+
+pub ruleset enumerations = (enum-sound)

@@ -16,6 +16,7 @@ use vast_core::{Def, Expr, Typedef, VastDataType, VastModule};
 
 impl VastFile {
     /// An enumeration of these entries, which stands nowhere yet.
+    #[tactic(auto, using(crate::proofs::Connected::enumerations))]
     fn enumeration(
         &self,
         name: &str,
