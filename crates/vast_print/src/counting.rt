@@ -32,8 +32,8 @@ pub(crate) fn print_for(ast: &Ast, parts: &ForParts, out: &mut Writer) -> Result
     print_block(ast, parts.block, out)
 }
 
-/// Writes what a loop's variable starts from and how far it runs, after the last line. The end stands as the right child
-/// of the comparison.
+/// Writes what a loop's variable starts from and how far it runs, after the last line. The end stands as the right
+/// child of the comparison.
 #[tactic(auto, using(crate::proofs::ContainerLaws::headers))]
 pub(crate) fn print_counting(
     ast: &Ast,

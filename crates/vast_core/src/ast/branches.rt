@@ -16,9 +16,7 @@ use crate::ast::Ast;
 use crate::ast::arrivals::{Node, Terms};
 use crate::ast::growth::{Entry, Place};
 use crate::handle::{CaseStatement, Conditional, Expr, VastStatementBlock};
-use crate::node::{
-    CaseArm, CaseNode, ConditionalNode, ElseIf, ForLoop, ForParts, Nest, Statement,
-};
+use crate::node::{CaseArm, CaseNode, ConditionalNode, ElseIf, ForLoop, ForParts, Nest, Statement};
 use std::alloc::AllocError;
 use vast_literal::CaseKind;
 use vast_names::Word;

@@ -30,12 +30,7 @@ pub enum NormalStatement {
     /// A case: whether it is unique, its word (`case`, `casez` or `casex`), its selector, its arms.
     Case(bool, Word, Box<NormalExpr>, Children<CaseArm>),
     /// A loop: its index, what that starts from and what it stays below, and what is done each time.
-    For(
-        Word,
-        Box<NormalExpr>,
-        Box<NormalExpr>,
-        Children<NormalStatement>,
-    ),
+    For(Word, Box<NormalExpr>, Box<NormalExpr>, Children<NormalStatement>),
 }
 
 /// An arm of a conditional.
