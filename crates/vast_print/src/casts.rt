@@ -20,11 +20,11 @@ use vast_core::{Ast, Expr, TypeNode, VastDataType};
 
 /// Puts what is cast, and what stands after it, on the list of work.
 #[tactic(auto, using(crate::proofs::PieceLaws::pushes))]
-fn push_operand(
+fn push_operand<'a>(
     ast: &Ast,
     operand: Expr,
-    closing: &'static str,
-    work: &mut Vec<Piece<'_>>,
+    closing: &'a str,
+    work: &mut Vec<Piece<'a>>,
 ) -> Result<(), AllocError>
     requires part { OwnsExpr (bench ast.now) operand }
     requires owned { PiecesOwned (bench ast.now) work.old.items }

@@ -65,7 +65,7 @@ fn print_piece<'a>(
     requires piece { PieceOwned (bench ast.now) piece }
     requires owned { PiecesOwned (bench ast.now) work.old.items }
     ensures { Begins (bench ast.now) out.old out.new work.old.items work.new.items result
-        (piece_text (bench ast.now) piece) (piece_weight (bench ast.now) piece) }
+        (piece_text (bench ast.now) piece.entry) (piece_weight (bench ast.now) piece.entry) }
 {
     match piece {
         Piece::Plain(text) => {
