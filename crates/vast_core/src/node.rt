@@ -8,9 +8,9 @@ use crate::handle::{
     InlineVerilogStatement, Instantiation, LogicRef, MacroRef, MacroStatement, ModulePort,
     VastAlwaysBase, VastDataType, VastFunction, VastModule, VastStatement, VastStatementBlock,
 };
+use crate::typedef::Typedef;
 use std::alloc::{AllocError, Global};
 use std::marker::Model;
-use crate::typedef::Typedef;
 use vast_literal::{
     AlwaysKind, BinaryOperator, CaseKind, DataKind, ModulePortDirection, UnaryOperator,
 };
