@@ -63,12 +63,16 @@ pub made_step_at :
     MadeAt old new place arguments
 made_step_at old new arguments place step s m k = (step, s, m, k)
 
-pub made_packed_step : (old new : Session) (bytes arguments : List ℕ) (place : Place) → IsPlaceFront bytes place arguments → MadeAt old new place arguments → GavePacked old new bytes
-made_packed_step old new bytes arguments place p made =
+made_packed_at : (old new : Session) (bytes arguments : List ℕ) (place : Place) → IsPlaceFront bytes place arguments → MadeAt old new place arguments → GavePacked old new bytes
+made_packed_at old new bytes arguments place p made =
     let step : ScriptStep = made.0 in
     let name : Bor (List ℕ) = record { ref_ptr = (0, 0); now = step_name step } in
     let s : IsStepAt old.skipped.items place arguments step = made.1 in
     (Step (next_number old) name, (refl, step, (refl, (arguments, call_in_front bytes arguments (step_name step) place p.0 p.1 p.2 s.0, s.1), made.2, made.3)))
+
+pub made_packed_step :
+    (old new : Session) (bytes arguments : List ℕ) (place at : Place) → IsPlaceFront bytes place arguments → place ≡ at → MadeAt old new at arguments → GavePacked old new bytes
+made_packed_step old new bytes arguments place at p e made = made_packed_at old new bytes arguments at (subst (λ (at : Place). IsPlaceFront bytes at arguments) e p) made
 
 pub same_whole : (old new : Session) → IsSameFile old new → IsSameKnown old new → IsSame old new
 same_whole old new f k = (f, k)

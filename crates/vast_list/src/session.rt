@@ -283,7 +283,6 @@ impl Session {
         }
     }
 
-    #[inline(always)]
     pub(crate) fn known(&self) -> Known<'_>
         ensures names { result.names.now ≡ self.now.names }
         ensures skipped { result.skipped.now ≡ self.now.skipped.items }
