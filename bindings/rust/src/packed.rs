@@ -23,7 +23,7 @@ impl Calls {
     /// Writes the call of these steps whole, which takes less time than to write it by parts.
     #[inline]
     pub(crate) fn push<const COUNT: usize>(&mut self, call: Call, steps: [usize; COUNT]) {
-        const { assert!(COUNT <= MOST_STEPS) };
+        assert!(COUNT <= MOST_STEPS);
         self.bytes.reserve((2 + COUNT) * MOST_DIGITS);
         self.last = self.bytes.len();
         // SAFETY: there is room for the length, the number of the call and the steps, as many digits as each has at most.
