@@ -153,7 +153,6 @@ are_plain_items (_ ∷ items) = are_plain_items items
 -- The names of the file's modules, instances, ports, connections, parameters, labels, loops, packages, types and macros are plain, no
 -- inline text stands in it, edges stand only in the lists of events, left sides are names, selects, members and concatenations, what
 -- stands as a statement by itself is a call, enumerations are over bits, vectors and integers, and what a module declares without a
--- kind has a type's name. What isn't printed is not
--- asked: the types of names, and events that aren't listed.
+-- kind has a type's name. What isn't printed is not asked: the types of names, and events that aren't listed.
 abbrev pub is_plain_file : FileTree → Bool
 is_plain_file f = are_plain_items f.items

@@ -108,8 +108,9 @@ impl VastFile {
 
     /// Whether the file is plain, the condition under which the grammar derives the normal form of its tree from the
     /// text that [`VastFile::emit`] returns: each printed name is an identifier and no keyword, left sides are names,
-    /// selects, members or concatenations, edges stand only in lists of events, an include's path has no quote,
-    /// backslash or line break, and there is no inline text.
+    /// selects, members or concatenations, edges stand only in lists of events, statements by themselves are calls, what a
+    /// module declares has a kind's word or a type's name, enumerations are over bits, vectors and integers, an include's
+    /// path has no quote, backslash or line break, and there is no inline text.
     ///
     /// # Errors
     /// `AllocError` where memory was refused.
