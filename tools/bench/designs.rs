@@ -1,4 +1,4 @@
-//! The designs of crates/vast_bench, built by the same calls of the Rust crate xlsynth-vast: `designs flat 10000 5`.
+//! The designs of `vast_show measure`, built by the same calls of the Rust crate xlsynth-vast: `designs flat 10000 5`.
 
 use std::env;
 use std::thread;

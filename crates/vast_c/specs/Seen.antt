@@ -6,7 +6,7 @@ use Rattle.std.specs.Ordering.{int_eq}
 use Rattle.std.specs.declared.alloc.Global.{Global}
 use Rattle.vast_core.specs.FileTree.{tree}
 use Rattle.vast_literal.specs.declared.kind.VastFileType.{VastFileType}
-use Rattle.vast_list.specs.Lines.{HasKind, Passed}
+use Rattle.vast_calls.specs.Lines.{HasKind, Passed}
 use Rattle.vast_list.specs.Session.{Gives, IsCausedBy, IsFileLeft, IsGivenBy, IsNew, IsOfLine, IsTextOf}
 use Rattle.vast_list.specs.declared.fault.Fault.{Fault}
 use Rattle.vast_list.specs.declared.fault.Fault.TheVariants.{Line, Memory as FaultMemory}

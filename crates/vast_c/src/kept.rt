@@ -5,7 +5,7 @@ ghost use Rattle.std.specs.Prelude.{length};
 ghost use Rattle.vast_list.specs.Session.{IsLeft};
 ghost use Rattle.vast_list.specs.declared.fault.Fault.TheVariants.{Line};
 ghost use Rattle.vast_list.specs.declared.session.Session.{Session as AnySession};
-ghost use Rattle.vast_list.specs.Lines.{lines_of};
+ghost use Rattle.vast_calls.specs.Lines.{lines_of};
 ghost use Rattle.vast_c.specs.Seen.{GaveLine, IsFresh, IsPrinted, Run, TellsFault, cause_of, more_lines};
 ghost use Rattle.vast_list.specs.PackedLists.{GaveFront, RunsPacked};
 ghost use Rattle.vast_c.specs.SeenPacked.{RunPacked, TellsPacked};

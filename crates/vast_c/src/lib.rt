@@ -6,7 +6,7 @@
 ghost use Rattle.std.specs.Prelude.{◌≡◌, ◌≢◌, ◌<◌, ◌↔◌, Some, None, length};
 ghost use Rattle.vast_list.specs.Session.{IsSame};
 ghost use Rattle.vast_literal.specs.declared.kind.VastFileType.TheVariants.{Verilog, SystemVerilog};
-ghost use Rattle.vast_list.specs.Lines.{lines_of};
+ghost use Rattle.vast_calls.specs.Lines.{lines_of};
 ghost use Rattle.vast_c.specs.Seen.{Copied, CopiedSome, IsFresh, IsSameTree, Made, Printed};
 ghost use Rattle.vast_c.specs.SeenPacked.{MadeAllPacked, MadePacked};
 ghost use Rattle.vast_c.specs.Seen.{lines_in, number_in, session_in, status_in, status_of, text_in, told_in};

@@ -1,7 +1,7 @@
 //! The lines of a text.
 
 ghost use Rattle.std.specs.Prelude.{◌≡◌, ◌<◌, ◌∷◌, length};
-ghost use Rattle.vast_list.specs.Lines.{lines_of};
+ghost use Rattle.vast_calls.specs.Lines.{lines_of};
 
 use vast_list::ended_line;
 

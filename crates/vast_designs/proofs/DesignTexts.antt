@@ -20,7 +20,7 @@ use Rattle.xlsynth_vast.specs.Conditions.{is_free}
 use Rattle.xlsynth_vast.specs.Declarations.{already_declared}
 use Rattle.xlsynth_vast.specs.Functions.{declared_in_function}
 use Rattle.vast_script.specs.declared.answer.Answer.{Answer}
-use Rattle.vast_script.specs.declared.step.Step.{Step}
+use Rattle.vast_steps.specs.declared.step.Step.{Step}
 use Rattle.vast_script.specs.Arguments.{found, one, two, three, many}
 use Rattle.vast_script.specs.Script.{call_of, run, Going, called}
 use Rattle.vast_script.proofs.Calls.{left-called}

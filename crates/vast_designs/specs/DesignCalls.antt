@@ -11,9 +11,9 @@ use Rattle.vast_core.specs.Bench.{start}
 use Rattle.vast_core.specs.FileTree.{tree}
 use Rattle.vast_script.specs.Outcome.{Call}
 use Rattle.vast_script.specs.Script.{called}
-use Rattle.vast_script.specs.declared.step.TypeStep.TheVariants.{MakeBitVectorType}
-use Rattle.vast_script.specs.declared.step.StatementStep.TheVariants.{FunctionBody, FunctionResult, CaseAddItem, CaseAddDefault, CaseSetUnique}
-use Rattle.vast_script.specs.declared.step.ArtifactStep.TheVariants.{MakeContinuousAssignment, AddMemberContinuousAssignment}
+use Rattle.vast_steps.specs.declared.step.TypeStep.TheVariants.{MakeBitVectorType}
+use Rattle.vast_steps.specs.declared.step.StatementStep.TheVariants.{FunctionBody, FunctionResult, CaseAddItem, CaseAddDefault, CaseSetUnique}
+use Rattle.vast_steps.specs.declared.step.ArtifactStep.TheVariants.{MakeContinuousAssignment, AddMemberContinuousAssignment}
 use Rattle.vast_script.specs.Types.{type_call}
 use Rattle.vast_script.specs.Expressions.{make_binary_pattern, make_leaf, make_function_call}
 use Rattle.vast_script.specs.Modules.{add_module, add_port}

@@ -2,7 +2,7 @@
 use Rattle.std.proofs.Common.{◌≡◌, ℕ, zero, suc, ◌≤◌, List, [], ◌∷◌, length, map, Option, refl, ap, ◌∙◌, arith}
 use Rattle.std.specs.List.{fold}
 use Rattle.vast_core.specs.Records.{changed_at}
-use Rattle.vast_script.specs.declared.step.Step.{Step}
+use Rattle.vast_steps.specs.declared.step.Step.{Step}
 use Rattle.vast_lint.specs.declared.lint.Lint.{Lint}
 use Rattle.vast_lint.specs.declared.notes.Note.{Note}
 use Rattle.vast_lint.specs.Notes.{notes, noted}

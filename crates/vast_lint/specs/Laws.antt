@@ -1,7 +1,7 @@
 -- Laws of lists that are linted.
 use Rattle.std.specs.Prelude.{◌≡◌, List, [], ◌∷◌, fold, Option}
 use Rattle.vast_literal.specs.declared.kind.VastFileType.{VastFileType}
-use Rattle.vast_script.specs.declared.step.Step.{Step}
+use Rattle.vast_steps.specs.declared.step.Step.{Step}
 use Rattle.vast_lint.specs.declared.lint.Lint.{Lint}
 use Rattle.vast_lint.specs.declared.notes.Note.{Note}
 use Rattle.vast_lint.specs.Notes.{noted, told_at_end}

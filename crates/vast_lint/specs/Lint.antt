@@ -1,6 +1,6 @@
 -- What a lint keeps and tells of a list.
 use Rattle.std.specs.Prelude.{◌≡◌, ℕ, List, length, Option}
-use Rattle.vast_script.specs.declared.step.Step.{Step}
+use Rattle.vast_steps.specs.declared.step.Step.{Step}
 use Rattle.vast_lint.specs.declared.lint.Lint.{Lint}
 use Rattle.vast_lint.specs.declared.warning.Warning.{Warning}
 use Rattle.vast_lint.specs.Notes.{notes, noted, told_at_end}

@@ -3,10 +3,10 @@ use Rattle.std.specs.Prelude.{ℕ, zero, ◌+◌, pos, List, [], ◌∷◌, ◌+
 use Rattle.vast_literal.specs.declared.kind.VastFileType.{VastFileType}
 use Rattle.vast_literal.specs.declared.kind.VastFileType.TheVariants.{Verilog}
 use Rattle.vast_core.specs.Records.{changed_at}
-use Rattle.vast_script.specs.declared.step.Step.{Step}
-use Rattle.vast_script.specs.declared.step.Step.TheVariants.{Expressions, Statements}
-use Rattle.vast_script.specs.declared.step.ExpressionStep.TheVariants.{MakeUnsizedDecimalLiteral, MakeIndexableExpression, MakeConcat, MakeReplicatedConcat, MakeReplicatedConcatI64}
-use Rattle.vast_script.specs.declared.step.StatementStep.TheVariants.{AddFunction, FunctionAddInput, FunctionAddLogicInput, BlockAddCase, BlockAddCasez, BlockAddCasex, CaseAddItem, CaseAddDefault}
+use Rattle.vast_steps.specs.declared.step.Step.{Step}
+use Rattle.vast_steps.specs.declared.step.Step.TheVariants.{Expressions, Statements}
+use Rattle.vast_steps.specs.declared.step.ExpressionStep.TheVariants.{MakeUnsizedDecimalLiteral, MakeIndexableExpression, MakeConcat, MakeReplicatedConcat, MakeReplicatedConcatI64}
+use Rattle.vast_steps.specs.declared.step.StatementStep.TheVariants.{AddFunction, FunctionAddInput, FunctionAddLogicInput, BlockAddCase, BlockAddCasez, BlockAddCasex, CaseAddItem, CaseAddDefault}
 use Rattle.vast_lint.specs.declared.facts.Kept.{Kept}
 use Rattle.vast_lint.specs.declared.notes.Note.{Note}
 use Rattle.vast_lint.specs.declared.notes.Note.TheVariants.{NoArms, NoInputs, NoTimes, Zero, Nothing}

@@ -3,7 +3,7 @@ use Rattle.std.proofs.Common.{◌≡◌, ℕ, suc, ◌+◌, ◌-◌, ◌<◌, �
 use Rattle.std.proofs.lemmas.Bool.{eqb-true}
 use Rattle.std.proofs.lemmas.List.{take_all, length-drop}
 use Rattle.std.specs.List.{position_or_len}
-use Rattle.vast_list.specs.Lines.{HasNoFeed, IsEnded, is_line_feed, longer, lines_of}
+use Rattle.vast_calls.specs.Lines.{HasNoFeed, IsEnded, is_line_feed, longer, lines_of}
 
 abbrev end : List ℕ → ℕ
 end bytes = position_or_len is_line_feed bytes

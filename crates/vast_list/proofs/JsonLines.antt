@@ -10,11 +10,11 @@ use Rattle.vast_list.specs.declared.output.Verdict.TheVariants.{Made, Refused, N
 use Rattle.vast_list.specs.declared.session.Session.{Session}
 use Rattle.vast_list.specs.JsonLine.{EndsWithText, IsListJson}
 use Rattle.vast_list.specs.Internal.JsonLine.{AnswersOn, AreAnswers, EndsWithSession, maybe_json}
-use Rattle.vast_list.specs.Lines.{BeginsWithDialect, line_texts}
+use Rattle.vast_calls.specs.Lines.{BeginsWithDialect, line_texts}
 use Rattle.vast_list.specs.Output.{is_made}
 use Rattle.vast_list.proofs.Outputs.{lines-next}
 use Rattle.vast_list.specs.Session.{IsTextOf}
-use Rattle.vast_list.specs.Written.{meaning}
+use Rattle.vast_calls.specs.Written.{meaning}
 
 -- the pieces of the end, one after the other
 pub ends_with : (old named told line value : List ℕ) → named ≡ old ++ codes ",\"text\":" → told ≡ named ++ value → line ≡ told ++ codes "}\n" → EndsWithText value line

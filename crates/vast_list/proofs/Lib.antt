@@ -1,11 +1,4 @@
 pub mod Outputs
-mod JsonLaws
-pub mod Words
-pub mod PackedWords
-pub mod Acted
-pub mod Quoted
-pub mod LineParts
-pub mod Entered
 pub mod Replied
 pub mod Sessions
 pub mod PackedSessions
@@ -19,4 +12,3 @@ pub mod PlainLists
 pub mod EndedLines
 pub mod Numbered
 pub mod Skipped
-pub mod CallRows

@@ -5,46 +5,30 @@ use Rattle.vast_core.specs.Bench.{Bench}
 use Rattle.vast_core.specs.FileTree.{tree}
 use Rattle.vast_script.specs.declared.answer.Answer.{Answer}
 use Rattle.vast_script.specs.declared.fault.StepFault.{StepFault}
-use Rattle.vast_script.specs.declared.step.Step.{Step as ScriptStep}
-use Rattle.vast_list.specs.declared.arguments.Arguments.{Arguments}
-use Rattle.vast_list.specs.declared.arguments.Known.{Known}
-use Rattle.vast_list.specs.declared.arguments.Rest.TheVariants.{Packed}
+use Rattle.vast_steps.specs.declared.step.Step.{Step as ScriptStep}
 use Rattle.vast_list.specs.declared.fault.Fault.{Fault}
 use Rattle.vast_list.specs.declared.fault.Fault.TheVariants.{Line, Memory}
 use Rattle.vast_list.specs.declared.fault.LineFault.{LineFault}
-use Rattle.vast_list.specs.declared.line.Action.{Action}
-use Rattle.vast_list.specs.declared.line.Action.TheVariants.{Ask, Call as CallAction}
-use Rattle.vast_list.specs.declared.line.Call.{Call}
-use Rattle.vast_list.specs.declared.line.Call.TheVariants.{Step as StepCall, Helper as HelperCall}
-use Rattle.vast_list.specs.declared.questions.Question.{Question}
+use Rattle.vast_calls.specs.declared.line.Action.{Action}
+use Rattle.vast_calls.specs.declared.line.Action.TheVariants.{Ask, Call as CallAction}
+use Rattle.vast_calls.specs.declared.line.Call.{Call}
+use Rattle.vast_calls.specs.declared.line.Call.TheVariants.{Step as StepCall, Helper as HelperCall}
+use Rattle.vast_calls.specs.declared.questions.Question.{Question}
 use Rattle.vast_list.specs.declared.questions.answered.Value.{Value}
 use Rattle.vast_list.specs.declared.session.LineResult.{LineResult}
 use Rattle.vast_list.specs.declared.session.LineResult.TheVariants.{Nothing, Step, Helper, Answer as Answered}
 use Rattle.vast_list.specs.declared.session.Session.{Session}
-use Rattle.vast_list.specs.declared.table.numbered.Place.{Place}
-use Rattle.vast_list.specs.CallArguments.{step_pieces}
-use Rattle.vast_list.specs.CallNames.{step_name}
-use Rattle.vast_list.specs.Packed.{ArePacked}
+use Rattle.vast_calls.specs.declared.table.numbered.Place.{Place}
+use Rattle.vast_calls.specs.CallNames.{step_name}
+use Rattle.vast_calls.specs.Packed.{ArePacked}
 use Rattle.vast_list.specs.PackedCalls.{AnswersPacked, FailsBy, GivesPacked, IsMispacked, IsPackedAction, IsPackedFault, IsToldOfPacked, MakesPacked, action_number, action_words}
-use Rattle.vast_list.specs.PackedLists.{GaveFront, IsCallSplit, IsToldOfFront}
+use Rattle.vast_list.specs.PackedLists.{GaveFront, IsToldOfFront}
+use Rattle.vast_calls.specs.PackedCalls.{IsCallSplit, IsPlaceFront, IsStepAt}
 use Rattle.vast_list.specs.Questions.{Asks}
 use Rattle.vast_list.specs.Session.{Calls, IsFileLeft, IsLeft, IsMade, IsSame, IsSameFile, IsSameKnown, next_number}
-use Rattle.vast_list.specs.Internal.CallRows.{name_at}
-use Rattle.vast_list.specs.Internal.PackedCalls.{GavePacked, IsPlaceFront, IsStepAt, MadeAt}
-use Rattle.vast_list.specs.Internal.Written.{AreLeft}
-use Rattle.vast_list.proofs.Acted.{left_over}
-use Rattle.vast_list.proofs.CallRows.{call_in_front}
+use Rattle.vast_list.specs.Internal.PackedCalls.{GavePacked, MadeAt}
+use Rattle.vast_calls.proofs.CallRows.{call_in_front}
 use Rattle.vast_list.proofs.Sessions.{next-same}
-
--- The step that was read.
-
-pub step_here :
-    (a : Arguments) (known : Known) (bytes : Bor (List ℕ)) (place : Place) (step : ScriptStep) (skipped : List ℕ) → name_at place ≡ Some (step_name step) → AreLeft a (step_pieces step) →
-    a.known ≡ known → a.rest ≡ Packed bytes → known.skipped.now ≡ skipped → IsStepAt skipped place bytes.now step
-step_here a known bytes place step skipped n h k r s =
-    (n, subst (λ (skipped : List ℕ). ArePacked skipped (step_pieces step) bytes.now) s (left_over a known (Packed bytes) (step_pieces step) k r h))
-
-pub ruleset steps = (step_here)
 
 -- The file after a step that is refused.
 
@@ -59,9 +43,9 @@ pub ruleset made = (refused_same, left_memory)
 -- The step of the place was made, which is the one that the bytes are.
 
 pub made_step_at :
-    (old new : Session) (arguments : List ℕ) (place : Place) (step : ScriptStep) → IsStepAt old.skipped.items place arguments step → IsMade old new (StepCall step) → IsSameKnown old new →
-    MadeAt old new place arguments
-made_step_at old new arguments place step s m k = (step, s, m, k)
+    (old new : Session) (skipped arguments : List ℕ) (place : Place) (step : ScriptStep) → skipped ≡ old.skipped.items → IsStepAt skipped place arguments step → IsMade old new (StepCall step) →
+    IsSameKnown old new → MadeAt old new place arguments
+made_step_at old new skipped arguments place step e s m k = (step, subst (λ (numbers : List ℕ). IsStepAt numbers place arguments step) e s, m, k)
 
 made_packed_at : (old new : Session) (bytes arguments : List ℕ) (place : Place) → IsPlaceFront bytes place arguments → MadeAt old new place arguments → GavePacked old new bytes
 made_packed_at old new bytes arguments place p made =

@@ -10,7 +10,7 @@ use Rattle.vast_list.specs.declared.origins.Origins.{Origins}
 use Rattle.vast_list.specs.declared.origins.TextLine.{TextLine}
 use Rattle.vast_list.specs.declared.output.Verdict.{Verdict}
 use Rattle.vast_list.specs.declared.tries.Tries.TheVariants.{Once}
-use Rattle.vast_list.specs.Lines.{BeginsWithDialect}
+use Rattle.vast_calls.specs.Lines.{BeginsWithDialect}
 use Rattle.vast_list.specs.Origins.{IsMapped, text_of}
 use Rattle.vast_list.specs.Output.{is_made}
 use Rattle.vast_list.specs.Session.{IsTextOf}

@@ -16,10 +16,10 @@ use Rattle.vast_list.specs.Session.{IsNew, IsTextOf}
 use Rattle.vast_list.specs.Internal.PackedCalls.{RunsAll}
 use Rattle.vast_list.specs.Internal.Built.{TakesLine}
 use Rattle.vast_list.proofs.Built.{lines-more}
-use Rattle.vast_list.specs.Lines.{BeginsWithDialect, Passed, dialect_word, line_kind, line_texts, without_return}
+use Rattle.vast_calls.specs.Lines.{BeginsWithDialect, Passed, dialect_word, line_kind, line_texts, without_return}
 use Rattle.vast_list.specs.Output.{IsOutput, StopsAtFault, is_again, is_made}
 use Rattle.vast_list.specs.Internal.Output.{IsAnswered, IsDesign, IsFinished, IsReport, Prints, TakesOn}
-use Rattle.vast_list.specs.Written.{meaning}
+use Rattle.vast_calls.specs.Written.{meaning}
 
 -- The lines so far were taken, those after the dialect's.
 pub record IsAnswering (tries : Tries) (dialect : VastFileType) (lines : List (List ℕ)) (answering : ListRun) : Type 0 where

@@ -1,50 +1,35 @@
 -- What packed calls leave of a session.
 use Rattle.std.proofs.Common.{◌≡◌, ℕ, zero, suc, ◌<◌, ◌++◌, List, [], ◌∷◌, length, arith, true, Option, Ok, Err, Some, None, inl, inr, refl, ap, subst, sym, ◌∙◌}
-use Rattle.std.proofs.lemmas.List.{take-append-drop, length-append}
-use Rattle.std.specs.List.{IsSplitAt}
-use Rattle.std.specs.Borrow.{Bor}
+use Rattle.std.proofs.lemmas.List.{length-append}
 use Rattle.std.specs.Prelude.{IfSome, is_some}
 use Rattle.vast_script.specs.declared.fault.StepFault.{StepFault}
-use Rattle.vast_list.specs.declared.arguments.Arguments.{Arguments}
-use Rattle.vast_list.specs.declared.arguments.Known.{Known}
-use Rattle.vast_list.specs.declared.arguments.Rest.TheVariants.{Packed}
+use Rattle.vast_calls.specs.declared.arguments.Known.{Known}
 use Rattle.vast_list.specs.declared.fault.Fault.{Fault}
 use Rattle.vast_list.specs.declared.fault.Fault.TheVariants.{Line, Memory}
-use Rattle.vast_list.specs.declared.line.Action.{Action}
-use Rattle.vast_list.specs.declared.line.Action.TheVariants.{Ask, Call as CallAction}
-use Rattle.vast_list.specs.declared.line.Call.{Call}
-use Rattle.vast_list.specs.declared.line.Call.TheVariants.{Step as StepCall, Helper as HelperCall}
-use Rattle.vast_list.specs.declared.questions.Question.{Question}
+use Rattle.vast_calls.specs.declared.line.Action.{Action}
+use Rattle.vast_calls.specs.declared.line.Action.TheVariants.{Ask, Call as CallAction}
+use Rattle.vast_calls.specs.declared.line.Call.{Call}
+use Rattle.vast_calls.specs.declared.line.Call.TheVariants.{Step as StepCall, Helper as HelperCall}
+use Rattle.vast_calls.specs.declared.questions.Question.{Question}
 use Rattle.vast_list.specs.declared.questions.answered.Value.{Value}
 use Rattle.vast_list.specs.declared.session.LineResult.{LineResult}
 use Rattle.vast_list.specs.declared.session.Session.{Session}
-use Rattle.vast_list.specs.declared.table.numbered.Place.{Place}
-use Rattle.vast_list.specs.declared.unpacked.PackedCall.{PackedCall}
-use Rattle.vast_list.specs.Internal.CallRows.{name_at}
-use Rattle.vast_list.specs.CallArguments.{Piece}
-use Rattle.vast_list.specs.Names.{IsFree}
-use Rattle.vast_list.specs.Packed.{ArePacked, IsPackedNumber}
-use Rattle.vast_list.specs.PackedCalls.{AnswersPacked, GivesPacked, IsCallFront, IsPackedAction, IsToldOfPacked, MakesPacked, NamesPacked, action_words}
-use Rattle.vast_list.specs.PackedLists.{GivesFront, IsCallSplit, IsToldOfFront, RunsPacked}
+use Rattle.vast_calls.specs.declared.packed_call.PackedCall.{PackedCall}
+use Rattle.vast_calls.specs.CallArguments.{Piece}
+use Rattle.vast_calls.specs.Names.{IsFree}
+use Rattle.vast_calls.specs.Packed.{ArePacked}
+use Rattle.vast_list.specs.PackedCalls.{AnswersPacked, GivesPacked, IsPackedAction, IsToldOfPacked, MakesPacked, action_words}
+use Rattle.vast_calls.specs.PackedCalls.{IsCallFront, NamesPacked, IsCallSplit, IsUnpacked}
+use Rattle.vast_list.specs.PackedLists.{GivesFront, IsToldOfFront, RunsPacked}
 use Rattle.vast_list.specs.Questions.{Asks}
 use Rattle.vast_list.specs.Session.{IsFileLeft, IsLeft, IsMade, IsOfLine, next_number}
-use Rattle.vast_list.specs.Written.{meaning}
-use Rattle.vast_list.specs.Internal.Packed.{IsNumberFront}
-use Rattle.vast_list.specs.Internal.PackedCalls.{IsToldMispacked, IsUnpacked, RunsAll, TakesPacked, given_by}
-use Rattle.vast_list.specs.Internal.Session.{Acts, ActsAt, IsAskFault, IsCallFault, IsQuestionFault, IsToldOf, MakesName}
-use Rattle.vast_list.specs.Internal.Written.{AreLeft}
-use Rattle.vast_list.proofs.Acted.{acts_packed}
+use Rattle.vast_calls.specs.Written.{meaning}
+use Rattle.vast_list.specs.Internal.PackedCalls.{IsToldMispacked, RunsAll, TakesPacked, given_by}
+use Rattle.vast_calls.specs.Actions.{Acts}
+use Rattle.vast_list.specs.Internal.Session.{IsAskFault, IsCallFault, IsQuestionFault, IsToldOf, MakesName}
 use Rattle.vast_list.proofs.Sessions.{left_same, same-unused}
 
 -- What was read.
-
-pub unpacked_action :
-    (a : Arguments) (known : Known) (behind : Bor (List ℕ)) (bytes : List ℕ) (place : Place) (name : Bor (List ℕ)) (action : Action) (packed : PackedCall) → IsCallFront bytes name.now behind.now →
-    name_at place ≡ Some name.now → ActsAt (AreLeft a) place action → a.known ≡ known → a.rest ≡ Packed behind → packed ≡ record { call = name; action = action } → IsUnpacked known.skipped.now bytes packed
-unpacked_action a known behind bytes place name action packed front at acts k r e =
-    subst (λ (p : PackedCall). IsUnpacked known.skipped.now bytes p) (sym e) (behind.now, front, acts_packed a known behind place name.now action at acts k r)
-
-pub ruleset unpacking = (unpacked_action)
 
 pub read_packed : (known : Known) (session : Session) (bytes : List ℕ) (packed : PackedCall) → known.skipped.now ≡ session.skipped.items → IsUnpacked known.skipped.now bytes packed → IsUnpacked session.skipped.items bytes packed
 read_packed known session bytes packed s h = subst (λ (skipped : List ℕ). IsUnpacked skipped bytes packed) s h
@@ -122,13 +107,6 @@ called_packed old new number bytes packed call (Line f) h e o k =
 called_packed old new number bytes packed call Memory h e o k = tt
 
 -- A call at the front.
-
-pub split_at :
-    (bytes behind call rest : List ℕ) (n : ℕ) → IsNumberFront bytes n behind → IsSplitAt behind n call rest → IsCallSplit bytes call rest
-split_at bytes behind call rest n h s =
-    (h.0, subst (λ (m : ℕ). IsPackedNumber h.0 m) (sym s.3) h.1, h.2 ∙ ap (λ (xs : List ℕ). h.0 ++ xs) (sym (take-append-drop n behind) ∙ rw (← s.1, ← s.2) refl))
-
-pub ruleset splitting = (split_at)
 
 pub uncut : (old new : Session) (number : ℕ) (bytes : List ℕ) (fault : Fault) → IsToldOf number [] None None fault → IsToldOfFront old new number bytes fault
 uncut old new number bytes (Line f) h = inr (h.0, inl (h.3, h.2, inl h.1))

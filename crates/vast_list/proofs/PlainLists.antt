@@ -8,12 +8,12 @@ use Rattle.vast_list.specs.declared.answering.ListRun.{ListRun}
 use Rattle.vast_list.specs.declared.plainness.Plainness.{Plainness}
 use Rattle.vast_list.specs.declared.plainness.Plainness.TheVariants.{Plain, NotPlain}
 use Rattle.vast_list.specs.Built.{HasBuilt}
-use Rattle.vast_list.specs.Lines.{BeginsWithDialect, line_texts}
+use Rattle.vast_calls.specs.Lines.{BeginsWithDialect, line_texts}
 use Rattle.vast_list.specs.PlainLists.{BuildPlain, PlainnessOf}
 use Rattle.vast_list.specs.Untitled.{HasAnswered}
 use Rattle.vast_list.specs.Internal.Output.{TakesOn}
 use Rattle.vast_list.specs.Internal.PlainLists.{IsMadePlain, IsToldNotPlain, IsToldPlain}
-use Rattle.vast_list.specs.Written.{meaning}
+use Rattle.vast_calls.specs.Written.{meaning}
 use Rattle.vast_list.proofs.Outputs.{texts-more}
 use Rattle.vast_list.proofs.UntitledLists.{answered-more, answered_first}
 

@@ -7,7 +7,7 @@ use Rattle.std.specs.declared.alloc.AllocError.{AllocError}
 use Rattle.std.specs.declared.alloc.Global.{Global}
 use Rattle.vast_list.specs.declared.questions.answered.PortValue.{PortValue}
 use Rattle.vast_list.specs.declared.session.Session.{Session}
-use Rattle.vast_list.specs.Json.{AddsJsonText, json_text}
+use Rattle.vast_calls.specs.Json.{AddsJsonText, json_text}
 use Rattle.vast_list.specs.Replies.{IsAnswerText, port_object}
 use Rattle.vast_list.specs.Internal.Replies.{AddsHelper, more_ports}
 

@@ -16,29 +16,31 @@ use Rattle.vast_script.specs.declared.fault.StepFault.{StepFault}
 use Rattle.vast_script.specs.declared.fault.StepFault.TheVariants.{NoAnswer, WrongKind, Condition, Refused, Memory as OutOfMemory}
 use Rattle.vast_list.specs.declared.fault.Fault.{Fault}
 use Rattle.vast_list.specs.declared.fault.Fault.TheVariants.{Line, Memory}
-use Rattle.vast_list.specs.declared.helpers.Helper.{Helper}
-use Rattle.vast_list.specs.declared.helpers.Helper.TheVariants.{AddRegisters, BitwiseOrReduce, BitwiseOrReduceArrayElements, LogicalAndReduce, LogicalOrReduce}
-use Rattle.vast_script.specs.declared.step.Step.{Step}
-use Rattle.vast_list.specs.declared.line.Action.{Action}
-use Rattle.vast_list.specs.declared.line.Action.TheVariants.{Ask, Call as CallAction}
-use Rattle.vast_list.specs.declared.line.Call.{Call}
-use Rattle.vast_list.specs.declared.line.Call.TheVariants.{Step as StepCall, Helper as HelperCall}
+use Rattle.vast_calls.specs.declared.helpers.Helper.{Helper}
+use Rattle.vast_calls.specs.declared.helpers.Helper.TheVariants.{AddRegisters, BitwiseOrReduce, BitwiseOrReduceArrayElements, LogicalAndReduce, LogicalOrReduce}
+use Rattle.vast_steps.specs.declared.step.Step.{Step}
+use Rattle.vast_calls.specs.declared.line.Action.{Action}
+use Rattle.vast_calls.specs.declared.line.Action.TheVariants.{Ask, Call as CallAction}
+use Rattle.vast_calls.specs.declared.line.Call.{Call}
+use Rattle.vast_calls.specs.declared.line.Call.TheVariants.{Step as StepCall, Helper as HelperCall}
 use Rattle.vast_list.specs.declared.session.Session.{Session}
-use Rattle.vast_list.specs.declared.arguments.Known.{Known}
-use Rattle.vast_list.specs.declared.line.Line.{Line as ReadLine}
-use Rattle.vast_list.specs.declared.names.Named.{Named}
-use Rattle.vast_list.specs.declared.names.Names.{Names}
-use Rattle.vast_list.specs.declared.questions.Question.{Question}
+use Rattle.vast_calls.specs.declared.arguments.Known.{Known}
+use Rattle.vast_calls.specs.declared.line.Line.{Line as ReadLine}
+use Rattle.vast_calls.specs.declared.names.Named.{Named}
+use Rattle.vast_calls.specs.declared.names.Names.{Names}
+use Rattle.vast_calls.specs.declared.questions.Question.{Question}
 use Rattle.vast_list.specs.declared.questions.answered.Value.{Value}
 use Rattle.std.specs.Prelude.{IfOk, IfSome, Option, is_some, option_copied, codes, slice_index, ◌==◌}
-use Rattle.vast_list.specs.Lines.{Asked, HasKind, Helped, Passed, Stepped, behind_call, call_word, is_call, is_passed, line_arguments, line_kind, line_name, line_word, text_name, without_return, word_kind, NamesDialect}
-use Rattle.vast_list.specs.Names.{IsFree, value_named}
+use Rattle.vast_calls.specs.Lines.{Asked, HasKind, Helped, Passed, Stepped, behind_call, call_word, is_call, is_passed, line_arguments, line_kind, line_name, line_word, text_name, without_return, word_kind, NamesDialect}
+use Rattle.vast_calls.specs.Names.{IsFree}
+use Rattle.vast_list.specs.Names.{value_named}
 use Rattle.vast_list.specs.Helpers.{Helps, IsKept}
-use Rattle.vast_list.specs.CallNames.{call_name}
+use Rattle.vast_calls.specs.CallNames.{call_name}
 use Rattle.vast_list.specs.Questions.{Asks}
-use Rattle.vast_list.specs.Session.{Calls, Enters, GivesAnswer, HasMade, IsCallOf, IsCause, IsCausedBy, IsBegun, IsInForm, IsNumbered, IsOfLine, IsQuestionIn, IsStepIn, NamesCall, call_kind, next_number, told_number, IsFileLeft, IsLeft, IsMade, IsTextOf, IsWrittenIn}
-use Rattle.vast_list.specs.Internal.Session.{IsActionOf, IsAskFault, IsCallFault, IsMisread, IsQuestionFault, IsRead, IsToldAs, IsToldOf, NamesWord}
-use Rattle.vast_list.specs.Written.{meaning}
+use Rattle.vast_list.specs.Session.{Calls, Enters, GivesAnswer, HasMade, IsCallOf, IsCause, IsCausedBy, IsBegun, IsInForm, IsNumbered, IsOfLine, IsQuestionIn, IsStepIn, NamesCall, next_number, told_number, IsFileLeft, IsLeft, IsMade, IsTextOf, IsWrittenIn}
+use Rattle.vast_calls.specs.Actions.{call_kind, IsActionOf, IsRead, NamesWord}
+use Rattle.vast_list.specs.Internal.Session.{IsAskFault, IsCallFault, IsMisread, IsQuestionFault, IsToldAs, IsToldOf}
+use Rattle.vast_calls.specs.Written.{meaning}
 use Rattle.std.specs.Str.{IsUtf8, IsAscii}
 use Rattle.std.proofs.lemmas.Bool.{and_parts}
 use Rattle.std.proofs.lemmas.Str.{IsUtf8-from_ascii}

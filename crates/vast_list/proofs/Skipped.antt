@@ -4,13 +4,13 @@ use Rattle.std.proofs.lemmas.Bool.{false≢true}
 use Rattle.std.specs.List.{prefix_len}
 use Rattle.std.specs.Prelude.{◌==◌}
 use Rattle.std.specs.Str.{IsUtf8}
-use Rattle.vast_list.specs.declared.names.Named.{Named}
-use Rattle.vast_list.specs.declared.names.Named.TheVariants.{Skipped}
+use Rattle.vast_calls.specs.declared.names.Named.{Named}
+use Rattle.vast_calls.specs.declared.names.Named.TheVariants.{Skipped}
 use Rattle.vast_list.specs.declared.session.Session.{Session}
-use Rattle.vast_list.specs.Lines.{Passed, call_word, first_word, is_call, is_call_line, is_named, is_passed, line_name, line_word, text_name, without_return, word_kind}
-use Rattle.vast_list.specs.Names.{IsFree, entered, is_name}
+use Rattle.vast_calls.specs.Lines.{Passed, call_word, first_word, is_call, is_call_line, is_named, is_passed, line_name, line_word, text_name, without_return, word_kind}
+use Rattle.vast_calls.specs.Names.{IsFree, entered, is_name}
 use Rattle.vast_list.specs.Session.{Skips, next_number, passed_numbers}
-use Rattle.vast_list.specs.Written.{meaning}
+use Rattle.vast_calls.specs.Written.{meaning}
 
 -- What begins with `#` or a tab is no name.
 

@@ -14,11 +14,11 @@ use Rattle.vast_list.specs.declared.untitled.Stage.TheVariants.{Before, Behind, 
 use Rattle.vast_list.specs.declared.untitled.UntitledList.{UntitledList}
 use Rattle.vast_list.specs.Built.{HasBuilt, IsListText}
 use Rattle.vast_list.specs.Internal.Built.{TakesLine}
-use Rattle.vast_list.specs.Lines.{BeginsWithDialect, HasKind, NamesDialect, Passed, dialect_word, line_kind, without_return}
+use Rattle.vast_calls.specs.Lines.{BeginsWithDialect, HasKind, NamesDialect, Passed, dialect_word, line_kind, without_return}
 use Rattle.vast_list.specs.Internal.Output.{IsDesign, IsFinished, TakesOn}
 use Rattle.vast_list.specs.Untitled.{GoesOnTo, HasAnswered, HaveLedTo, IsPrintedOf, NameNoDialect}
 use Rattle.vast_list.specs.Internal.Untitled.{LeadsTo}
-use Rattle.vast_list.specs.Written.{meaning}
+use Rattle.vast_calls.specs.Written.{meaning}
 use Rattle.vast_list.proofs.Built.{lines-more}
 
 -- One line more stands after the dialect's.

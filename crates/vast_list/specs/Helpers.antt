@@ -22,10 +22,10 @@ use Rattle.vast_script.specs.declared.fault.StepFault.TheVariants.{NoAnswer, Wro
 use Rattle.vast_script.specs.Outcome.{Cause}
 use Rattle.vast_script.specs.Kinds.{a_loop, a_module, an_expr, an_indexable}
 use Rattle.vast_script.specs.Arguments.{many, one}
-use Rattle.vast_list.specs.declared.helpers.registers.RegisterNumbers.{RegisterNumbers}
-use Rattle.vast_list.specs.declared.helpers.registers.ResetNumbers.{ResetNumbers}
-use Rattle.vast_list.specs.declared.helpers.Helper.{Helper}
-use Rattle.vast_list.specs.declared.helpers.Helper.TheVariants.{AddRegisters, BitwiseOrReduce, BitwiseOrReduceArrayElements, LogicalAndReduce, LogicalOrReduce}
+use Rattle.vast_calls.specs.declared.helpers.RegisterNumbers.{RegisterNumbers}
+use Rattle.vast_calls.specs.declared.helpers.ResetNumbers.{ResetNumbers}
+use Rattle.vast_calls.specs.declared.helpers.Helper.{Helper}
+use Rattle.vast_calls.specs.declared.helpers.Helper.TheVariants.{AddRegisters, BitwiseOrReduce, BitwiseOrReduceArrayElements, LogicalAndReduce, LogicalOrReduce}
 
 -- The tree is the same, and the file may have nodes and containers more that no list names.
 abbrev pub IsUnseen : (old new : Bench) → Type 0

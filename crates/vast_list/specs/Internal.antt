@@ -1,8 +1,4 @@
-pub mod Lines
 pub mod Output
-pub mod Packed
-pub mod Written
-pub mod Names
 pub mod Session
 pub mod PackedCalls
 pub mod Built
@@ -11,4 +7,3 @@ pub mod PlainLists
 pub mod Origins
 pub mod Untitled
 pub mod Replies
-pub mod CallRows

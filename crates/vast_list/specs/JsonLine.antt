@@ -3,7 +3,7 @@ use Rattle.std.specs.Prelude.{◌≡◌, ℕ, false, List, ◌++◌, codes}
 use Rattle.vast_list.specs.declared.output.Verdict.{Verdict}
 use Rattle.vast_list.specs.declared.output.Verdict.TheVariants.{Made, Refused, NotInForm}
 use Rattle.vast_list.specs.Built.{IsListText}
-use Rattle.vast_list.specs.Json.{json_text}
+use Rattle.vast_calls.specs.Json.{json_text}
 
 -- The line ends with this value under the name `text`.
 abbrev pub EndsWithText : (value line : List ℕ) → Type 0

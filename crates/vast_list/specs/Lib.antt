@@ -1,12 +1,5 @@
-pub mod Lines
 pub mod Output
-pub mod Json
 pub mod Helpers
-pub mod CallNames
-pub mod CallNumbers
-pub mod CallArguments
-pub mod Written
-pub mod Packed
 pub mod Names
 pub mod Questions
 pub mod Session

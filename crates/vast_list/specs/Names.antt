@@ -1,36 +1,9 @@
--- What the names of a list stand for, from line to line.
-use Rattle.std.specs.Prelude.{◌≡◌, ℕ, ◌^◌, ◌==◌, ◌&&◌, ◌||◌, ltb, Bool, true, false, not, List, [], ◌∷◌, Option, Some, None, pos, if◌then◌else◌, ⊤}
-use Rattle.std.specs.Char.{is_ascii_alphanumeric, is_ascii_digit}
-use Rattle.std.specs.List.{list_all}
-use Rattle.std.specs.Map.{update}
-use Rattle.std.specs.Str.{bytes_eq}
-use Rattle.vast_list.specs.declared.names.Named.{Named}
-use Rattle.vast_list.specs.declared.names.Named.TheVariants.{Number as NumberNamed, Other}
+-- What the names of answers stand for.
+use Rattle.std.specs.Prelude.{◌^◌, ltb, pos, if◌then◌else◌}
+use Rattle.vast_calls.specs.declared.names.Named.{Named}
+use Rattle.vast_calls.specs.declared.names.Named.TheVariants.{Number as NumberNamed, Other}
 use Rattle.vast_list.specs.declared.questions.answered.Value.{Value}
 use Rattle.vast_list.specs.declared.questions.answered.Value.TheVariants.{Text, Nothing, Truth, Number, Count, Ports}
-
--- The name, if there is one, stands for this from now on; every other name stands for what it did.
-abbrev pub entered : (named : List ℕ → Option Named) → (name : Option (List ℕ)) → Named → List ℕ → Option Named
-entered named None meant = named
-entered named (Some name) meant = update bytes_eq named name (Some meant)
-
--- A letter, a digit or `_`.
-abbrev pub is_name_byte : ℕ → Bool
-is_name_byte byte = is_ascii_alphanumeric byte || byte == 95
-
--- One or more letters, digits and `_`, of which the first is no digit: no name is a number.
-abbrev pub is_name : List ℕ → Bool
-is_name [] = false
-is_name (byte ∷ bytes) = not (is_ascii_digit byte) && list_all is_name_byte (byte ∷ bytes)
-
--- What stands as a name, if anything does, is one, and stands for nothing so far.
-abbrev pub IsFree : (named : List ℕ → Option Named) → (name : Option (List ℕ)) → Type 0
-IsFree named None = ⊤
-IsFree named (Some name) = (is_name name ≡ true) × (named name ≡ None)
-
--- The name, if there is one, was free and stands for this from then on.
-abbrev pub IsEntered : (old new : List ℕ → Option Named) → (name : Option (List ℕ)) → Named → Type 0
-IsEntered old new name meant = IsFree old name × (new ≡ entered old name meant)
 
 -- What the name of a question's answer stands for: a number of 64 bits with a sign, or what is none.
 abbrev pub value_named : Value → Named

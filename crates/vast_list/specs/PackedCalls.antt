@@ -1,30 +1,27 @@
 -- What a packed call does to a session.
-use Rattle.std.specs.Prelude.{◌≡◌, ◌⊎◌, ℕ, List, [], ◌++◌, Option, Some, None, Result, Ok, Err, string_bytes, ⊤}
+use Rattle.std.specs.Prelude.{◌≡◌, ◌⊎◌, ℕ, List, Option, Some, None, Result, Ok, Err, string_bytes, ⊤}
 use Rattle.vast_script.specs.declared.fault.StepFault.{StepFault}
-use Rattle.vast_script.specs.declared.step.Step.{Step as ScriptStep}
+use Rattle.vast_steps.specs.declared.step.Step.{Step as ScriptStep}
 use Rattle.vast_list.specs.declared.fault.Fault.{Fault}
 use Rattle.vast_list.specs.declared.fault.Fault.TheVariants.{Line, Memory}
 use Rattle.vast_list.specs.declared.fault.LineFault.{LineFault}
-use Rattle.vast_list.specs.declared.helpers.Helper.{Helper as HelperOf}
-use Rattle.vast_list.specs.declared.line.Action.{Action}
-use Rattle.vast_list.specs.declared.line.Action.TheVariants.{Ask, Call as CallAction}
-use Rattle.vast_list.specs.declared.line.Call.{Call}
-use Rattle.vast_list.specs.declared.line.Call.TheVariants.{Step as StepCall, Helper as HelperCall}
+use Rattle.vast_calls.specs.declared.helpers.Helper.{Helper as HelperOf}
+use Rattle.vast_calls.specs.declared.line.Action.{Action}
+use Rattle.vast_calls.specs.declared.line.Action.TheVariants.{Ask, Call as CallAction}
+use Rattle.vast_calls.specs.declared.line.Call.{Call}
+use Rattle.vast_calls.specs.declared.line.Call.TheVariants.{Step as StepCall, Helper as HelperCall}
 use Rattle.vast_list.specs.declared.session.LineResult.{LineResult}
 use Rattle.vast_list.specs.declared.session.LineResult.TheVariants.{Nothing, Step, Helper, Answer as Answered}
 use Rattle.vast_list.specs.declared.session.Session.{Session}
-use Rattle.vast_list.specs.declared.questions.Question.{Question}
+use Rattle.vast_calls.specs.declared.questions.Question.{Question}
 use Rattle.vast_list.specs.declared.questions.answered.Value.{Value}
-use Rattle.vast_list.specs.CallArguments.{Piece, call_pieces}
-use Rattle.vast_list.specs.CallNames.{call_name}
-use Rattle.vast_list.specs.CallNumbers.{IsNumberOf}
-use Rattle.vast_list.specs.Packed.{ArePacked, IsPackedNumber}
-use Rattle.vast_list.specs.Questions.{Asks, question_words}
+use Rattle.vast_calls.specs.CallArguments.{Piece, call_pieces}
+use Rattle.vast_calls.specs.CallNames.{call_name}
+use Rattle.vast_calls.specs.Packed.{ArePacked}
+use Rattle.vast_list.specs.Questions.{Asks}
+use Rattle.vast_calls.specs.Questions.{question_words}
 use Rattle.vast_list.specs.Session.{Calls, IsMade, IsSame, IsSameKnown, next_number}
-
--- The number of the call of this name stands at the front, and this after it.
-abbrev pub IsCallFront : (bytes name behind : List ℕ) → Type 0
-IsCallFront bytes name behind = (front : List ℕ) × (number : ℕ) × IsPackedNumber front number × IsNumberOf number name × (bytes ≡ front ++ behind)
+use Rattle.vast_calls.specs.PackedCalls.{IsCallFront, NamesPacked}
 
 -- The name and the arguments of what is called or asked.
 abbrev pub action_words : Action → List ℕ × List Piece
@@ -51,10 +48,6 @@ GivesPacked old new bytes Nothing = ⊥
 GivesPacked old new bytes (Step number name) = (number ≡ next_number old) × (step : ScriptStep) × MakesPacked old new (StepCall step) name.now bytes
 GivesPacked old new bytes (Helper number name) = (number ≡ next_number old) × (helper : HelperOf) × MakesPacked old new (HelperCall helper) name.now bytes
 GivesPacked old new bytes (Answered name value) = (question : Question) × AnswersPacked old new question (Ok value) name.now bytes
-
--- The name is that of the number at the front, or empty.
-abbrev pub NamesPacked : (bytes name : List ℕ) → Type 0
-NamesPacked bytes name = (name ≡ []) ⊎ ((behind : List ℕ) × IsCallFront bytes name behind)
 
 -- Bytes that are no call have neither a cause nor a number.
 abbrev pub IsMispacked : (bytes : List ℕ) → LineFault → Type 0

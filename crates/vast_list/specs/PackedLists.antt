@@ -1,5 +1,5 @@
 -- Packed lists: the form's version, the dialect, and calls.
-use Rattle.std.specs.Prelude.{◌≡◌, ◌==◌, ◌⊎◌, ℕ, zero, suc, Bool, false, List, [], ◌∷◌, ◌++◌, length, codes}
+use Rattle.std.specs.Prelude.{◌≡◌, ◌==◌, ◌⊎◌, ℕ, zero, suc, Bool, false, List, [], ◌∷◌, ◌++◌, codes}
 use Rattle.std.specs.List.{starts_with}
 use Rattle.vast_core.specs.FileTree.{tree}
 use Rattle.vast_literal.specs.declared.kind.VastFileType.{VastFileType}
@@ -7,14 +7,10 @@ use Rattle.vast_literal.specs.declared.kind.VastFileType.TheVariants.{Verilog, S
 use Rattle.vast_list.specs.declared.session.LineResult.{LineResult}
 use Rattle.vast_list.specs.declared.session.Session.{Session}
 use Rattle.vast_list.specs.Built.{IsListText}
-use Rattle.vast_list.specs.Packed.{IsPackedNumber}
 use Rattle.vast_list.specs.declared.fault.Fault.{Fault}
 use Rattle.vast_list.specs.PackedCalls.{GivesPacked, IsToldOfPacked}
 use Rattle.vast_list.specs.Session.{IsNew, IsTextOf}
-
--- The call's bytes stand at the front, after how many they are, and this after them.
-abbrev pub IsCallSplit : (bytes call behind : List ℕ) → Type 0
-IsCallSplit bytes call behind = (front : List ℕ) × IsPackedNumber front (length call) × (bytes ≡ front ++ (call ++ behind))
+use Rattle.vast_calls.specs.PackedCalls.{IsCallSplit}
 
 -- The call at the front gave this, and that stands after it.
 abbrev pub GivesFront : (old new : Session) → (bytes : List ℕ) → LineResult → (behind : List ℕ) → Type 0

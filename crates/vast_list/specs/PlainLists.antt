@@ -5,11 +5,11 @@ use Rattle.vast_core.specs.FileTree.{tree}
 use Rattle.vast_literal.specs.PlainFile.{is_plain_file}
 use Rattle.vast_literal.specs.declared.kind.VastFileType.{VastFileType}
 use Rattle.vast_script.specs.declared.answer.Answer.{Answer}
-use Rattle.vast_list.specs.declared.names.Named.{Named}
+use Rattle.vast_calls.specs.declared.names.Named.{Named}
 use Rattle.vast_list.specs.declared.plainness.Plainness.{Plainness}
 use Rattle.vast_list.specs.declared.plainness.Plainness.TheVariants.{Plain, NotPlain}
 use Rattle.vast_list.specs.Built.{LinesBuild}
-use Rattle.vast_list.specs.Lines.{BeginsWithDialect, line_word}
+use Rattle.vast_calls.specs.Lines.{BeginsWithDialect, line_word}
 
 -- The lines build a file, and it is plain, or it is not.
 abbrev pub BuildPlain : (is_plain : Bool) → (lines : List (List ℕ)) → Type 0

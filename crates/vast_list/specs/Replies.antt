@@ -21,8 +21,8 @@ use Rattle.vast_list.specs.declared.questions.answered.Value.TheVariants.{Text, 
 use Rattle.vast_list.specs.declared.session.LineResult.{LineResult}
 use Rattle.vast_list.specs.declared.session.LineResult.TheVariants.{Nothing as Blank, Step, Helper, Answer as Answered}
 use Rattle.vast_list.specs.declared.session.Session.{Session}
-use Rattle.vast_list.specs.Json.{json_text}
-use Rattle.vast_list.specs.Written.{IsPlaceOf}
+use Rattle.vast_calls.specs.Json.{json_text}
+use Rattle.vast_calls.specs.Written.{IsPlaceOf}
 
 -- A member whose value is a text, after its name as it stands in the object.
 abbrev pub text_member : (name content : List ℕ) → List ℕ

@@ -1,5 +1,5 @@
 -- What a line of a list does to a session: to its file and the answers so far.
-use Rattle.std.specs.Prelude.{◌≡◌, ◌⊎◌, ℕ, ◌+◌, ◌-◌, ◌^◌, false, List, [], ◌∷◌, ◌++◌, length, min, Option, IfSome, Some, None, Result, Ok, Err, if◌then◌else◌, string_bytes, ⊤}
+use Rattle.std.specs.Prelude.{◌≡◌, ◌⊎◌, ℕ, ◌+◌, ◌-◌, ◌^◌, List, [], ◌∷◌, ◌++◌, length, min, Option, IfSome, Some, None, Result, Ok, Err, if◌then◌else◌, string_bytes, ⊤}
 use Rattle.std.specs.Str.{IsUtf8}
 use Rattle.vast_core.specs.Bench.{Bench, start}
 use Rattle.vast_core.specs.FileTree.{tree}
@@ -12,33 +12,31 @@ use Rattle.vast_print.specs.Page.{print}
 use Rattle.vast_script.specs.declared.answer.Answer.{Answer}
 use Rattle.vast_script.specs.declared.fault.StepFault.{StepFault}
 use Rattle.vast_script.specs.declared.fault.StepFault.TheVariants.{Refused}
-use Rattle.vast_script.specs.declared.step.Step.{Step as ScriptStep}
+use Rattle.vast_steps.specs.declared.step.Step.{Step as ScriptStep}
 use Rattle.vast_script.specs.Outcome.{Replays}
 use Rattle.vast_script.specs.Script.{call_of}
 use Rattle.vast_list.specs.declared.fault.Fault.{Fault}
 use Rattle.vast_list.specs.declared.fault.Fault.TheVariants.{Line, Memory}
-use Rattle.vast_list.specs.declared.line.Call.{Call}
-use Rattle.vast_list.specs.declared.line.Call.TheVariants.{Step as StepCall, Helper as HelperCall}
+use Rattle.vast_calls.specs.declared.line.Call.{Call}
+use Rattle.vast_calls.specs.declared.line.Call.TheVariants.{Step as StepCall, Helper as HelperCall}
 use Rattle.vast_list.specs.declared.session.LineResult.{LineResult}
 use Rattle.vast_list.specs.declared.session.LineResult.TheVariants.{Nothing, Step, Helper, Answer as Answered}
 use Rattle.vast_list.specs.declared.session.Session.{Session}
-use Rattle.vast_list.specs.declared.names.Named.{Named}
-use Rattle.vast_list.specs.declared.names.Named.TheVariants.{Handle, Skipped}
-use Rattle.vast_list.specs.declared.questions.Question.{Question}
+use Rattle.vast_calls.specs.declared.names.Named.{Named}
+use Rattle.vast_calls.specs.declared.names.Named.TheVariants.{Handle, Skipped}
+use Rattle.vast_calls.specs.declared.questions.Question.{Question}
 use Rattle.vast_list.specs.declared.questions.answered.Value.{Value}
-use Rattle.vast_list.specs.CallArguments.{call_pieces}
-use Rattle.vast_list.specs.CallNames.{call_name}
+use Rattle.vast_calls.specs.CallArguments.{call_pieces}
+use Rattle.vast_calls.specs.CallNames.{call_name}
 use Rattle.vast_list.specs.Helpers.{Helps}
-use Rattle.vast_list.specs.Lines.{LineKind, Passed, Asked, Helped, Stepped, begins_blank, is_call_line, line_arguments, line_kind, line_name, line_word, text_name, without_return}
-use Rattle.vast_list.specs.Names.{IsEntered, IsFree, value_named}
-use Rattle.vast_list.specs.Questions.{Asks, IsQuestionOf}
-use Rattle.vast_list.specs.Written.{AreWritten, meaning}
+use Rattle.vast_calls.specs.Lines.{Passed, Asked, Helped, Stepped, is_call_line, line_arguments, line_kind, line_name, line_word, without_return}
+use Rattle.vast_calls.specs.Names.{IsEntered, IsFree}
+use Rattle.vast_list.specs.Names.{value_named}
+use Rattle.vast_list.specs.Questions.{Asks}
+use Rattle.vast_calls.specs.Questions.{IsQuestionOf}
+use Rattle.vast_calls.specs.Written.{AreWritten, meaning}
 use Rattle.vast_literal.specs.declared.kind.VastFileType.{VastFileType}
-
--- What a line is that is this call.
-abbrev pub call_kind : Call → LineKind
-call_kind (StepCall step) = Stepped
-call_kind (HelperCall helper) = Helped
+use Rattle.vast_calls.specs.Actions.{call_kind, IsFront}
 
 -- What becomes of a call that is counted: of a step what becomes of it in a replay, of a helper what its equation says.
 abbrev pub Calls : (old new : Bench) → List Answer → Result Answer StepFault → Call → Type 0
@@ -171,10 +169,6 @@ IsCause old new line cause =
 abbrev pub IsCausedBy : (old new : Session) → (line : List ℕ) → Fault → Type 0
 IsCausedBy old new line (Line fault) = IfSome fault.cause (IsCause old new line)
 IsCausedBy old new line Memory = ⊤
-
--- What stands before the call of a text is in the form: no blank is at the front, and the name of the answer is free.
-abbrev pub IsFront : (named : List ℕ → Option Named) → (text : List ℕ) → Type 0
-IsFront named text = (begins_blank text ≡ false) × IsFree named (text_name text)
 
 -- What stands before the call of a line is in the form, and the line is UTF-8.
 abbrev pub IsBegun : Session → (line : List ℕ) → Type 0

@@ -7,7 +7,7 @@ use Rattle.vast_list.specs.declared.untitled.Stage.{Stage}
 use Rattle.vast_list.specs.declared.untitled.Stage.TheVariants.{Before, Behind, Astray}
 use Rattle.vast_list.specs.declared.untitled.UntitledList.{UntitledList}
 use Rattle.vast_list.specs.Built.{HasBuilt, IsListText}
-use Rattle.vast_list.specs.Lines.{BeginsWithDialect, HasKind, NamesDialect, Passed, line_kind}
+use Rattle.vast_calls.specs.Lines.{BeginsWithDialect, HasKind, NamesDialect, Passed, line_kind}
 use Rattle.vast_list.specs.Output.{StopsAtFault, is_made}
 
 -- The lines name a dialect, and the session is what those after it build.

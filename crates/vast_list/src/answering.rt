@@ -8,13 +8,13 @@ ghost use Rattle.vast_list.specs.Internal.Output.{Prints, TakesOn};
 
 use crate::again::Rerun;
 use crate::fault::{Fault, LineFault};
-use crate::line::is_step;
 use crate::output::{ListOutput, MOST_FAULTS, Verdict};
 use crate::questions::answered::Value;
 use crate::session::{LineResult, Session};
 use crate::tried;
 use crate::tries::Tries;
 use std::alloc::{AllocError, Global};
+use vast_calls::is_step;
 use vast_script::StepFault;
 use xlsynth_vast::VastFileType;
 

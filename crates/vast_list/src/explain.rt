@@ -4,12 +4,11 @@ mod conditions;
 mod handles;
 mod kinds;
 
-use crate::arguments::Known;
-use crate::line::Call;
 use conditions::condition;
 pub(crate) use handles::uses_skipped;
 use handles::{faulty_handle, missing_handle};
 use std::alloc::AllocError;
+use vast_calls::{Call, Known};
 use vast_script::{Answer, StepFault};
 use xlsynth_vast::VastFile;
 

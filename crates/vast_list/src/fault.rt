@@ -5,13 +5,10 @@ ghost use Rattle.vast_list.specs.Internal.Session.{IsToldOf};
 ghost use Rattle.vast_list.specs.declared.fault.Fault.TheVariants.{Memory};
 ghost use Rattle.vast_script.specs.declared.fault.StepFault.TheVariants.{Refused};
 
-use crate::nearest::nearest_call;
-use crate::problem::{Misfit, Problem};
 use crate::session::Session;
-use crate::table::Parameter;
-use crate::table::numbered::row_of;
 use std::alloc::{AllocError, AllocFailed, Global};
 use std::fmt;
+use vast_calls::{Misfit, Problem, nearest_call, usage};
 use vast_literal::{VastError, VastFault};
 use vast_script::StepFault;
 use xlsynth_vast::{Expr, VastFile};
@@ -215,24 +212,6 @@ fn unknown_call(alloc: Global, call: &str) -> Result<String, AllocError> {
         Some(nearest) => format!(in alloc; "unknown call; `{nearest}` is the nearest"),
         None => String::from_str(alloc, "unknown call"),
     }
-}
-
-/// How the call is written: its name and its parameters.
-fn usage(alloc: Global, call: &str) -> Result<String, AllocError> {
-    let mut usage = String::from_str(alloc, call)?;
-    if let Some(row) = row_of(call) {
-        push_names(&mut usage, row.parameters())?;
-    }
-    Ok(usage)
-}
-
-/// Each parameter's name, after a space.
-fn push_names(usage: &mut String, parameters: &[Parameter]) -> Result<(), AllocError> {
-    for parameter in parameters {
-        usage.push(' ')?;
-        usage.push_str(parameter.name())?;
-    }
-    Ok(())
 }
 
 /// The fault of a text that is refused; its line is that of the first bit select or part select that is refused in the

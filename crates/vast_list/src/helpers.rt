@@ -1,51 +1,16 @@
 //! Helpers, which make expressions or registers on the file.
 
-ghost use Rattle.std.specs.Prelude.{IfOk};
 ghost use Rattle.vast_script.specs.Arguments.{many, one};
 ghost use Rattle.vast_script.specs.Kinds.{an_expr, an_indexable};
 ghost use Rattle.vast_script.specs.Internal.Outcome.{WrapsRefusable};
-ghost use Rattle.vast_list.specs.CallArguments.{helper_pieces};
-ghost use Rattle.vast_list.specs.CallNames.{helper_name};
-ghost use Rattle.vast_list.specs.CallNumbers.{helper_names};
 ghost use Rattle.vast_list.specs.Helpers.{Helps, Makes, all_hold, any_holds, elements_joined, joined};
-ghost use Rattle.vast_list.specs.Internal.CallRows.{StandsAt};
-ghost use Rattle.vast_list.specs.Internal.Written.{AreLeft};
 
 mod registers;
 
-use crate::arguments::Arguments;
-use crate::problem::{Misfit, Problem};
-use registers::{RegisterNumbers, ResetNumbers, add_registers};
+use registers::add_registers;
+use vast_calls::Helper;
 use vast_script::{Answer, StepFault, many, one};
 use xlsynth_vast::{Expr, IndexableExpr, VastFault, VastFile, helpers};
-
-/// A call of a helper, whose handles are places among the answers.
-#[derive(Drop)]
-pub(crate) enum Helper {
-    AddRegisters(usize, Option<ResetNumbers>, Vec<RegisterNumbers>, usize),
-    BitwiseOrReduce(Vec<usize>),
-    BitwiseOrReduceArrayElements(usize, Vec<i64>),
-    LogicalAndReduce(Vec<usize>, bool),
-    LogicalOrReduce(Vec<usize>, bool),
-}
-
-/// The helper of this place in the table, over the arguments.
-///
-/// # Errors
-/// Where no helper has the place or the arguments are not those of the helper, and out of memory.
-pub(crate) fn make_helper(place: usize, arguments: &mut Arguments<'_>) -> Result<Helper, Misfit>
-    ensures named { IfOk result (λ helper. StandsAt helper_names place (helper_name helper)) }
-    ensures written { IfOk result (λ helper. AreLeft arguments.old (helper_pieces helper)) }
-{
-    match place {
-        0 => arguments.four(Helper::AddRegisters),
-        1 => arguments.one(Helper::BitwiseOrReduce),
-        2 => arguments.two(Helper::BitwiseOrReduceArrayElements),
-        3 => arguments.two(Helper::LogicalAndReduce),
-        4 => arguments.two(Helper::LogicalOrReduce),
-        _ => Err(arguments.misfit(Problem::UnknownCall)),
-    }
-}
 
 /// Calls the helper, whose arguments are among the answers so far.
 ///

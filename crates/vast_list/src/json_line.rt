@@ -4,13 +4,12 @@ ghost use Rattle.std.specs.Prelude.{◌≡◌, IfOk, IsTrue, MatchOption, OnOk, 
 ghost use Rattle.vast_core.specs.FileTree.{tree};
 ghost use Rattle.vast_list.specs.JsonLine.{EndsWithText, IsListJson};
 ghost use Rattle.vast_list.specs.Internal.JsonLine.{AnswersOn, AreAnswers, EndsWithSession, maybe_json};
-ghost use Rattle.vast_list.specs.Lines.{line_texts};
+ghost use Rattle.vast_calls.specs.Lines.{line_texts};
 ghost use Rattle.vast_list.specs.Output.{is_made};
 ghost use Rattle.vast_list.specs.Session.{IsTextOf};
 
 use crate::answering::ListReport;
 use crate::fault::{Fault, LineFault};
-use crate::json::push_json_text;
 use crate::lines::ListLines;
 use crate::output::{Verdict, dialect_line};
 use crate::reply::{push_fault, push_given};
@@ -18,6 +17,7 @@ use crate::session::{LineResult, Session};
 use crate::tries::Tries;
 use std::alloc::{AllocError, Global};
 use std::fmt::Write;
+use vast_calls::push_json_text;
 use xlsynth_vast::VastFileType;
 
 /// A list in the answering.

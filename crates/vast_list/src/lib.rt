@@ -5,42 +5,30 @@
 
 mod again;
 mod answering;
-mod arguments;
-mod calls;
 mod explain;
 mod fault;
-mod from_arguments;
 mod helpers;
-mod json;
 mod json_line;
 mod laws;
 mod line;
 mod lines;
 mod map;
-mod names;
-mod nearest;
 mod origins;
 mod output;
 mod pack;
-mod packed;
 mod packed_list;
 mod plainness;
-mod problem;
 mod questions;
 mod reply;
 mod selects;
 mod session;
-mod table;
-mod texts;
 mod tries;
-mod unpacked;
 mod untitled;
 
 pub use fault::{Fault, LineFault, write_on_a_line};
-pub use json::push_json_text;
 pub use json_line::list_json;
 pub use laws::{calls_are_named, steps_build_as_replayed};
-pub use line::{dialect_of, is_empty_line, is_step, name_of_call};
+pub use line::dialect_of;
 pub use lines::{HEADER, ListLines, ended_line};
 pub use map::{json_with_map, list_origins};
 pub use origins::Origins;
@@ -51,7 +39,8 @@ pub use plainness::{Plainness, list_plainness};
 pub use questions::answered::{PortValue, Value};
 pub use reply::{push_fault, push_given};
 pub use session::{LineResult, Session};
-pub use table::json::calls_json;
-pub use table::text::calls_text;
 pub use tries::Tries;
 pub use untitled::UntitledList;
+pub use vast_calls::{
+    calls_json, calls_text, is_empty_line, is_step, name_of_call, push_json_text,
+};

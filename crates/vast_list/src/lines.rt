@@ -2,7 +2,7 @@
 
 ghost use Rattle.std.specs.Prelude.{◌≡◌, IfSome, IsNone};
 ghost use Rattle.std.specs.List.{position_or_len};
-ghost use Rattle.vast_list.specs.Lines.{HasNoFeed, IsEnded, is_line_feed};
+ghost use Rattle.vast_calls.specs.Lines.{HasNoFeed, IsEnded, is_line_feed};
 
 /// What begins the line before a list.
 pub const HEADER: &[u8] = b"== ";

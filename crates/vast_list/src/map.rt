@@ -1,20 +1,20 @@
 //! Which line of a list each line of its file's text comes from.
 
 ghost use Rattle.std.specs.Prelude.{◌≡◌, IfOk, IsTrue, None, Some, false};
-ghost use Rattle.vast_list.specs.Lines.{line_texts};
+ghost use Rattle.vast_calls.specs.Lines.{line_texts};
 ghost use Rattle.vast_list.specs.Origins.{IsMapped};
 ghost use Rattle.vast_list.specs.Internal.Output.{IsAnswered};
 ghost use Rattle.vast_list.specs.Internal.Origins.{IsMapOfFile};
 
 use crate::answering::ListRun;
 use crate::fault::Fault;
-use crate::line::{split_line, text_of};
 use crate::lines::ListLines;
 use crate::origins::Origins;
 use crate::output::{Verdict, dialect_line};
 use crate::session::Session;
 use crate::tries::Tries;
 use std::alloc::{AllocError, Global};
+use vast_calls::{split_line, text_of};
 use vast_literal::VastFault;
 use xlsynth_vast::VastFileType;
 

@@ -2,7 +2,7 @@
 
 ghost use Rattle.std.specs.Prelude.{◌≡◌, ◌≤◌, ◌++◌, IfOk, IfSome, IsTrue, None, OnOk, Some, false, is_some, length, take, string_bytes, All};
 ghost use Rattle.vast_core.specs.FileTree.{tree};
-ghost use Rattle.vast_list.specs.Lines.{BeginsWithDialect, Passed, line_kind, line_texts};
+ghost use Rattle.vast_calls.specs.Lines.{BeginsWithDialect, Passed, line_kind, line_texts};
 ghost use Rattle.vast_list.specs.Output.{header_line, is_again, is_made, IsOutput, IsPrinted};
 ghost use Rattle.vast_list.specs.Internal.Output.{EndsWithFile, IsAnswered, IsDesign, IsFinished, IsReport};
 ghost use Rattle.vast_list.specs.Session.{IsTextOf};
@@ -10,13 +10,14 @@ ghost use Rattle.vast_list.specs.Session.{IsTextOf};
 use crate::again::Rerun;
 use crate::answering::{ListReport, ListRun, append};
 use crate::fault::{Fault, LineFault};
-use crate::line::{dialect_missing, dialect_of, is_empty_line};
+use crate::line::{dialect_missing, dialect_of};
 use crate::lines::{HEADER, ListLines};
 use crate::session::Session;
 use crate::tried;
 use crate::tries::Tries;
 use std::alloc::{AllocError, Global};
 use std::mem::replace;
+use vast_calls::is_empty_line;
 use xlsynth_vast::VastFileType;
 
 /// How a list was taken.

@@ -1,23 +1,18 @@
 //! Lists in packed form, of lists of text.
 
 ghost use Rattle.std.specs.Prelude.{◌≡◌, IfOk, IfSome, IsTrue};
-ghost use Rattle.vast_list.specs.Lines.{line_texts};
+ghost use Rattle.vast_calls.specs.Lines.{line_texts};
 ghost use Rattle.vast_list.specs.Output.{IsPrinted};
 ghost use Rattle.vast_list.specs.PackedLists.{IsPackedText, IsTwin};
 
-mod line;
-
-use self::line::pack_line;
 use crate::fault::{Fault, misread};
-use crate::line::is_empty_line;
 use crate::lines::ListLines;
 use crate::output::{ListOutput, at_fault, dialect_line, packed_bytes, titled_output};
-use crate::packed::push_number;
 use crate::packed_list::{packed_front, packed_output};
-use crate::problem::{Misfit, Problem};
 use crate::session::Session;
 use crate::tries::Tries;
 use std::alloc::{AllocError, Global};
+use vast_calls::{Misfit, Problem, is_empty_line, pack_line, push_number};
 
 /// The list in packed form, where its file's text is printed; else what is told of the list.
 ///
@@ -72,7 +67,7 @@ fn packed_lines(alloc: Global, list: &ListLines<'_>) -> Result<Vec<u8>, Fault> {
     for (number, line) in lines {
         if !is_empty_line(line) {
             call.clear();
-            if let Err(misfit) = pack_line(&session, line, &mut call) {
+            if let Err(misfit) = pack_line(session.known(), line, &mut call) {
                 return Err(misread(alloc, *number, "", "", misfit));
             }
             push_number(&mut bytes, call.len())?;

@@ -7,10 +7,10 @@ ghost use Rattle.vast_list.specs.PackedLists.{IsPackedText, is_packed_list, pack
 use crate::answering::ListReport;
 use crate::fault::{Fault, mispacked};
 use crate::output::{ListOutput, at_fault, printed};
-use crate::problem::{Misfit, Problem};
 use crate::session::Session;
 use crate::tries::Tries;
 use std::alloc::{AllocError, Global};
+use vast_calls::{Misfit, Problem};
 use xlsynth_vast::VastFileType;
 
 /// What a packed list begins with; the version of its form and its dialect stand after it, a byte each.

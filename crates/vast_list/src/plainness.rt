@@ -3,14 +3,13 @@
 ghost use Rattle.std.specs.Prelude.{◌≡◌, ◌++◌, ℕ, List, IfOk, IfSome, false, true};
 ghost use Rattle.vast_core.specs.FileTree.{tree};
 ghost use Rattle.vast_literal.specs.PlainFile.{is_plain_file};
-ghost use Rattle.vast_list.specs.Lines.{BeginsWithDialect, line_texts};
+ghost use Rattle.vast_calls.specs.Lines.{BeginsWithDialect, line_texts};
 ghost use Rattle.vast_list.specs.PlainLists.{PlainnessOf};
 ghost use Rattle.vast_list.specs.Untitled.{HasAnswered};
 ghost use Rattle.vast_list.specs.Internal.PlainLists.{IsToldNotPlain, IsToldPlain};
 
 use crate::answering::{ListReport, ListRun};
 use crate::fault::{Fault, write_on_a_line};
-use crate::line::{split_line, text_of};
 use crate::lines::ListLines;
 use crate::map::may_write;
 use crate::output::{Verdict, dialect_line};
@@ -18,6 +17,7 @@ use crate::session::Session;
 use std::alloc::{AllocError, Global};
 use std::fmt;
 use std::fmt::Write;
+use vast_calls::{split_line, text_of};
 use xlsynth_vast::VastFileType;
 
 /// Whether a list's file is plain (`VastFile::is_plain`).

@@ -6,11 +6,11 @@ ghost use Rattle.vast_list.specs.Replies.{AddsGiven, call_members, cause_word, c
 ghost use Rattle.vast_list.specs.Internal.Replies.{AddsHelper, more_ports};
 
 use crate::fault::LineFault;
-use crate::json::push_json_text;
 use crate::questions::answered::{PortValue, Value};
 use crate::session::{LineResult, Session};
 use std::alloc::AllocError;
 use std::fmt::Write;
+use vast_calls::push_json_text;
 use vast_script::StepFault;
 
 /// Appends what the line gave: `{"line":4,"call":"AddInput","step":3}`, and `"answer"` of a helper or a question.

@@ -5,25 +5,29 @@ ghost use Rattle.vast_core.specs.Bench.{start};
 ghost use Rattle.vast_core.specs.FileTree.{tree};
 ghost use Rattle.xlsynth_vast.specs.Registers.{HasUnused};
 ghost use Rattle.std.specs.Str.{IsUtf8};
-ghost use Rattle.vast_list.specs.Lines.{HasKind, Passed, without_return};
-ghost use Rattle.vast_list.specs.Names.{IsFree, entered, value_named};
+ghost use Rattle.vast_calls.specs.Lines.{HasKind, Passed, without_return};
+ghost use Rattle.vast_calls.specs.Names.{IsFree, entered};
+ghost use Rattle.vast_list.specs.Names.{value_named};
 ghost use Rattle.vast_list.specs.Replies.{IsAnswerText};
 ghost use Rattle.vast_list.specs.Session.{Calls, IsCausedBy, IsGivenBy, IsInForm, IsNumbered, IsOfLine, IsRefusedText, IsSame, IsStepIn, IsTextOf, NamesCall, Skips, Takes, next_number};
 ghost use Rattle.vast_list.specs.Questions.{Asks};
-ghost use Rattle.vast_list.specs.Internal.Session.{IsAskFault, IsCallFault, IsMisread, IsQuestionFault, IsRead, IsToldOf, Makes, MakesName};
-ghost use Rattle.vast_list.specs.Written.{meaning};
+ghost use Rattle.vast_list.specs.Internal.Session.{IsAskFault, IsCallFault, IsMisread, IsQuestionFault, IsToldOf, Makes, MakesName};
+ghost use Rattle.vast_calls.specs.Actions.{IsRead};
+ghost use Rattle.vast_calls.specs.Written.{meaning};
 
-use crate::arguments::{Known, place_of};
 use crate::fault::{Fault, misread, refused_text};
 use crate::helpers::call_helper;
-use crate::line::{Action, Call, Line, is_empty, read_line, split_line, text_of};
-use crate::names::{Named, Names, is_name};
+use crate::questions::answer;
 use crate::questions::answered::Value;
-use crate::questions::{Question, answer};
 use crate::selects::{Select, keep_select};
 use std::alloc::{AllocError, Global};
+use vast_calls::{
+    Action, Call, Known, Line, Named, Names, Question, is_empty, is_name, place_of, read_line,
+    split_line, text_of,
+};
 use vast_literal::VastFault;
-use vast_script::{Answer, Step, StepFault, one, replay_step};
+use vast_script::{Answer, StepFault, one, replay_step};
+use vast_steps::Step;
 use xlsynth_vast::{Expr, FileIds, VastFile, VastFileType};
 
 mod packed;

@@ -1,17 +1,18 @@
 //! A list without a title, taken line by line.
 
 ghost use Rattle.std.specs.Prelude.{[], IfOk, OnOk};
-ghost use Rattle.vast_list.specs.Lines.{HasKind, Passed};
+ghost use Rattle.vast_calls.specs.Lines.{HasKind, Passed};
 ghost use Rattle.vast_list.specs.Output.{IsPrinted};
 ghost use Rattle.vast_list.specs.Untitled.{GoesOnTo, HasTaken, IsPrintedOf};
 ghost use Rattle.vast_list.specs.Internal.Untitled.{LeadsTo};
 
 use crate::answering::ListRun;
 use crate::fault::{Fault, LineFault};
-use crate::line::{dialect_missing, dialect_of, is_empty_line};
+use crate::line::{dialect_missing, dialect_of};
 use crate::output::{ListOutput, at_fault, finished};
 use crate::tries::Tries;
 use std::alloc::{AllocError, Global};
+use vast_calls::is_empty_line;
 
 /// A list without a title whose lines are taken as they come, and not kept: what is printed and told of it in the end is
 /// what [`list_output`](crate::list_output) prints and tells of all of them, with `Tries::Once`.

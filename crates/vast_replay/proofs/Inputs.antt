@@ -8,7 +8,7 @@ use Rattle.std.proofs.lemmas.List.{nil_from_length, take-append-drop}
 use Rattle.std.proofs.lemmas.Option.{IfSome_then}
 use Rattle.std.specs.Prelude.{IsTrue, if◌then◌else◌, is_ok, is_some, vec_len}
 use Rattle.vast_list.specs.Built.{IsListText}
-use Rattle.vast_list.specs.Lines.{HasNoFeed, IsEnded, lines_of}
+use Rattle.vast_calls.specs.Lines.{HasNoFeed, IsEnded, lines_of}
 use Rattle.vast_list.specs.Output.{IsPrinted}
 use Rattle.vast_list.specs.PackedLists.{IsPackedText}
 use Rattle.vast_list.specs.Untitled.{GoesOnTo, HasTaken, IsPrintedOf}

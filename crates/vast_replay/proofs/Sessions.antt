@@ -4,7 +4,7 @@ use Rattle.std.proofs.lemmas.Bool.{eqb-true, false≢true}
 use Rattle.std.specs.Io.BufRead.{take_through, drop_through}
 use Rattle.std.proofs.KnownBytes.{Appends-trans}
 use Rattle.std.specs.Io.KnownBytes.{Appends}
-use Rattle.vast_list.specs.Lines.{lines_of, longer}
+use Rattle.vast_calls.specs.Lines.{lines_of, longer}
 use Rattle.vast_replay.specs.Sessions.{RepliesOnce, RepliesToEach}
 use Rattle.vast_replay.specs.Internal.Sessions.{IsWithoutFeed, ReadsLine}
 use Rattle.vast_talk.specs.declared.repl.Repl.{Repl}

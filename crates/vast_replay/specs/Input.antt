@@ -3,7 +3,7 @@ use Rattle.std.specs.Prelude.{◌≡◌, ◌==◌, ◌⊎◌, ℕ, Bool, true, f
 use Rattle.std.specs.Io.KnownBytes.{Appends, Consumes}
 use Rattle.std.specs.List.{starts_with}
 use Rattle.vast_list.specs.Built.{IsListText}
-use Rattle.vast_list.specs.Lines.{lines_of}
+use Rattle.vast_calls.specs.Lines.{lines_of}
 use Rattle.vast_list.specs.Output.{IsPrinted}
 use Rattle.vast_list.specs.PackedLists.{IsPackedText}
 use Rattle.vast_list.specs.declared.output.ListOutput.{ListOutput}

@@ -2,7 +2,7 @@
 
 ghost use Rattle.std.specs.Prelude.{◌≡◌, ◌<◌, ◌∷◌, ◌++◌, [], IfOk, OnOk, length};
 ghost use Rattle.std.specs.Io.KnownBytes.{Consumes, IsAtEnd};
-ghost use Rattle.vast_list.specs.Lines.{HasNoFeed};
+ghost use Rattle.vast_calls.specs.Lines.{HasNoFeed};
 ghost use Rattle.vast_list.specs.Output.{IsPrinted};
 ghost use Rattle.vast_list.specs.Untitled.{GoesOnTo};
 ghost use Rattle.vast_replay.specs.Input.{GivesTaken, unmarked};

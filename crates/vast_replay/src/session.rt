@@ -2,7 +2,7 @@
 
 ghost use Rattle.std.specs.Prelude.{◌≡◌, IfOk, IfSome, OnOk};
 ghost use Rattle.std.specs.Io.KnownBytes.{Appends};
-ghost use Rattle.vast_list.specs.Lines.{lines_of};
+ghost use Rattle.vast_calls.specs.Lines.{lines_of};
 ghost use Rattle.vast_talk.specs.Linted.{HasItsLint};
 ghost use Rattle.vast_replay.specs.Sessions.{IsBegun, WritesReplies};
 ghost use Rattle.vast_replay.specs.Internal.Sessions.{HasRepliedAll, IsWithoutFeed, ReadsLine};

@@ -5,8 +5,8 @@ use Rattle.vast_core.specs.declared.node.Member.TheVariants.{ContinuousAssignmen
 use Rattle.vast_core.specs.Growth.{with_member, next_continuous, with_assignment}
 use Rattle.vast_core.specs.Artifacts.{next_def, with_definition, next_artifact, with_artifact, next_instantiation, with_instance, next_statement}
 use Rattle.vast_script.specs.declared.answer.Answer.TheVariants.{Def, MacroStatement, ContinuousAssignment, VastStatement, Instantiation, Nothing}
-use Rattle.vast_script.specs.declared.step.ArtifactStep.{ArtifactStep}
-use Rattle.vast_script.specs.declared.step.ArtifactStep.TheVariants.{MakeDef, MakeBlankLine, MakeComment, MakeInlineVerilogStatement, MakeMacroStatement, MakeContinuousAssignment, MakeNonblockingAssignment, MakeBlockingAssignment, MakeInstantiation, AddMemberInstantiation, AddMemberContinuousAssignment, AddMemberBlankLine, AddMemberComment, AddMemberInlineStatement, AddMemberMacroStatement}
+use Rattle.vast_steps.specs.declared.step.ArtifactStep.{ArtifactStep}
+use Rattle.vast_steps.specs.declared.step.ArtifactStep.TheVariants.{MakeDef, MakeBlankLine, MakeComment, MakeInlineVerilogStatement, MakeMacroStatement, MakeContinuousAssignment, MakeNonblockingAssignment, MakeBlockingAssignment, MakeInstantiation, AddMemberInstantiation, AddMemberContinuousAssignment, AddMemberBlankLine, AddMemberComment, AddMemberInlineStatement, AddMemberMacroStatement}
 use Rattle.vast_script.specs.Outcome.{Made, provided}
 use Rattle.vast_script.specs.Kinds.{an_expr, a_type, a_module, a_macro_ref, an_instantiation, a_continuous, a_blank_line, a_comment, an_inline, a_macro_statement}
 use Rattle.vast_script.specs.Arguments.{one, two, many_and_open}

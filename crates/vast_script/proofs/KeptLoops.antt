@@ -12,8 +12,8 @@ use Rattle.vast_core.specs.Containers.{next_conditional, with_conditional}
 use Rattle.vast_core.specs.Loops.{next_loop, with_loop, with_loop_member}
 use Rattle.xlsynth_vast.specs.Inspections.{genvar_at}
 use Rattle.vast_script.specs.declared.answer.Answer.TheVariants.{GenerateLoop, LogicRef, LocalparamRef, VastStatement, Conditional, Nothing}
-use Rattle.vast_script.specs.declared.step.LoopStep.{LoopStep}
-use Rattle.vast_script.specs.declared.step.LoopStep.TheVariants.{AddGenerateLoop, GenerateAddGenerateLoop, GenerateGenvar, GenerateAddAlwaysComb, GenerateAddAlwaysStar, GenerateAddAlwaysLatch, GenerateAddInitial, GenerateAddAlwaysFf, GenerateAddAlwaysAt, GenerateAddLocalparam, GenerateAddTypedLocalparam, GenerateAddContinuousAssignment, GenerateAddConditional, GenerateAddBlankLine, GenerateAddComment, GenerateAddInstantiation, GenerateAddInlineStatement, GenerateAddMacroStatement}
+use Rattle.vast_steps.specs.declared.step.LoopStep.{LoopStep}
+use Rattle.vast_steps.specs.declared.step.LoopStep.TheVariants.{AddGenerateLoop, GenerateAddGenerateLoop, GenerateGenvar, GenerateAddAlwaysComb, GenerateAddAlwaysStar, GenerateAddAlwaysLatch, GenerateAddInitial, GenerateAddAlwaysFf, GenerateAddAlwaysAt, GenerateAddLocalparam, GenerateAddTypedLocalparam, GenerateAddContinuousAssignment, GenerateAddConditional, GenerateAddBlankLine, GenerateAddComment, GenerateAddInstantiation, GenerateAddInlineStatement, GenerateAddMacroStatement}
 use Rattle.vast_script.specs.Outcome.{Made, holding}
 use Rattle.vast_script.specs.Kinds.{a_module, a_loop, an_expr, a_definition, a_comment, an_instantiation, an_inline, a_macro_statement}
 use Rattle.vast_script.specs.Arguments.{one, two, three}

@@ -17,8 +17,8 @@ use Rattle.xlsynth_vast.specs.Conditions.{is_free}
 use Rattle.xlsynth_vast.specs.Declarations.{names_in, unless_taken}
 use Rattle.xlsynth_vast.specs.Inspections.{members_in}
 use Rattle.vast_script.specs.declared.answer.Answer.TheVariants.{VastDataType, LogicRef, ParameterRef, LocalparamRef, Nothing}
-use Rattle.vast_script.specs.declared.step.ModuleStep.{ModuleStep}
-use Rattle.vast_script.specs.declared.step.ModuleStep.TheVariants.{AddInclude, AddBlankLine, AddCommentText, AddModule, AddInput, AddOutput, AddInout, AddLogicInput, AddLogicOutput, AddWire, AddReg, AddLogic, AddParameterPort, AddTypedParameterPort, AddParameter, AddParameterWithDef, AddLocalparam, AddIntLocalparam, AddTypedLocalparam, HoistModuleDeclarations, AddImport, AddFileImport, AddEnumTypedef, AddStructTypedef, AddFileEnumTypedef, AddFileStructTypedef, AddVariable}
+use Rattle.vast_steps.specs.declared.step.ModuleStep.{ModuleStep}
+use Rattle.vast_steps.specs.declared.step.ModuleStep.TheVariants.{AddInclude, AddBlankLine, AddCommentText, AddModule, AddInput, AddOutput, AddInout, AddLogicInput, AddLogicOutput, AddWire, AddReg, AddLogic, AddParameterPort, AddTypedParameterPort, AddParameter, AddParameterWithDef, AddLocalparam, AddIntLocalparam, AddTypedLocalparam, HoistModuleDeclarations, AddImport, AddFileImport, AddEnumTypedef, AddStructTypedef, AddFileEnumTypedef, AddFileStructTypedef, AddVariable}
 use Rattle.vast_script.specs.Outcome.{Made, provided, allowed}
 use Rattle.vast_core.specs.declared.typedef.DeclaredType.TheVariants.{Enum as EnumType, Struct as StructType}
 use Rattle.xlsynth_vast.specs.Instances.{connected}

@@ -7,7 +7,8 @@ use Rattle.vast_script.specs.Kinds.{an_expr}
 use Rattle.vast_script.specs.Arguments.{one, two}
 use Rattle.xlsynth_vast.proofs.Kept.{keeps-root}
 use Rattle.vast_script.proofs.KeptOutcomes.{CallKeeps, given-keeps}
-use Rattle.vast_script.specs.Operators.{Operation, Before, Between, operation_call}
+use Rattle.vast_script.specs.Operators.{operation_call}
+use Rattle.vast_steps.specs.Operators.{Operation, Before, Between}
 
 pub operation-keeps : (made : Operation) → CallKeeps (operation_call made)
 operation-keeps (Before operator e) b answers = given-keeps b (one an_expr b answers e) (λ e. Made (Expr (next_expr b)) (with_unary operator e b)) (λ e. keeps-root b _)

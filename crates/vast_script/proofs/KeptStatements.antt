@@ -23,8 +23,8 @@ use Rattle.xlsynth_vast.specs.Declarations.{names_in}
 use Rattle.xlsynth_vast.specs.Functions.{may_be_function, with_function_member, unless_taken_in_function}
 use Rattle.xlsynth_vast.specs.Inspections.{block_at, then_block_at, body_at, result_at}
 use Rattle.vast_script.specs.declared.answer.Answer.TheVariants.{VastFunction, LogicRef, VastAlwaysBase, VastStatementBlock, VastStatement, Conditional, CaseStatement, Nothing}
-use Rattle.vast_script.specs.declared.step.StatementStep.{StatementStep}
-use Rattle.vast_script.specs.declared.step.StatementStep.TheVariants.{AddFunction, FunctionAddInput, FunctionAddLogicInput, FunctionAddReg, FunctionAddLogic, FunctionBody, FunctionResult, AddAlwaysFf, AddAlwaysAt, AddAlwaysComb, AddAlwaysStar, AddAlwaysLatch, AddInitial, BlockAddTaskCall, BlockAddFor, StatementBlock, BlockAddBlockingAssignment, BlockAddNonblockingAssignment, BlockAddContinuousAssignment, BlockAddCommentText, BlockAddInlineText, BlockAddBlankLine, AddConditional, BlockAddCond, ConditionalThenBlock, ConditionalAddElseIf, ConditionalAddElse, BlockAddCase, BlockAddCasez, BlockAddCasex, CaseAddItem, CaseAddDefault, CaseSetUnique}
+use Rattle.vast_steps.specs.declared.step.StatementStep.{StatementStep}
+use Rattle.vast_steps.specs.declared.step.StatementStep.TheVariants.{AddFunction, FunctionAddInput, FunctionAddLogicInput, FunctionAddReg, FunctionAddLogic, FunctionBody, FunctionResult, AddAlwaysFf, AddAlwaysAt, AddAlwaysComb, AddAlwaysStar, AddAlwaysLatch, AddInitial, BlockAddTaskCall, BlockAddFor, StatementBlock, BlockAddBlockingAssignment, BlockAddNonblockingAssignment, BlockAddContinuousAssignment, BlockAddCommentText, BlockAddInlineText, BlockAddBlankLine, AddConditional, BlockAddCond, ConditionalThenBlock, ConditionalAddElseIf, ConditionalAddElse, BlockAddCase, BlockAddCasez, BlockAddCasex, CaseAddItem, CaseAddDefault, CaseSetUnique}
 use Rattle.vast_script.specs.Outcome.{Made, provided, allowed, holding}
 use Rattle.vast_script.specs.Kinds.{a_module, a_function, a_type, an_expr, an_always, a_block, a_conditional, a_case, Kind}
 use Rattle.vast_script.specs.Arguments.{one, two, three, one_and_many}

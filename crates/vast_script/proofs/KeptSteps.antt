@@ -3,10 +3,10 @@ use Rattle.std.proofs.Common.{List, [], ◌∷◌}
 use Rattle.std.specs.List.{fold}
 use Rattle.vast_core.specs.Bench.{Bench}
 use Rattle.vast_script.specs.declared.answer.Answer.{Answer}
-use Rattle.vast_script.specs.declared.step.Step.{Step}
-use Rattle.vast_script.specs.declared.step.Step.TheVariants.{Operators, Expressions, Types, Modules, Loops, Statements, Artifacts}
+use Rattle.vast_steps.specs.declared.step.Step.{Step}
+use Rattle.vast_steps.specs.declared.step.Step.TheVariants.{Operators, Expressions, Types, Modules, Loops, Statements, Artifacts}
 use Rattle.vast_script.specs.Outcome.{Outcome, Made, AtFault}
-use Rattle.vast_script.specs.Operators.{operation}
+use Rattle.vast_steps.specs.Operators.{operation}
 use Rattle.vast_script.specs.Script.{call_of, Run, Going, Stopped, gone_on, one_more, left_by}
 use Rattle.xlsynth_vast.specs.Keeps.{Keeps}
 use Rattle.vast_script.specs.Laws.{StepsKeepTheFile}

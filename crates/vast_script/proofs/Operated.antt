@@ -13,7 +13,8 @@ use Rattle.vast_script.specs.Arguments.{IsCause, one, two}
 use Rattle.vast_script.specs.Internal.Operators.{MakesBefore, MakesBetween, TakesOne, TakesTwo, operands_of}
 use Rattle.vast_script.specs.Internal.Outcome.{Wraps}
 use Rattle.vast_script.specs.Kinds.{an_expr}
-use Rattle.vast_script.specs.Operators.{Operation, Before, Between, operation_call}
+use Rattle.vast_script.specs.Operators.{operation_call}
+use Rattle.vast_steps.specs.Operators.{Operation, Before, Between}
 use Rattle.vast_script.specs.Outcome.{AtFault, Becomes, Cause, FaultOf, Outcome, Replays, cause_of, given, makes}
 
 -- An expression that was made, or not, is what becomes of the call.

@@ -11,8 +11,8 @@ use Rattle.vast_core.specs.Growth.{next_continuous, with_assignment}
 use Rattle.vast_core.specs.Artifacts.{next_def, with_definition, next_artifact, with_artifact, next_instantiation, with_instance, next_statement}
 use Rattle.xlsynth_vast.specs.Instances.{connected}
 use Rattle.vast_script.specs.declared.answer.Answer.TheVariants.{Def, BlankLine, Comment, InlineVerilogStatement, MacroStatement, ContinuousAssignment, VastStatement, Instantiation, Nothing}
-use Rattle.vast_script.specs.declared.step.ArtifactStep.{ArtifactStep}
-use Rattle.vast_script.specs.declared.step.ArtifactStep.TheVariants.{MakeDef, MakeBlankLine, MakeComment, MakeInlineVerilogStatement, MakeMacroStatement, MakeContinuousAssignment, MakeNonblockingAssignment, MakeBlockingAssignment, MakeInstantiation, AddMemberInstantiation, AddMemberContinuousAssignment, AddMemberBlankLine, AddMemberComment, AddMemberInlineStatement, AddMemberMacroStatement}
+use Rattle.vast_steps.specs.declared.step.ArtifactStep.{ArtifactStep}
+use Rattle.vast_steps.specs.declared.step.ArtifactStep.TheVariants.{MakeDef, MakeBlankLine, MakeComment, MakeInlineVerilogStatement, MakeMacroStatement, MakeContinuousAssignment, MakeNonblockingAssignment, MakeBlockingAssignment, MakeInstantiation, AddMemberInstantiation, AddMemberContinuousAssignment, AddMemberBlankLine, AddMemberComment, AddMemberInlineStatement, AddMemberMacroStatement}
 use Rattle.vast_script.specs.Outcome.{Call, Made, provided, makes}
 use Rattle.vast_script.specs.Kinds.{an_expr, a_type, a_module, a_macro_ref, an_instantiation, a_continuous, a_blank_line, a_comment, an_inline, a_macro_statement, Kind}
 use Rattle.vast_script.specs.Arguments.{takes_one, takes_two, takes_many_and_open}

@@ -7,8 +7,8 @@ use Rattle.vast_core.specs.Bench.{type_of, tree_of, trees_of}
 use Rattle.vast_core.specs.Growth.{next_expr, with_expr, decimal_literal, next_node, next_fixed_index, with_fixed_index, next_fixed_slice, with_fixed_slice, next_fixed_replication, with_fixed_replication}
 use Rattle.xlsynth_vast.specs.Literals.{literal_in, pattern_literal, string_literal, selector_text}
 use Rattle.vast_script.specs.declared.answer.Answer.TheVariants.{Expr, IndexableExpr, Slice, Index, MacroRef}
-use Rattle.vast_script.specs.declared.step.ExpressionStep.{ExpressionStep}
-use Rattle.vast_script.specs.declared.step.ExpressionStep.TheVariants.{MakeLiteral, MakeBinaryPattern, MakeUnsizedDecimalLiteral, MakeStringLiteral, MakeUnsizedOneLiteral, MakeUnsizedZeroLiteral, MakeUnsizedXLiteral, MakeName, MakeIndexableExpression, MakeSlice, MakeIndex, MakeSliceExpr, MakeIndexExpr, MakeIndexedPartSelect, MakeFunctionCall, MakeConcat, MakeReplicatedConcat, MakeReplicatedConcatI64, MakeArrayAssignmentPattern, MakeTernary, MakeWidthCast, MakeTypeCast, MakePosEdge, MakeNegEdge, MakeMacroRef, MakeMacroRefWithArgs, MakeMember}
+use Rattle.vast_steps.specs.declared.step.ExpressionStep.{ExpressionStep}
+use Rattle.vast_steps.specs.declared.step.ExpressionStep.TheVariants.{MakeLiteral, MakeBinaryPattern, MakeUnsizedDecimalLiteral, MakeStringLiteral, MakeUnsizedOneLiteral, MakeUnsizedZeroLiteral, MakeUnsizedXLiteral, MakeName, MakeIndexableExpression, MakeSlice, MakeIndex, MakeSliceExpr, MakeIndexExpr, MakeIndexedPartSelect, MakeFunctionCall, MakeConcat, MakeReplicatedConcat, MakeReplicatedConcatI64, MakeArrayAssignmentPattern, MakeTernary, MakeWidthCast, MakeTypeCast, MakePosEdge, MakeNegEdge, MakeMacroRef, MakeMacroRefWithArgs, MakeMember}
 use Rattle.vast_script.specs.Outcome.{Call, Made, provided, allowed, makes}
 use Rattle.vast_script.specs.Kinds.{an_expr, an_indexable, a_type}
 use Rattle.vast_script.specs.Arguments.{takes_one, takes_two, takes_three, takes_many, takes_one_and_many}

@@ -13,7 +13,7 @@ use Rattle.vast_print.specs.Derived.{FileDerivesIfPlain}
 use Rattle.vast_print.specs.Emits.{Emits}
 use Rattle.vast_print.specs.Layout.{layout}
 use Rattle.vast_script.specs.declared.answer.Answer.{Answer}
-use Rattle.vast_script.specs.declared.step.Step.{Step}
+use Rattle.vast_steps.specs.declared.step.Step.{Step}
 use Rattle.vast_script.specs.Script.{built, Replayed}
 
 -- The tree that the steps build from a new file.

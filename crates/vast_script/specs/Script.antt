@@ -6,10 +6,11 @@ use Rattle.std.specs.declared.alloc.Global.{Global}
 use Rattle.vast_script.specs.declared.answer.Answer.{Answer}
 use Rattle.vast_script.specs.declared.fault.ScriptFault.{ScriptFault}
 use Rattle.vast_script.specs.declared.fault.ScriptFault.TheVariants.{NoAnswer, WrongKind, Condition, Refused, Memory}
-use Rattle.vast_script.specs.declared.step.Step.{Step}
-use Rattle.vast_script.specs.declared.step.Step.TheVariants.{Operators, Expressions, Types, Modules, Loops, Statements, Artifacts}
+use Rattle.vast_steps.specs.declared.step.Step.{Step}
+use Rattle.vast_steps.specs.declared.step.Step.TheVariants.{Operators, Expressions, Types, Modules, Loops, Statements, Artifacts}
 use Rattle.vast_script.specs.Outcome.{Call, Cause, Missing, OtherKind, NotMet, InWords, Outcome, Made, AtFault}
-use Rattle.vast_script.specs.Operators.{operation, operation_call}
+use Rattle.vast_script.specs.Operators.{operation_call}
+use Rattle.vast_steps.specs.Operators.{operation}
 use Rattle.vast_script.specs.Expressions.{expression_call}
 use Rattle.vast_script.specs.Types.{type_call}
 use Rattle.vast_script.specs.Modules.{module_call}

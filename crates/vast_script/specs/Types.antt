@@ -8,8 +8,8 @@ use Rattle.vast_core.specs.Growth.{counts, next_type, with_type}
 use Rattle.xlsynth_vast.specs.Conditions.{is_usable_width, are_usable_dimensions}
 use Rattle.xlsynth_vast.specs.Equations.{next_bit_vector, with_bit_vector}
 use Rattle.vast_script.specs.declared.answer.Answer.TheVariants.{VastDataType}
-use Rattle.vast_script.specs.declared.step.TypeStep.{TypeStep}
-use Rattle.vast_script.specs.declared.step.TypeStep.TheVariants.{MakeScalarType, MakeIntegerType, MakeIntType, MakeExternType, MakeExternPackageType, MakeBitVectorType, MakeBitVectorTypeExpr, MakePackedArrayType, MakeUnpackedArrayType, MakePackedArrayTypeExpr, MakeUnpackedArrayTypeExpr}
+use Rattle.vast_steps.specs.declared.step.TypeStep.{TypeStep}
+use Rattle.vast_steps.specs.declared.step.TypeStep.TheVariants.{MakeScalarType, MakeIntegerType, MakeIntType, MakeExternType, MakeExternPackageType, MakeBitVectorType, MakeBitVectorTypeExpr, MakePackedArrayType, MakeUnpackedArrayType, MakePackedArrayTypeExpr, MakeUnpackedArrayTypeExpr}
 use Rattle.vast_script.specs.Outcome.{Call, Made, provided}
 use Rattle.vast_script.specs.Kinds.{a_type, an_expr}
 use Rattle.vast_script.specs.Arguments.{takes_one, takes_one_and_many}

@@ -10,7 +10,7 @@ use crate::answers::{
 use crate::arguments::{one, two};
 use crate::fault::StepFault;
 use crate::instances::make_instantiation;
-use crate::step::ArtifactStep;
+use vast_steps::ArtifactStep;
 use xlsynth_vast::{
     BlankLine, Comment, ContinuousAssignment, Expr, InlineVerilogStatement, Instantiation,
     MacroRef, MacroStatement, VastDataType, VastFile, VastModule,

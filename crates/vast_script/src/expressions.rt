@@ -1,7 +1,7 @@
 //! Calls that make any other expression.
 
 ghost use Rattle.vast_script.specs.Outcome.{Replays};
-ghost use Rattle.vast_script.specs.declared.step.ExpressionStep.TheVariants.{MakeSlice, MakeIndex, MakeIndexedPartSelect, MakeTypeCast};
+ghost use Rattle.vast_steps.specs.declared.step.ExpressionStep.TheVariants.{MakeSlice, MakeIndex, MakeIndexedPartSelect, MakeTypeCast};
 ghost use Rattle.vast_script.specs.Expressions.{expression_call};
 
 use crate::answer::Answer;
@@ -12,7 +12,7 @@ use crate::expression_lists::{
     replicated_concat_i64,
 };
 use crate::fault::StepFault;
-use crate::step::ExpressionStep;
+use vast_steps::ExpressionStep;
 use xlsynth_vast::{Expr, IndexableExpr, VastDataType, VastFile};
 
 fn slice_of(

@@ -21,8 +21,8 @@ mod modules;
 mod open_lists;
 mod operators;
 mod script;
+mod signal;
 mod statements;
-mod step;
 mod typedefs;
 mod types;
 
@@ -31,6 +31,6 @@ pub use arguments::{Argument, one};
 pub use fault::{ScriptFault, StepFault};
 pub use lists::many;
 pub use script::{replay, replay_step};
-pub use step::{
+pub use vast_steps::{
     ArtifactStep, ExpressionStep, LoopStep, ModuleStep, OperatorStep, StatementStep, Step, TypeStep,
 };

@@ -1,6 +1,6 @@
 //! Calls of generate loops and their members.
 
-ghost use Rattle.std.specs.Prelude.{◌≡◌, codes, option_copied};
+ghost use Rattle.std.specs.Prelude.{◌≡◌, codes, cond, option_copied};
 ghost use Rattle.vast_literal.specs.declared.kind.AlwaysKind.TheVariants.{AlwaysFF, AlwaysAt};
 ghost use Rattle.vast_script.specs.Kinds.{a_loop};
 ghost use Rattle.vast_script.specs.Statements.{add_always};
@@ -16,7 +16,7 @@ use crate::answers::{
 use crate::arguments::{one, three, two};
 use crate::fault::StepFault;
 use crate::lists::{one_and_many, references};
-use crate::step::LoopStep;
+use vast_steps::LoopStep;
 use xlsynth_vast::{
     Comment, Def, Expr, GenerateLoop, InlineVerilogStatement, Instantiation, MacroStatement,
     VastFile, VastModule,
@@ -32,32 +32,25 @@ fn label_text(label: &Option<String>) -> Option<&str>
     }
 }
 
-fn generate_add_always_ff(
+/// An `always_ff` of these events, or an `always @`.
+fn generate_add_always(
     file: &mut VastFile,
     answers: &[Answer],
+    is_ff: bool,
     owner: usize,
     events: &[usize],
 ) -> Result<Answer, StepFault>
     ensures { Replays file.old file.new answers.now result
-        (add_always a_loop ScopeLoop AlwaysFF (codes "always_ff") owner events.now) }
+        (add_always a_loop ScopeLoop (cond is_ff AlwaysFF AlwaysAt)
+        (cond is_ff (codes "always_ff") (codes "always @")) owner events.now) }
 {
     let (owner, events): (GenerateLoop, Vec<Expr>) = one_and_many(file, answers, owner, events)?;
     let events = references(file, &events)?;
-    refusable_always(file.generate_add_always_ff(owner, &events))
-}
-
-fn generate_add_always_at(
-    file: &mut VastFile,
-    answers: &[Answer],
-    owner: usize,
-    events: &[usize],
-) -> Result<Answer, StepFault>
-    ensures { Replays file.old file.new answers.now result
-        (add_always a_loop ScopeLoop AlwaysAt (codes "always @") owner events.now) }
-{
-    let (owner, events): (GenerateLoop, Vec<Expr>) = one_and_many(file, answers, owner, events)?;
-    let events = references(file, &events)?;
-    refusable_always(file.generate_add_always_at(owner, &events))
+    if is_ff {
+        refusable_always(file.generate_add_always_ff(owner, &events))
+    } else {
+        refusable_always(file.generate_add_always_at(owner, &events))
+    }
 }
 
 /// Makes the call, over the answers so far.
@@ -104,10 +97,10 @@ pub(crate) fn replay_loop(
             refusable_always(file.generate_add_initial(owner))
         }
         LoopStep::GenerateAddAlwaysFf(owner, events) => {
-            generate_add_always_ff(file, answers, *owner, events)
+            generate_add_always(file, answers, true, *owner, events)
         }
         LoopStep::GenerateAddAlwaysAt(owner, events) => {
-            generate_add_always_at(file, answers, *owner, events)
+            generate_add_always(file, answers, false, *owner, events)
         }
         LoopStep::GenerateAddLocalparam(owner, name, value) => {
             let (owner, value): (GenerateLoop, Expr) = two(file, answers, *owner, *value)?;

@@ -1,120 +1,45 @@
 //! Calls of the file's items, and of modules with their ports, declarations and parameters.
 
-ghost use Rattle.vast_literal.specs.declared.kind.ModulePortDirection.TheVariants.{Input, Output, InOut};
-ghost use Rattle.vast_literal.specs.declared.kind.DataKind.TheVariants.{Wire, Logic};
 ghost use Rattle.vast_script.specs.Outcome.{Replays};
-ghost use Rattle.vast_script.specs.declared.step.ModuleStep.TheVariants.{HoistModuleDeclarations};
-ghost use Rattle.vast_script.specs.Modules.{add_port, add_wire, module_call};
+ghost use Rattle.vast_steps.specs.declared.step.ModuleStep.TheVariants.{HoistModuleDeclarations};
+ghost use Rattle.vast_script.specs.Modules.{module_call};
+ghost use Rattle.vast_script.specs.Internal.Modules.{add_signal};
 
 use crate::answer::Answer;
 use crate::answers::{localparam, logic_ref, module, nothing, parameter, refusable_logic_ref};
 use crate::arguments::{one, three, two};
 use crate::fault::StepFault;
-use crate::step::ModuleStep;
+use crate::signal::Signal;
 use crate::typedefs::{
     add_enum_typedef, add_file_enum_typedef, add_file_struct_typedef, add_struct_typedef,
 };
+use vast_steps::ModuleStep;
 use xlsynth_vast::{BlankLine, Def, Expr, VastDataType, VastFile, VastModule};
 
-fn add_input(
+/// A signal of this type, in a module in which its name is free.
+fn add_signal(
     file: &mut VastFile,
     answers: &[Answer],
+    signal: Signal,
     owner: usize,
     name: &str,
     data_type: usize,
 ) -> Result<Answer, StepFault>
     ensures { Replays file.old file.new answers.now result
-        (add_port Input Wire owner name.now data_type) }
+        (add_signal signal owner name.now data_type) }
 {
     let (owner, data_type): (VastModule, VastDataType) = two(file, answers, owner, data_type)?;
     if !file.name_is_free(owner, name) {
         return Err(StepFault::Condition);
     }
-    logic_ref(file.add_input(owner, name, &data_type))
-}
-
-fn add_output(
-    file: &mut VastFile,
-    answers: &[Answer],
-    owner: usize,
-    name: &str,
-    data_type: usize,
-) -> Result<Answer, StepFault>
-    ensures { Replays file.old file.new answers.now result
-        (add_port Output Wire owner name.now data_type) }
-{
-    let (owner, data_type): (VastModule, VastDataType) = two(file, answers, owner, data_type)?;
-    if !file.name_is_free(owner, name) {
-        return Err(StepFault::Condition);
+    match signal {
+        Signal::Input => logic_ref(file.add_input(owner, name, &data_type)),
+        Signal::Output => logic_ref(file.add_output(owner, name, &data_type)),
+        Signal::InOut => logic_ref(file.add_inout(owner, name, &data_type)),
+        Signal::LogicInput => logic_ref(file.add_logic_input(owner, name, &data_type)),
+        Signal::LogicOutput => logic_ref(file.add_logic_output(owner, name, &data_type)),
+        Signal::Wire => logic_ref(file.add_wire(owner, name, &data_type)),
     }
-    logic_ref(file.add_output(owner, name, &data_type))
-}
-
-fn add_inout(
-    file: &mut VastFile,
-    answers: &[Answer],
-    owner: usize,
-    name: &str,
-    data_type: usize,
-) -> Result<Answer, StepFault>
-    ensures { Replays file.old file.new answers.now result
-        (add_port InOut Wire owner name.now data_type) }
-{
-    let (owner, data_type): (VastModule, VastDataType) = two(file, answers, owner, data_type)?;
-    if !file.name_is_free(owner, name) {
-        return Err(StepFault::Condition);
-    }
-    logic_ref(file.add_inout(owner, name, &data_type))
-}
-
-fn add_logic_input(
-    file: &mut VastFile,
-    answers: &[Answer],
-    owner: usize,
-    name: &str,
-    data_type: usize,
-) -> Result<Answer, StepFault>
-    ensures { Replays file.old file.new answers.now result
-        (add_port Input Logic owner name.now data_type) }
-{
-    let (owner, data_type): (VastModule, VastDataType) = two(file, answers, owner, data_type)?;
-    if !file.name_is_free(owner, name) {
-        return Err(StepFault::Condition);
-    }
-    logic_ref(file.add_logic_input(owner, name, &data_type))
-}
-
-fn add_logic_output(
-    file: &mut VastFile,
-    answers: &[Answer],
-    owner: usize,
-    name: &str,
-    data_type: usize,
-) -> Result<Answer, StepFault>
-    ensures { Replays file.old file.new answers.now result
-        (add_port Output Logic owner name.now data_type) }
-{
-    let (owner, data_type): (VastModule, VastDataType) = two(file, answers, owner, data_type)?;
-    if !file.name_is_free(owner, name) {
-        return Err(StepFault::Condition);
-    }
-    logic_ref(file.add_logic_output(owner, name, &data_type))
-}
-
-fn add_wire(
-    file: &mut VastFile,
-    answers: &[Answer],
-    owner: usize,
-    name: &str,
-    data_type: usize,
-) -> Result<Answer, StepFault>
-    ensures { Replays file.old file.new answers.now result (add_wire owner name.now data_type) }
-{
-    let (owner, data_type): (VastModule, VastDataType) = two(file, answers, owner, data_type)?;
-    if !file.name_is_free(owner, name) {
-        return Err(StepFault::Condition);
-    }
-    logic_ref(file.add_wire(owner, name, &data_type))
 }
 
 fn hoist_declarations(
@@ -167,22 +92,22 @@ pub(crate) fn replay_module(
         ModuleStep::AddCommentText(text) => nothing(file.add_comment_text(text)),
         ModuleStep::AddModule(name) => module(file.add_module(name)),
         ModuleStep::AddInput(owner, name, data_type) => {
-            add_input(file, answers, *owner, name, *data_type)
+            add_signal(file, answers, Signal::Input, *owner, name, *data_type)
         }
         ModuleStep::AddOutput(owner, name, data_type) => {
-            add_output(file, answers, *owner, name, *data_type)
+            add_signal(file, answers, Signal::Output, *owner, name, *data_type)
         }
         ModuleStep::AddInout(owner, name, data_type) => {
-            add_inout(file, answers, *owner, name, *data_type)
+            add_signal(file, answers, Signal::InOut, *owner, name, *data_type)
         }
         ModuleStep::AddLogicInput(owner, name, data_type) => {
-            add_logic_input(file, answers, *owner, name, *data_type)
+            add_signal(file, answers, Signal::LogicInput, *owner, name, *data_type)
         }
         ModuleStep::AddLogicOutput(owner, name, data_type) => {
-            add_logic_output(file, answers, *owner, name, *data_type)
+            add_signal(file, answers, Signal::LogicOutput, *owner, name, *data_type)
         }
         ModuleStep::AddWire(owner, name, data_type) => {
-            add_wire(file, answers, *owner, name, *data_type)
+            add_signal(file, answers, Signal::Wire, *owner, name, *data_type)
         }
         ModuleStep::AddReg(owner, name, data_type) => {
             let (owner, data_type): (VastModule, VastDataType) = two(

@@ -3,15 +3,16 @@
 ghost use Rattle.std.specs.Prelude.{◌≡◌};
 ghost use Rattle.vast_core.specs.Bench.{OwnsExpr};
 ghost use Rattle.vast_script.specs.Outcome.{Replays};
-ghost use Rattle.vast_script.specs.Operators.{operation, operation_call};
+ghost use Rattle.vast_script.specs.Operators.{operation_call};
+ghost use Rattle.vast_steps.specs.Operators.{operation};
 ghost use Rattle.vast_script.specs.Internal.Operators.{MakesBefore, MakesBetween, TakesOne, TakesTwo, operands_of};
 
 use crate::answer::Answer;
 use crate::answers::expression;
 use crate::arguments::{one, two};
 use crate::fault::StepFault;
-use crate::step::OperatorStep;
 use std::alloc::AllocError;
+use vast_steps::OperatorStep;
 use xlsynth_vast::{Expr, VastFile};
 
 /// The operands of a call, by the numbers of earlier steps.

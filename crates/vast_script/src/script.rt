@@ -11,8 +11,8 @@ use crate::loops::replay_loop;
 use crate::modules::replay_module;
 use crate::operators::replay_operator;
 use crate::statements::replay_statement;
-use crate::step::Step;
 use crate::types::replay_type;
+use vast_steps::Step;
 use xlsynth_vast::VastFile;
 
 /// Makes the call of one step, whose arguments are among the answers so far.

@@ -2,10 +2,10 @@
 
 ghost use Rattle.vast_script.specs.Kinds.{a_module};
 ghost use Rattle.vast_core.specs.declared.ast.scope.Scope.TheVariants.{Module as ScopeModule};
-ghost use Rattle.std.specs.Prelude.{codes};
+ghost use Rattle.std.specs.Prelude.{codes, cond};
 ghost use Rattle.vast_literal.specs.declared.kind.AlwaysKind.TheVariants.{AlwaysFF, AlwaysAt};
 ghost use Rattle.vast_script.specs.Outcome.{Replays};
-ghost use Rattle.vast_script.specs.declared.step.StatementStep.TheVariants.{ConditionalAddElseIf, ConditionalAddElse};
+ghost use Rattle.vast_steps.specs.declared.step.StatementStep.TheVariants.{ConditionalAddElseIf, ConditionalAddElse};
 ghost use Rattle.vast_script.specs.Statements.{add_always, statement_call};
 
 use crate::answer::Answer;
@@ -16,38 +16,31 @@ use crate::answers::{
 use crate::arguments::{one, three, two};
 use crate::fault::StepFault;
 use crate::lists::{one_and_many, references};
-use crate::step::StatementStep;
+use vast_steps::StatementStep;
 use xlsynth_vast::{
     CaseStatement, Conditional, Expr, VastAlwaysBase, VastDataType, VastFile, VastFunction,
     VastModule, VastStatementBlock,
 };
 
-fn add_always_ff(
+/// An `always_ff` of these events, or an `always @`.
+fn add_always(
     file: &mut VastFile,
     answers: &[Answer],
+    is_ff: bool,
     owner: usize,
     events: &[usize],
 ) -> Result<Answer, StepFault>
     ensures { Replays file.old file.new answers.now result
-        (add_always a_module ScopeModule AlwaysFF (codes "always_ff") owner events.now) }
+        (add_always a_module ScopeModule (cond is_ff AlwaysFF AlwaysAt)
+        (cond is_ff (codes "always_ff") (codes "always @")) owner events.now) }
 {
     let (owner, events): (VastModule, Vec<Expr>) = one_and_many(file, answers, owner, events)?;
     let events = references(file, &events)?;
-    refusable_always(file.add_always_ff(owner, &events))
-}
-
-fn add_always_at(
-    file: &mut VastFile,
-    answers: &[Answer],
-    owner: usize,
-    events: &[usize],
-) -> Result<Answer, StepFault>
-    ensures { Replays file.old file.new answers.now result
-        (add_always a_module ScopeModule AlwaysAt (codes "always @") owner events.now) }
-{
-    let (owner, events): (VastModule, Vec<Expr>) = one_and_many(file, answers, owner, events)?;
-    let events = references(file, &events)?;
-    refusable_always(file.add_always_at(owner, &events))
+    if is_ff {
+        refusable_always(file.add_always_ff(owner, &events))
+    } else {
+        refusable_always(file.add_always_at(owner, &events))
+    }
 }
 
 fn add_else_if(
@@ -128,8 +121,12 @@ pub(crate) fn replay_statement(
             let function: VastFunction = one(file, answers, *function)?;
             Ok(Answer::LogicRef(file.function_result(function)))
         }
-        StatementStep::AddAlwaysFf(owner, events) => add_always_ff(file, answers, *owner, events),
-        StatementStep::AddAlwaysAt(owner, events) => add_always_at(file, answers, *owner, events),
+        StatementStep::AddAlwaysFf(owner, events) => {
+            add_always(file, answers, true, *owner, events)
+        }
+        StatementStep::AddAlwaysAt(owner, events) => {
+            add_always(file, answers, false, *owner, events)
+        }
         StatementStep::AddAlwaysComb(owner) => {
             let owner: VastModule = one(file, answers, *owner)?;
             refusable_always(file.add_always_comb(owner))

@@ -1,7 +1,7 @@
 //! Calls that make a type.
 
 ghost use Rattle.vast_script.specs.Outcome.{Replays};
-ghost use Rattle.vast_script.specs.declared.step.TypeStep.TheVariants.{MakeBitVectorTypeExpr};
+ghost use Rattle.vast_steps.specs.declared.step.TypeStep.TheVariants.{MakeBitVectorTypeExpr};
 ghost use Rattle.vast_script.specs.Types.{make_packed_array_type, make_unpacked_array_type, make_packed_array_type_expr, make_unpacked_array_type_expr, type_call};
 
 use crate::answer::Answer;
@@ -10,7 +10,7 @@ use crate::arguments::one;
 use crate::conditions::are_dimensions;
 use crate::fault::StepFault;
 use crate::lists::{one_and_many, references};
-use crate::step::TypeStep;
+use vast_steps::TypeStep;
 use xlsynth_vast::{Expr, VastDataType, VastFile};
 
 fn vector_of(

@@ -5,7 +5,7 @@ use Rattle.vast_list.specs.declared.fault.Fault.{Fault}
 use Rattle.vast_list.specs.declared.fault.Fault.TheVariants.{Line, Memory}
 use Rattle.vast_list.specs.declared.session.LineResult.{LineResult}
 use Rattle.vast_list.specs.declared.session.Session.{Session}
-use Rattle.vast_list.specs.Lines.{HasKind, NamesDialect, Passed}
+use Rattle.vast_calls.specs.Lines.{HasKind, NamesDialect, Passed}
 use Rattle.vast_list.specs.Replies.{AddsGiven, fault_object, line_front}
 use Rattle.vast_list.specs.Session.{IsCausedBy, IsGivenBy, IsNumbered, IsOfLine, NamesCall, Takes}
 use Rattle.vast_talk.specs.Replies.{AsksForWarnings, IsTaken, RepliesLinted, RepliesToFirst, RepliesToLine}

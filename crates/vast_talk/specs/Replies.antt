@@ -9,7 +9,7 @@ use Rattle.vast_list.specs.declared.fault.LineFault.{LineFault}
 use Rattle.vast_list.specs.declared.session.LineResult.{LineResult}
 use Rattle.vast_list.specs.declared.session.Session.{Session}
 use Rattle.vast_talk.specs.declared.warnings.LineWarning.{LineWarning}
-use Rattle.vast_list.specs.Lines.{HasKind, NamesDialect, Passed, dialect_word, without_return}
+use Rattle.vast_calls.specs.Lines.{HasKind, NamesDialect, Passed, dialect_word, without_return}
 use Rattle.vast_list.specs.Replies.{IsGivenObject, fault_object, line_front, text_member}
 use Rattle.vast_list.specs.Session.{IsCausedBy, IsGivenBy, IsNew, IsNumbered, NamesCall, Takes}
 use Rattle.vast_talk.specs.Warnings.{IsWarningList}

@@ -2,7 +2,7 @@
 
 ghost use Rattle.std.specs.Prelude.{◌≡◌, ◌+◌, ◌-◌, ◌^◌, ◌++◌, ◌↔◌, IfOk, IsTrue, MatchOption, OnOk, None, codes, false, min, string_bytes, true};
 ghost use Rattle.std.specs.Str.Lossy.{utf8_lossy};
-ghost use Rattle.vast_list.specs.Lines.{dialect_word};
+ghost use Rattle.vast_calls.specs.Lines.{dialect_word};
 ghost use Rattle.vast_talk.specs.Linted.{HasCounted, IsLevel, HasItsLint};
 ghost use Rattle.vast_talk.specs.Replies.{AsksForWarnings, IsReply, RepliesLinted, RepliesTo, RepliesToFirst, RepliesToLine, is_header, text_object};
 ghost use Rattle.vast_talk.specs.Internal.Linted.{is_memory};

@@ -9,7 +9,7 @@ use Rattle.vast_list.specs.declared.output.Verdict.TheVariants.{Made, Refused, N
 use Rattle.vast_list.specs.declared.session.Session.{Session}
 use Rattle.vast_list.specs.Built.{HasBuilt}
 use Rattle.vast_list.specs.Internal.Built.{TakesLine}
-use Rattle.vast_list.specs.Json.{json_text}
+use Rattle.vast_calls.specs.Json.{json_text}
 use Rattle.vast_list.specs.Output.{is_made}
 use Rattle.vast_list.specs.Session.{IsTextOf}
 use Rattle.vast_list.specs.JsonLine.{EndsWithText}

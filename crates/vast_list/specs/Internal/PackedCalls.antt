@@ -1,38 +1,19 @@
 -- Beside `specs/PackedCalls.antt`: what private contracts and proofs say, and no public one.
-use Rattle.std.specs.Prelude.{◌≡◌, ℕ, List, [], None, Some, Result, Ok, Err}
+use Rattle.std.specs.Prelude.{ℕ, List, [], None, Result, Ok, Err}
 use Rattle.vast_list.specs.declared.fault.Fault.{Fault}
-use Rattle.vast_list.specs.declared.unpacked.PackedCall.{PackedCall}
-use Rattle.vast_list.specs.Packed.{ArePacked}
-use Rattle.vast_list.specs.CallArguments.{step_pieces}
-use Rattle.vast_list.specs.CallNames.{step_name}
-use Rattle.vast_list.specs.CallNumbers.{name_numbered}
-use Rattle.vast_list.specs.Internal.CallRows.{name_at}
-use Rattle.vast_list.specs.Internal.Packed.{IsNumberFront}
-use Rattle.vast_list.specs.declared.table.numbered.Place.{Place}
-use Rattle.vast_script.specs.declared.step.Step.{Step as ScriptStep}
-use Rattle.vast_list.specs.PackedCalls.{GivesPacked, IsCallFront, NamesPacked}
+use Rattle.vast_calls.specs.declared.table.numbered.Place.{Place}
+use Rattle.vast_steps.specs.declared.step.Step.{Step as ScriptStep}
+use Rattle.vast_list.specs.PackedCalls.{GivesPacked}
+use Rattle.vast_calls.specs.PackedCalls.{NamesPacked, IsStepAt}
 use Rattle.vast_list.specs.PackedLists.{RunsPacked}
 use Rattle.vast_list.specs.Session.{IsLeft, IsMade, IsSameKnown}
 use Rattle.std.specs.Borrow.{Bor}
-use Rattle.vast_list.specs.declared.line.Call.{Call}
-use Rattle.vast_list.specs.declared.line.Call.TheVariants.{Step as StepCall, Helper as HelperCall}
+use Rattle.vast_calls.specs.declared.line.Call.{Call}
+use Rattle.vast_calls.specs.declared.line.Call.TheVariants.{Step as StepCall, Helper as HelperCall}
 use Rattle.vast_list.specs.declared.session.LineResult.{LineResult}
 use Rattle.vast_list.specs.declared.session.LineResult.TheVariants.{Step, Helper}
 use Rattle.vast_list.specs.declared.session.Session.{Session}
-use Rattle.vast_list.specs.Internal.Session.{Acts, IsToldOf}
-
--- The bytes are this call, of which these numbers were passed over.
-abbrev pub IsUnpacked : (skipped bytes : List ℕ) → PackedCall → Type 0
-IsUnpacked skipped bytes packed =
-    (arguments : List ℕ) × IsCallFront bytes packed.call.now arguments × Acts (λ pieces. ArePacked skipped pieces arguments) packed.call.now packed.action
-
--- The number of the call of this place stands at the front, and this after it.
-abbrev pub IsPlaceFront : (bytes : List ℕ) → Place → (behind : List ℕ) → Type 0
-IsPlaceFront bytes place behind = (n : ℕ) × IsNumberFront bytes n behind × (name_at place ≡ name_numbered n)
-
--- The arguments are those of this step, which the place is.
-abbrev pub IsStepAt : (skipped : List ℕ) → Place → (arguments : List ℕ) → ScriptStep → Type 0
-IsStepAt skipped place arguments step = (name_at place ≡ Some (step_name step)) × ArePacked skipped (step_pieces step) arguments
+use Rattle.vast_list.specs.Internal.Session.{IsToldOf}
 
 -- The call of this place over the arguments is a step, which was made.
 abbrev pub MadeAt : (old new : Session) → Place → (arguments : List ℕ) → Type 0

@@ -5,7 +5,7 @@ use Rattle.vast_literal.specs.PlainFile.{is_plain_file}
 use Rattle.vast_list.specs.declared.answering.ListRun.{ListRun}
 use Rattle.vast_list.specs.declared.plainness.Plainness.{Plainness}
 use Rattle.vast_list.specs.declared.plainness.Plainness.TheVariants.{Plain, NotPlain}
-use Rattle.vast_list.specs.Lines.{line_word}
+use Rattle.vast_calls.specs.Lines.{line_word}
 use Rattle.vast_list.specs.Output.{is_made}
 
 -- Nothing of the list was at fault, and its file is plain, or it is not.

@@ -4,7 +4,8 @@ ghost use Rattle.vast_core.specs.Bench.{OwnsExpr};
 
 use crate::explain::conditions::modules::{module_condition, statement_condition};
 use std::alloc::AllocError;
-use vast_script::{Answer, ArtifactStep, ExpressionStep, Step, TypeStep, one};
+use vast_script::{Answer, one};
+use vast_steps::{ArtifactStep, ExpressionStep, Step, TypeStep};
 use xlsynth_vast::{Expr, VastDataType, VastFile};
 
 mod modules;

@@ -1,6 +1,6 @@
 //! The kinds of answers.
 
-use crate::table::Handle;
+use vast_calls::Handle;
 use vast_script::Answer;
 
 /// Whether the answer may stand where the handle is wanted.

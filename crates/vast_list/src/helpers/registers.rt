@@ -5,61 +5,12 @@ ghost use Rattle.vast_core.specs.Bench.{OwnsExpr};
 ghost use Rattle.xlsynth_vast.specs.Registers.{OwnsRegister, OwnsReset, OwnsScope};
 ghost use Rattle.vast_script.specs.declared.answer.Answer.TheVariants.{Nothing};
 ghost use Rattle.vast_script.specs.Internal.Outcome.{WrapsRefusable};
-ghost use Rattle.vast_list.specs.CallArguments.{register_pieces, reset_pieces};
 ghost use Rattle.vast_list.specs.Helpers.{AddsNamed, NamesIf, NamesRegister, NamesRegisters, NamesReset, NamesScope};
 
-use crate::arguments::{Arguments, FromArguments};
-use crate::problem::Misfit;
+use vast_calls::{RegisterNumbers, ResetNumbers};
 use vast_script::{Answer, StepFault, one};
 use xlsynth_vast::helpers::{RegisterDefinition, RegisterScope, Reset};
 use xlsynth_vast::{Expr, GenerateLoop, VastFault, VastFile, VastModule, helpers};
-
-/// A reset, `[ signal active_low ]`.
-#[derive(Clone, Copy)]
-pub(crate) struct ResetNumbers {
-    signal: usize,
-    active_low: bool,
-}
-
-/// A register, `[ reg next reset_value? enable? ]`.
-#[derive(Clone, Copy)]
-pub(crate) struct RegisterNumbers {
-    reg: usize,
-    next: usize,
-    reset_value: Option<usize>,
-    enable: Option<usize>,
-}
-
-impl FromArguments for ResetNumbers {
-    ghost pieces = { reset_pieces };
-
-    fn take(arguments: &mut Arguments<'_>) -> Result<ResetNumbers, Misfit> {
-        arguments.open()?;
-        let signal = usize::take(arguments)?;
-        let active_low = bool::take(arguments)?;
-        arguments.close()?;
-        Ok(ResetNumbers { signal, active_low })
-    }
-}
-
-impl FromArguments for RegisterNumbers {
-    ghost pieces = { register_pieces };
-
-    fn take(arguments: &mut Arguments<'_>) -> Result<RegisterNumbers, Misfit> {
-        arguments.open()?;
-        let reg = usize::take(arguments)?;
-        let next = usize::take(arguments)?;
-        let reset_value = <Option<usize> as FromArguments>::take(arguments)?;
-        let enable = <Option<usize> as FromArguments>::take(arguments)?;
-        arguments.close()?;
-        Ok(RegisterNumbers {
-            reg,
-            next,
-            reset_value,
-            enable,
-        })
-    }
-}
 
 /// Adds the registers to the scope, a module or a loop.
 ///

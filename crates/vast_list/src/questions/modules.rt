@@ -3,52 +3,12 @@
 ghost use Rattle.std.specs.Prelude.{◌≡◌, All, IfErr, IfOk, None, Ok, map};
 ghost use Rattle.vast_core.specs.Bench.{OwnsPort};
 ghost use Rattle.vast_script.specs.Outcome.{cause_of};
-ghost use Rattle.vast_list.specs.CallNumbers.{question_names};
-ghost use Rattle.vast_list.specs.Questions.{PortsAre, Tells, module_fact, module_words, port_fact, port_told};
-ghost use Rattle.vast_list.specs.Internal.CallRows.{StandsAt};
-ghost use Rattle.vast_list.specs.Internal.Written.{AreLeft};
+ghost use Rattle.vast_list.specs.Questions.{PortsAre, Tells, module_fact, port_fact, port_told};
 
-use crate::arguments::Arguments;
-use crate::problem::{Misfit, Problem};
 use crate::questions::answered::{PortValue, Value};
+use vast_calls::ModuleQuestion;
 use vast_script::{Answer, StepFault, one};
 use xlsynth_vast::{LogicRef, ModulePort, VastFile, VastModule};
-
-/// A question of a module, or of a name.
-#[derive(Drop)]
-pub(crate) enum ModuleQuestion {
-    LogicRefName(usize),
-    ModuleInputPorts(usize),
-    ModuleMemberCount(usize),
-    ModuleName(usize),
-    ModuleOutputPorts(usize),
-    ModulePorts(usize),
-    NameIsFree(usize, String),
-}
-
-/// The question of this place in the table, over the arguments.
-///
-/// # Errors
-/// Where no such question has the place or the arguments are not those of the question, and out of memory.
-pub(super) fn module_question(
-    place: usize,
-    arguments: &mut Arguments<'_>,
-) -> Result<ModuleQuestion, Misfit>
-    ensures named { IfOk result
-        (λ question. StandsAt question_names place (module_words question).0) }
-    ensures written { IfOk result (λ question. AreLeft arguments.old (module_words question).1) }
-{
-    match place {
-        5 => arguments.one(ModuleQuestion::LogicRefName),
-        6 => arguments.one(ModuleQuestion::ModuleInputPorts),
-        7 => arguments.one(ModuleQuestion::ModuleMemberCount),
-        8 => arguments.one(ModuleQuestion::ModuleName),
-        9 => arguments.one(ModuleQuestion::ModuleOutputPorts),
-        10 => arguments.one(ModuleQuestion::ModulePorts),
-        11 => arguments.two(ModuleQuestion::NameIsFree),
-        _ => Err(arguments.misfit(Problem::UnknownCall)),
-    }
-}
 
 /// The answer to the question.
 ///

@@ -6,20 +6,19 @@ ghost use Rattle.vast_list.specs.PackedCalls.{IsToldOfPacked};
 ghost use Rattle.vast_list.specs.PackedLists.{GaveFront, GivesFront, IsToldOfFront};
 ghost use Rattle.vast_list.specs.Session.{IsFileLeft, IsLeft, IsMade, IsSame, IsSameFile, IsSameKnown};
 ghost use Rattle.vast_list.specs.declared.fault.Fault.TheVariants.{Memory};
-ghost use Rattle.vast_list.specs.declared.line.Call.TheVariants.{Step as StepCall};
-ghost use Rattle.vast_list.specs.Internal.PackedCalls.{GavePacked, IsStepAt, MadeAt, IsToldMispacked, IsUnpacked, RunsAll, TakesPacked, given_by};
+ghost use Rattle.vast_calls.specs.declared.line.Call.TheVariants.{Step as StepCall};
+ghost use Rattle.vast_list.specs.Internal.PackedCalls.{GavePacked, MadeAt, IsToldMispacked, RunsAll, TakesPacked, given_by};
+ghost use Rattle.vast_calls.specs.PackedCalls.{IsUnpacked};
 
-use crate::arguments::{Arguments, Rest};
-use crate::calls::make_step;
 use crate::fault::{Fault, mispacked};
-use crate::line::{Action, Call};
-use crate::problem::{Misfit, Problem};
 use crate::selects::keep_select;
 use crate::session::{LineResult, Session};
-use crate::table::numbered::Place;
-use crate::unpacked::{PackedCall, place_front, split_call, unpacked};
 use std::alloc::AllocError;
-use vast_script::{Step, StepFault, replay_step};
+use vast_calls::{
+    Action, Call, Misfit, PackedCall, Place, Problem, place_front, split_call, step_at, unpacked,
+};
+use vast_script::{StepFault, replay_step};
+use vast_steps::Step;
 
 impl Session {
     /// Takes the packed call at the front, and returns what it gave with what stands after it. Its number in the input is
@@ -109,20 +108,10 @@ impl Session {
         ensures same { result ≡ Ok false → IsSame self.old self.new }
         ensures left { OnErr result (IsLeft self.old self.new Memory) }
     {
-        let Ok(step) = self.step_at(place, arguments) else {
+        let Ok(step) = step_at(self.known(), place, arguments) else {
             return Ok(false);
         };
         self.made_by(number, &step)
-    }
-
-    /// The step of this place over the arguments.
-    #[inline(always)]
-    #[tactic(auto, using(crate::proofs::MadeSteps::steps))]
-    fn step_at(&self, place: Place, arguments: &[u8]) -> Result<Step, Misfit>
-        ensures { IfOk result (IsStepAt self.now.skipped.items place arguments.now) }
-    {
-        let mut arguments = Arguments::new(self.known(), Rest::Packed(arguments));
-        make_step(place, &mut arguments)
     }
 
     /// Makes the step and keeps its answer; whether it is not refused.
@@ -171,8 +160,27 @@ impl Session {
         ensures unseen { IfErr result (λ fault. HasUnused self.old.file self.new.file) }
         ensures told { IfErr result (IsToldOfPacked self.old self.new number bytes.now) }
     {
-        let PackedCall { call, action } = self.unpack(number, bytes)?;
-        match &action {
+        let packed = self.unpack(number, bytes)?;
+        let given = self.act(number, bytes, &packed);
+        drop(packed);
+        given
+    }
+
+    /// Makes or answers what the bytes are.
+    #[tactic(auto, using(crate::proofs::PackedSessions::packed))]
+    fn act(
+        &mut self,
+        number: usize,
+        bytes: &[u8],
+        packed: &PackedCall,
+    ) -> Result<LineResult<'static>, Fault>
+        requires { IsUnpacked self.old.skipped.items bytes.now packed.now }
+        ensures takes { TakesPacked self.old self.new bytes.now result }
+        ensures unseen { IfErr result (λ fault. HasUnused self.old.file self.new.file) }
+        ensures told { IfErr result (IsToldOfPacked self.old self.new number bytes.now) }
+    {
+        let call = packed.call;
+        match &packed.action {
             Action::Ask(question) => {
                 let value = self.ask(number, "", call, question)?;
                 Ok(LineResult::Answer { call, value })

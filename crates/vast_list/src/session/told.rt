@@ -5,9 +5,9 @@ ghost use Rattle.vast_list.specs.Internal.Session.{IsToldAs, IsToldOf, made_numb
 
 use crate::explain::{explained, uses_skipped};
 use crate::fault::{Fault, LineFault};
-use crate::line::Call;
 use crate::session::Session;
 use std::alloc::AllocError;
+use vast_calls::Call;
 use vast_script::StepFault;
 
 impl Session {

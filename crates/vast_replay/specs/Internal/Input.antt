@@ -2,7 +2,7 @@
 use Rattle.std.specs.Prelude.{◌≡◌, ℕ, List, ◌++◌, Option, IfSome, false}
 use Rattle.std.specs.Io.KnownBytes.{Consumes}
 use Rattle.vast_list.specs.Built.{IsListText}
-use Rattle.vast_list.specs.Lines.{HasNoFeed, lines_of}
+use Rattle.vast_calls.specs.Lines.{HasNoFeed, lines_of}
 use Rattle.vast_list.specs.Untitled.{HasTaken}
 use Rattle.vast_list.specs.declared.output.ListOutput.{ListOutput}
 use Rattle.vast_replay.specs.declared.input.InputLines.{InputLines}

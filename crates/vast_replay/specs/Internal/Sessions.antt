@@ -2,7 +2,7 @@
 use Rattle.std.specs.Prelude.{◌≡◌, ◌≢◌, ◌⊎◌, ℕ, List, [], ◌∷◌, ◌++◌, Option, Some, None, Vec}
 use Rattle.std.specs.declared.alloc.Global.{Global}
 use Rattle.std.specs.Io.KnownBytes.{Appends}
-use Rattle.vast_list.specs.Lines.{lines_of}
+use Rattle.vast_calls.specs.Lines.{lines_of}
 use Rattle.vast_replay.specs.Sessions.{RepliesToEach}
 use Rattle.vast_talk.specs.declared.repl.Repl.{Repl}
 

@@ -7,7 +7,7 @@ use Rattle.vast_core.specs.Growth.{Builds, next_expr}
 use Rattle.xlsynth_vast.specs.Expressions.{with_unary, with_binary}
 use Rattle.vast_script.specs.declared.operators.Operands.{Operands}
 use Rattle.vast_script.specs.declared.operators.Operands.TheVariants.{One, Two}
-use Rattle.vast_script.specs.Operators.{Operation, Before, Between}
+use Rattle.vast_steps.specs.Operators.{Operation, Before, Between}
 
 abbrev pub operands_of : Operation → Operands
 operands_of (Before operator operand) = One operand

@@ -2,7 +2,7 @@ use Rattle.std.proofs.Common.{List, ap, map, refl, ◌∙◌, false, codes}
 use Rattle.vast_literal.specs.declared.kind.ModulePortDirection.TheVariants.{Input, Output}
 use Rattle.vast_literal.specs.declared.kind.DataKind.TheVariants.{Wire, Reg}
 use Rattle.vast_core.specs.declared.node.Statement.TheVariants.{Comment as CommentStatement}
-use Rattle.vast_script.specs.declared.step.Step.{Step}
+use Rattle.vast_steps.specs.declared.step.Step.{Step}
 use Rattle.vast_script.specs.Expressions.{make_binary_pattern, make_function_call}
 use Rattle.vast_script.specs.Modules.{add_module, add_port}
 use Rattle.vast_script.specs.Statements.{add_function, function_add_variable, block_add}

@@ -1,6 +1,6 @@
 use Rattle.std.proofs.Common.{take}
 use Rattle.vast_list.specs.Internal.JsonLine.{AreAnswers}
-use Rattle.vast_list.specs.Lines.{line_texts}
+use Rattle.vast_calls.specs.Lines.{line_texts}
 use Rattle.vast_list.proofs.json_line.answered.Given as goal
 
 abbrev pub invariant-loop-number : goal.invariant-loop-number

@@ -1,6 +1,6 @@
 use Rattle.std.proofs.Common.{sym, ap, arith}
 use Rattle.std.proofs.lemmas.List.Sums.{position_or_len_is}
-use Rattle.vast_list.specs.Lines.{is_line_feed}
+use Rattle.vast_calls.specs.Lines.{is_line_feed}
 use Rattle.vast_list.proofs.lines.line_end.Goals as goal
 
 pub returns : goal.returns

@@ -1,5 +1,5 @@
 use Rattle.std.proofs.Common.{◌≡◌, ℕ, ◌<◌, ◌≤◌, ◌-◌, false, length, get_or}
-use Rattle.vast_list.specs.Lines.{is_line_feed}
+use Rattle.vast_calls.specs.Lines.{is_line_feed}
 use Rattle.vast_list.proofs.lines.line_end.Given as goal
 
 -- None of the bytes so far is a line feed.

@@ -1,6 +1,6 @@
 use Rattle.std.proofs.Common.{take}
 use Rattle.vast_list.proofs.Outputs.{IsAnswering}
-use Rattle.vast_list.specs.Lines.{line_texts}
+use Rattle.vast_calls.specs.Lines.{line_texts}
 use Rattle.vast_list.specs.declared.tries.Tries.TheVariants.{Once}
 use Rattle.vast_list.proofs.map.followed.Given as goal
 

@@ -1,5 +1,5 @@
 use Rattle.std.proofs.Common.{◌≡◌, List, ℕ, take, All}
-use Rattle.vast_list.specs.Lines.{Passed, line_kind, line_texts}
+use Rattle.vast_calls.specs.Lines.{Passed, line_kind, line_texts}
 use Rattle.vast_list.proofs.output.empty_lines.Given as goal
 
 abbrev pub invariant-loop-line : goal.invariant-loop-line

@@ -1,7 +1,7 @@
 use Rattle.std.proofs.Common.{IfSome, rules}
 use Rattle.std.proofs.lemmas.Option.{IfSome_then}
 use Rattle.std.proofs.lemmas.Result.{IfOk-weaker}
-use Rattle.vast_list.specs.Lines.{BeginsWithDialect, line_texts}
+use Rattle.vast_calls.specs.Lines.{BeginsWithDialect, line_texts}
 use Rattle.vast_list.specs.Output.{IsOutput}
 use Rattle.vast_list.specs.Internal.Output.{IsAnswered, IsFinished}
 use Rattle.vast_list.specs.declared.output.ListOutput.{ListOutput}

@@ -1,6 +1,6 @@
 use Rattle.std.proofs.Common.{false, rules}
 use Rattle.vast_list.specs.Built.{IsListText}
-use Rattle.vast_list.specs.Lines.{line_texts}
+use Rattle.vast_calls.specs.Lines.{line_texts}
 use Rattle.vast_list.specs.PackedLists.{IsPackedText}
 use Rattle.vast_list.proofs.pack.pack_list.Goals as goal
 

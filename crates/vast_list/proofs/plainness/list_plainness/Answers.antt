@@ -1,5 +1,5 @@
 use Rattle.std.proofs.Common.{rules}
-use Rattle.vast_list.specs.Lines.{BeginsWithDialect, line_texts}
+use Rattle.vast_calls.specs.Lines.{BeginsWithDialect, line_texts}
 use Rattle.vast_list.proofs.plainness.list_plainness.Goals as goal
 
 pub returns-in-Ok : goal.returns-in-Ok

@@ -1,5 +1,5 @@
 use Rattle.std.proofs.Common.{ℕ, List, ◌++◌, take}
-use Rattle.vast_list.specs.Lines.{line_texts}
+use Rattle.vast_calls.specs.Lines.{line_texts}
 use Rattle.vast_list.specs.Untitled.{HasAnswered}
 use Rattle.vast_list.proofs.plainness.plainness_behind.Given as goal
 

@@ -1,7 +1,7 @@
 use Rattle.std.proofs.Common.{[], refl}
 use Rattle.std.specs.Prelude.{false}
 use Rattle.vast_list.specs.Built.{HasBuilt}
-use Rattle.vast_list.specs.Lines.{line_texts}
+use Rattle.vast_calls.specs.Lines.{line_texts}
 use Rattle.vast_list.proofs.Built.{no-lines}
 use Rattle.vast_list.proofs.PlainLists.{told_of_list}
 use Rattle.vast_list.proofs.plainness.plainness_of.Goals as goal

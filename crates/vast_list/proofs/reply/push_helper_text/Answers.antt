@@ -1,5 +1,5 @@
 use Rattle.std.proofs.Common.{ℕ, List, OnOk, string_bytes, subst}
-use Rattle.vast_list.specs.Json.{AddsJsonText}
+use Rattle.vast_calls.specs.Json.{AddsJsonText}
 use Rattle.vast_list.proofs.Replied.{helper_told}
 use Rattle.vast_list.proofs.reply.push_helper_text.Goals as goal
 

@@ -1,5 +1,5 @@
 use Rattle.std.proofs.Common.{◌≡◌, false, rules}
-use Rattle.vast_list.specs.Lines.{dialect_word, without_return}
+use Rattle.vast_calls.specs.Lines.{dialect_word, without_return}
 use Rattle.vast_list.proofs.UntitledLists.{answered_first}
 use Rattle.vast_list.proofs.untitled.first_stage.Goals as goal
 

@@ -1,7 +1,8 @@
 //! Conditions of calls of modules and statements in words.
 
 use std::alloc::AllocError;
-use vast_script::{Answer, ModuleStep, StatementStep, one};
+use vast_script::{Answer, one};
+use vast_steps::{ModuleStep, StatementStep};
 use xlsynth_vast::{VastFile, VastModule};
 
 pub(crate) fn module_condition(

@@ -1,6 +1,6 @@
 use Rattle.std.proofs.Common.{◌≡◌, List, ℕ, length, drop, take, refl, sym, ap, subst, ◌∙◌, arith}
 use Rattle.std.proofs.lemmas.List.{length-drop}
-use Rattle.vast_list.specs.Lines.{lines_of}
+use Rattle.vast_calls.specs.Lines.{lines_of}
 use Rattle.vast_c.specs.Seen.{Gave, TellsFault, more_lines}
 use Rattle.vast_c.proofs.Steps.{fault_of_first, gave_more, next, no_lines}
 use Rattle.vast_c.proofs.kept.Kept.make_lines.Goals as goal

@@ -1,5 +1,5 @@
 use Rattle.std.proofs.Common.{◌≡◌, ◌+◌, ◌≤◌, None, length, drop, take}
-use Rattle.vast_list.specs.Lines.{lines_of}
+use Rattle.vast_calls.specs.Lines.{lines_of}
 use Rattle.vast_c.specs.Seen.{Gave, more_lines}
 use Rattle.vast_c.proofs.kept.Kept.make_lines.Given as goal
 

@@ -5,7 +5,7 @@ use Rattle.vast_core.specs.Bench.{Bench}
 use Rattle.xlsynth_vast.specs.declared.helpers.registers.RegisterDefinition.{RegisterDefinition}
 use Rattle.xlsynth_vast.specs.Registers.{OwnsRegister}
 use Rattle.vast_script.specs.declared.answer.Answer.{Answer}
-use Rattle.vast_list.specs.declared.helpers.registers.RegisterNumbers.{RegisterNumbers}
+use Rattle.vast_calls.specs.declared.helpers.RegisterNumbers.{RegisterNumbers}
 use Rattle.vast_list.specs.Helpers.{NamesRegister, NamesRegisters}
 use Rattle.vast_list.proofs.helpers.registers.definitions.Goals as goal
 

@@ -1,14 +1,15 @@
 use Rattle.std.proofs.Common.{◌≡◌, ℕ, List, Ok, subst}
 use Rattle.std.specs.Prelude.{option_copied}
-use Rattle.vast_list.specs.declared.line.Action.{Action}
-use Rattle.vast_list.specs.declared.line.Call.{Call}
-use Rattle.vast_list.specs.declared.line.Action.TheVariants.{Call as CallAction}
-use Rattle.vast_list.specs.Lines.{behind_call, without_return}
-use Rattle.vast_list.specs.Names.{IsFree}
+use Rattle.vast_calls.specs.declared.line.Action.{Action}
+use Rattle.vast_calls.specs.declared.line.Call.{Call}
+use Rattle.vast_calls.specs.declared.line.Action.TheVariants.{Call as CallAction}
+use Rattle.vast_calls.specs.Lines.{behind_call, without_return}
+use Rattle.vast_calls.specs.Names.{IsFree}
 use Rattle.vast_list.specs.Session.{GivesCall, IsMade}
-use Rattle.vast_list.specs.Internal.Session.{IsActionOf, IsRead, MakesName}
-use Rattle.vast_list.specs.Written.{meaning}
-use Rattle.vast_list.specs.declared.line.Line.{Line as ReadLine}
+use Rattle.vast_calls.specs.Actions.{IsActionOf, IsRead}
+use Rattle.vast_list.specs.Internal.Session.{MakesName}
+use Rattle.vast_calls.specs.Written.{meaning}
+use Rattle.vast_calls.specs.declared.line.Line.{Line as ReadLine}
 use Rattle.vast_list.specs.declared.session.Session.{Session}
 use Rattle.vast_list.proofs.Sessions.{enters_read, free_read, has_made}
 use Rattle.vast_list.proofs.session.Session.line.Goals as goal

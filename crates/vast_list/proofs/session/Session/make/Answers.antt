@@ -1,9 +1,9 @@
 use Rattle.std.proofs.Common.{ℕ, List, Option, refl, ap, ◌∙◌}
 use Rattle.std.specs.Prelude.{option_copied}
-use Rattle.vast_list.specs.declared.names.Named.{Named}
-use Rattle.vast_list.specs.Internal.Names.{forgotten}
-use Rattle.vast_list.specs.Written.{meaning}
-use Rattle.vast_list.proofs.Entered.{forgotten-entered}
+use Rattle.vast_calls.specs.declared.names.Named.{Named}
+use Rattle.vast_calls.specs.Names.{forgotten}
+use Rattle.vast_calls.specs.Written.{meaning}
+use Rattle.vast_calls.proofs.Entered.{forgotten-entered}
 use Rattle.vast_list.proofs.session.Session.make.Goals as goal
 
 pub returns-in-Err-clause-name : goal.returns-in-Err-clause-name

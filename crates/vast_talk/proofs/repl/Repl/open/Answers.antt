@@ -1,5 +1,5 @@
 use Rattle.std.proofs.Common.{◌≡◌, codes, ap}
-use Rattle.vast_list.specs.Lines.{dialect_word, without_return}
+use Rattle.vast_calls.specs.Lines.{dialect_word, without_return}
 use Rattle.vast_talk.specs.Replies.{text_object}
 use Rattle.vast_talk.proofs.repl.Repl.open.Goals as goal
 

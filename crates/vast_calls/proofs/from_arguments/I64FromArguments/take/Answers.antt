@@ -1,0 +1,5 @@
+use Rattle.vast_calls.proofs.Words.{integer_read}
+use Rattle.vast_calls.proofs.from_arguments.I64FromArguments.take.Goals as goal
+
+pub returns : goal.returns
+returns c = integer_read _ _ _ _ _ _ c.in_ok-left.ensures c.signed.ensures c.map_err.ensures.cases

@@ -1,0 +1,8 @@
+use Rattle.std.proofs.Common.{◌≡◌, length}
+use Rattle.std.specs.List.{flat_map}
+use Rattle.vast_calls.specs.Internal.Written.{Reads}
+use Rattle.vast_calls.proofs.from_arguments.counted_items.Given as goal
+
+-- The items so far were read.
+abbrev pub invariant-loop : goal.invariant-loop
+invariant-loop g l = (length l.items.items ≡ l.counter) × Reads l.fn.arguments l.arguments (flat_map g.T.FromArguments.pieces l.items.items)

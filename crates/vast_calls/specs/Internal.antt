@@ -1,0 +1,4 @@
+pub mod Lines
+pub mod CallRows
+pub mod Written
+pub mod Actions

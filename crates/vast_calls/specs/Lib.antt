@@ -1,0 +1,12 @@
+pub mod Lines
+pub mod CallArguments
+pub mod CallNames
+pub mod CallNumbers
+pub mod Json
+pub mod Names
+pub mod Written
+pub mod Packed
+pub mod Questions
+pub mod Actions
+pub mod PackedCalls
+pub mod Internal

@@ -1,5 +1,0 @@
-use Rattle.vast_list.proofs.Words.{reads_piece}
-use Rattle.vast_list.proofs.from_arguments.CountFromArguments.take.Goals as goal
-
-pub returns-in-Ok : goal.returns-in-Ok
-returns-in-Ok c = reads_piece _ _ _ _ c.in_ok-left.ensures c.in-Ok.ensures

@@ -1,5 +1,0 @@
-use Rattle.vast_list.proofs.Words.{integer_read}
-use Rattle.vast_list.proofs.from_arguments.I64FromArguments.take.Goals as goal
-
-pub returns : goal.returns
-returns c = integer_read _ _ _ _ _ _ c.in_ok-left.ensures c.signed.ensures c.map_err.ensures.cases

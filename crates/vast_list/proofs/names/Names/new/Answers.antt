@@ -1,5 +1,0 @@
-use Rattle.vast_list.proofs.Entered.{none_named}
-use Rattle.vast_list.proofs.names.Names.new.Goals as goal
-
-pub returns : goal.returns
-returns c = none_named _ c.new.ensures c.new-2.ensures

@@ -1,6 +1,0 @@
-use Rattle.std.proofs.Common.{None}
-use Rattle.vast_list.proofs.Entered.{other_entered}
-use Rattle.vast_list.proofs.names.Names.remove.Goals as goal
-
-pub returns : goal.returns
-returns c = other_entered c.args.self.now _ c.args.name.now None c.remove.ensures c.remove-2.ensures
