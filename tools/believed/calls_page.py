@@ -23,7 +23,7 @@ clause's words, and the names of what it promises (`ensures`). What is proved is
 
 # In which order crates stand: the user's own first.
 CRATES = (
-    "xlsynth_vast vast_literal vast_core vast_print vast_plain vast_read vast_names vast_script vast_calls vast_list vast_talk".split()
+    "xlsynth_vast vast_literal vast_core vast_print vast_plain vast_read vast_names vast_script vast_calls vast_session vast_list vast_talk".split()
 )
 # Of these only what another crate hands on.
 THROUGH = {"vast_core": "xlsynth_vast", "vast_names": "vast_read"}

@@ -2,14 +2,14 @@
 use Rattle.std.proofs.Common.{◌≡◌, ℕ, suc, ◌+◌, ◌<◌, List, [], length, sym, subst, arith}
 use Rattle.std.specs.Borrow.{Bor}
 use Rattle.std.specs.Prelude.{IfOk, IfSome, Option, None, Some, Result, Ok, Err}
-use Rattle.vast_list.specs.PackedLists.{GaveFront, GivesFront, IsToldOfFront, RunsPacked}
-use Rattle.vast_list.specs.Session.{IsLeft, IsSame}
-use Rattle.vast_list.specs.declared.fault.Fault.{Fault}
-use Rattle.vast_list.specs.declared.fault.Fault.TheVariants.{Line, Memory as OutOfMemory}
-use Rattle.vast_list.specs.declared.session.LineResult.{LineResult}
-use Rattle.vast_list.specs.declared.session.Session.{Session}
-use Rattle.vast_list.proofs.MadeSteps.{gave_before, same_before, told_before, tree_before}
-use Rattle.vast_list.proofs.PackedSessions.{one_more, split_shorter}
+use Rattle.vast_session.specs.PackedFronts.{GaveFront, GivesFront, IsToldOfFront, RunsPacked}
+use Rattle.vast_session.specs.Session.{IsLeft, IsSame}
+use Rattle.vast_session.specs.declared.fault.Fault.{Fault}
+use Rattle.vast_session.specs.declared.fault.Fault.TheVariants.{Line, Memory as OutOfMemory}
+use Rattle.vast_session.specs.declared.session.LineResult.{LineResult}
+use Rattle.vast_session.specs.declared.session.Session.{Session}
+use Rattle.vast_session.proofs.MadeSteps.{gave_before, same_before, told_before, tree_before}
+use Rattle.vast_session.proofs.PackedSessions.{one_more, split_shorter}
 use Rattle.vast_c.specs.SeenPacked.{MadeAllPacked, MadePacked, RunPacked, TellsPacked}
 use Rattle.vast_c.specs.Internal.Seen.{LeftBy, LeftIfAny}
 use Rattle.vast_c.specs.declared.kept.Cause.{Cause}

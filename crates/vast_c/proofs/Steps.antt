@@ -4,11 +4,11 @@ use Rattle.std.proofs.lemmas.Bool.{eqb-true}
 use Rattle.std.proofs.lemmas.List.{length-drop, nil_from_length}
 use Rattle.std.proofs.Math.Seq.{drop-cons, take-suc}
 use Rattle.vast_core.specs.FileTree.{tree}
-use Rattle.vast_list.specs.Session.{IsCausedBy, IsOfLine, IsSame}
+use Rattle.vast_session.specs.Session.{IsCausedBy, IsOfLine, IsSame}
 use Rattle.vast_calls.specs.Written.{meaning}
-use Rattle.vast_list.specs.declared.fault.Fault.{Fault}
-use Rattle.vast_list.specs.declared.fault.Fault.TheVariants.{Line}
-use Rattle.vast_list.specs.declared.session.Session.{Session}
+use Rattle.vast_session.specs.declared.fault.Fault.{Fault}
+use Rattle.vast_session.specs.declared.fault.Fault.TheVariants.{Line}
+use Rattle.vast_session.specs.declared.session.Session.{Session}
 use Rattle.vast_calls.specs.Lines.{HasKind, Passed, lines_of}
 use Rattle.vast_c.specs.Seen.{Gave, GaveLine, IsFaultOf, IsSameTree, Made, Run, TellsFault, cause_of, status_of}
 use Rattle.vast_c.specs.Internal.Seen.{IsToldOf, LeftIfAny}

@@ -7,11 +7,11 @@ use Rattle.std.specs.declared.alloc.Global.{Global}
 use Rattle.vast_core.specs.FileTree.{tree}
 use Rattle.vast_literal.specs.declared.kind.VastFileType.{VastFileType}
 use Rattle.vast_calls.specs.Lines.{HasKind, Passed}
-use Rattle.vast_list.specs.Session.{Gives, IsCausedBy, IsFileLeft, IsGivenBy, IsNew, IsOfLine, IsTextOf}
-use Rattle.vast_list.specs.declared.fault.Fault.{Fault}
-use Rattle.vast_list.specs.declared.fault.Fault.TheVariants.{Line, Memory as FaultMemory}
-use Rattle.vast_list.specs.declared.session.LineResult.{LineResult}
-use Rattle.vast_list.specs.declared.session.Session.{Session}
+use Rattle.vast_session.specs.Session.{Gives, IsCausedBy, IsFileLeft, IsGivenBy, IsNew, IsOfLine, IsTextOf}
+use Rattle.vast_session.specs.declared.fault.Fault.{Fault}
+use Rattle.vast_session.specs.declared.fault.Fault.TheVariants.{Line, Memory as FaultMemory}
+use Rattle.vast_session.specs.declared.session.LineResult.{LineResult}
+use Rattle.vast_session.specs.declared.session.Session.{Session}
 use Rattle.vast_script.specs.declared.fault.StepFault.{StepFault}
 use Rattle.vast_script.specs.declared.fault.StepFault.TheVariants.{NoAnswer, WrongKind, Condition as NotMet, Refused as IsRefused, Memory as OutOfMemory}
 use Rattle.vast_c.specs.declared.TheConstants.{ANSWER, MESSAGE, WORDS, CALL, FILE, COUNT, LINE, COLUMN, REFUSED, CONDITION, FORM, MEMORY}

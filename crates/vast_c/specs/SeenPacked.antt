@@ -1,8 +1,8 @@
 -- What C sees of a session that is given packed calls, `None` where it is not open.
 use Rattle.std.specs.Prelude.{◌≡◌, ℕ, List, [], Option, IfSome, None, Some}
-use Rattle.vast_list.specs.PackedLists.{IsToldOfFront, RunsPacked}
-use Rattle.vast_list.specs.declared.fault.Fault.TheVariants.{Line}
-use Rattle.vast_list.specs.declared.session.Session.{Session}
+use Rattle.vast_session.specs.PackedFronts.{IsToldOfFront, RunsPacked}
+use Rattle.vast_session.specs.declared.fault.Fault.TheVariants.{Line}
+use Rattle.vast_session.specs.declared.session.Session.{Session}
 use Rattle.vast_c.specs.Seen.{more_lines}
 use Rattle.vast_c.specs.declared.kept.Kept.{Kept}
 use Rattle.vast_c.specs.declared.kept.ToldFault.{ToldFault}

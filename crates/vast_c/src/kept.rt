@@ -2,19 +2,19 @@
 
 ghost use Rattle.std.specs.Prelude.{◌≡◌, ◌∷◌, ◌<◌, [], IfErr, IfOk, IfSome, IsSome, MatchResult, None, OnErr, OnOk, Some};
 ghost use Rattle.std.specs.Prelude.{length};
-ghost use Rattle.vast_list.specs.Session.{IsLeft};
-ghost use Rattle.vast_list.specs.declared.fault.Fault.TheVariants.{Line};
-ghost use Rattle.vast_list.specs.declared.session.Session.{Session as AnySession};
+ghost use Rattle.vast_session.specs.Session.{IsLeft};
+ghost use Rattle.vast_session.specs.declared.fault.Fault.TheVariants.{Line};
+ghost use Rattle.vast_session.specs.declared.session.Session.{Session as AnySession};
 ghost use Rattle.vast_calls.specs.Lines.{lines_of};
 ghost use Rattle.vast_c.specs.Seen.{GaveLine, IsFresh, IsPrinted, Run, TellsFault, cause_of, more_lines};
-ghost use Rattle.vast_list.specs.PackedLists.{GaveFront, RunsPacked};
+ghost use Rattle.vast_session.specs.PackedFronts.{GaveFront, RunsPacked};
 ghost use Rattle.vast_c.specs.SeenPacked.{RunPacked, TellsPacked};
 ghost use Rattle.vast_c.specs.Internal.Seen.{IsToldOf, LeftBy, LeftIfAny};
 
 use crate::lines::first_line;
 use std::alloc::Global;
-use vast_list::{Fault, LineFault, LineResult, Session};
 use vast_script::StepFault;
+use vast_session::{Fault, LineFault, LineResult, Session};
 use xlsynth_vast::VastFileType;
 
 /// Why a line was not made, or a text not printed.

@@ -2,7 +2,7 @@
 
 use std::alloc::{AllocError, Global};
 use std::fmt::Write;
-use vast_list::ListLines;
+use vast_session::ListLines;
 use vast_talk::{LineWarning, list_warnings};
 use xlsynth_vast::VastFileType;
 

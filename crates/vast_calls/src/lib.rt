@@ -1,7 +1,7 @@
 //! Calls in lists: a line of a list, or a packed call, is read as a call, and one table says how each call is written.
 //!
 //! `docs/use/LISTS.md` has the form. [`read_line`] and [`unpacked`] read a call over the names and answers so far, which
-//! are [`Known`]; `vast_list` makes it.
+//! are [`Known`]; `vast_session` makes it.
 #![tactic(auto)]
 
 mod arguments;

@@ -11,18 +11,18 @@ use Rattle.vast_steps.specs.declared.step.Step.{Step}
 use Rattle.vast_script.specs.Outcome.{Made}
 use Rattle.vast_script.specs.Script.{Going, Run, call_of, gone_on, one_more, run}
 use Rattle.std.specs.Prelude.{IfOk, OnOk}
-use Rattle.vast_list.specs.declared.fault.Fault.{Fault}
+use Rattle.vast_session.specs.declared.fault.Fault.{Fault}
 use Rattle.vast_calls.specs.declared.line.Call.{Call}
 use Rattle.vast_calls.specs.declared.line.Call.TheVariants.{Step as StepCall}
-use Rattle.vast_list.specs.declared.questions.answered.Value.{Value}
-use Rattle.vast_list.specs.declared.session.LineResult.{LineResult}
-use Rattle.vast_list.specs.declared.session.LineResult.TheVariants.{Nothing, Step as StepGiven, Helper as HelperGiven, Answer as Answered}
-use Rattle.vast_list.specs.declared.session.Session.{Session}
+use Rattle.vast_session.specs.declared.questions.answered.Value.{Value}
+use Rattle.vast_session.specs.declared.session.LineResult.{LineResult}
+use Rattle.vast_session.specs.declared.session.LineResult.TheVariants.{Nothing, Step as StepGiven, Helper as HelperGiven, Answer as Answered}
+use Rattle.vast_session.specs.declared.session.Session.{Session}
 use Rattle.vast_calls.specs.CallArguments.{call_pieces}
 use Rattle.vast_calls.specs.CallNames.{call_name}
 use Rattle.vast_calls.specs.Lines.{LineKind, Passed, Asked, Helped, Stepped, call_words, is_call, is_call_line, line_arguments, line_kind, line_word}
 use Rattle.vast_calls.specs.Questions.{question_words}
-use Rattle.vast_list.specs.Session.{Calls, Gives, GivesAnswer, GivesCall, IsGivenBy, Takes}
+use Rattle.vast_session.specs.Session.{Calls, Gives, GivesAnswer, GivesCall, IsGivenBy, Takes}
 use Rattle.vast_calls.specs.Written.{AreWritten, meaning}
 use Rattle.vast_list.specs.Built.{Between, HasBuilt, IsBetween, Reading, ReadsCall, ReadsLine, ReadsLines, ReadsQuestion, nothing_read}
 use Rattle.vast_list.specs.Internal.Built.{TakesLine}

@@ -7,13 +7,13 @@ use Rattle.vast_literal.specs.declared.kind.VastFileType.{VastFileType}
 use Rattle.vast_list.specs.declared.json_line.Answers.{Answers}
 use Rattle.vast_list.specs.declared.output.Verdict.{Verdict}
 use Rattle.vast_list.specs.declared.output.Verdict.TheVariants.{Made, Refused, NotInForm}
-use Rattle.vast_list.specs.declared.session.Session.{Session}
+use Rattle.vast_session.specs.declared.session.Session.{Session}
 use Rattle.vast_list.specs.JsonLine.{EndsWithText, IsListJson}
 use Rattle.vast_list.specs.Internal.JsonLine.{AnswersOn, AreAnswers, EndsWithSession, maybe_json}
 use Rattle.vast_calls.specs.Lines.{BeginsWithDialect, line_texts}
 use Rattle.vast_list.specs.Output.{is_made}
 use Rattle.vast_list.proofs.Outputs.{lines-next}
-use Rattle.vast_list.specs.Session.{IsTextOf}
+use Rattle.vast_session.specs.Session.{IsTextOf}
 use Rattle.vast_calls.specs.Written.{meaning}
 
 -- the pieces of the end, one after the other

@@ -1,14 +1,8 @@
 pub mod Outputs
-pub mod Replied
-pub mod Sessions
-pub mod PackedSessions
-pub mod MadeSteps
 pub mod Built
 pub mod JsonLines
 pub mod TextLines
 pub mod Mapped
 pub mod UntitledLists
 pub mod PlainLists
-pub mod EndedLines
 pub mod Numbered
-pub mod Skipped

@@ -13,7 +13,7 @@ use Rattle.vast_list.specs.declared.tries.Tries.TheVariants.{Once}
 use Rattle.vast_calls.specs.Lines.{BeginsWithDialect}
 use Rattle.vast_list.specs.Origins.{IsMapped, text_of}
 use Rattle.vast_list.specs.Output.{is_made}
-use Rattle.vast_list.specs.Session.{IsTextOf}
+use Rattle.vast_session.specs.Session.{IsTextOf}
 use Rattle.vast_list.specs.Internal.Origins.{IsMapOfFile}
 use Rattle.vast_list.specs.Internal.Output.{IsAnswered}
 use Rattle.vast_list.proofs.Outputs.{list_text}

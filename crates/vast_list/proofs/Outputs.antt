@@ -1,22 +1,20 @@
 -- What is printed of a list.
-use Rattle.std.proofs.Common.{◌≡◌, ℕ, ◌+◌, ◌-◌, ◌<◌, arith, length, get_or, Bool, false, List, [], ◌∷◌, ◌++◌, take, drop, All, Option, Some, None, Bor, sym, ap, subst, ◌∙◌}
-use Rattle.std.proofs.lemmas.List.{map-append, take-append-drop, take_all, take_more, length-drop}
-use Rattle.std.proofs.lemmas.List.Elements.{All-push}
+use Rattle.std.proofs.Common.{◌≡◌, ℕ, ◌+◌, ◌-◌, ◌<◌, length, get_or, Bool, false, List, [], ◌++◌, take, Option, Some, None, Bor, sym, subst, ◌∙◌}
 use Rattle.std.specs.Prelude.{IsTrue, is_some}
 use Rattle.vast_literal.specs.declared.kind.VastFileType.{VastFileType}
 use Rattle.vast_list.specs.declared.answering.ListRun.{ListRun}
-use Rattle.vast_list.specs.declared.session.Session.{Session}
+use Rattle.vast_session.specs.declared.session.Session.{Session}
 use Rattle.vast_list.specs.declared.tries.Tries.{Tries}
 use Rattle.vast_core.specs.Bench.{Bench}
 use Rattle.vast_core.specs.FileTree.{tree}
 use Rattle.vast_list.specs.declared.output.Verdict.{Verdict}
 use Rattle.vast_list.specs.Built.{HasBuilt, IsListText}
 use Rattle.vast_list.specs.PackedLists.{IsPackedText, packed_front}
-use Rattle.vast_list.specs.Session.{IsNew, IsTextOf}
-use Rattle.vast_list.specs.Internal.PackedCalls.{RunsAll}
+use Rattle.vast_session.specs.Session.{IsNew, IsTextOf}
+use Rattle.vast_session.specs.PackedFronts.{RunsAll}
 use Rattle.vast_list.specs.Internal.Built.{TakesLine}
 use Rattle.vast_list.proofs.Built.{lines-more}
-use Rattle.vast_calls.specs.Lines.{BeginsWithDialect, Passed, dialect_word, line_kind, line_texts, without_return}
+use Rattle.vast_calls.specs.Lines.{BeginsWithDialect, line_texts}
 use Rattle.vast_list.specs.Output.{IsOutput, StopsAtFault, is_again, is_made}
 use Rattle.vast_list.specs.Internal.Output.{IsAnswered, IsDesign, IsFinished, IsReport, Prints, TakesOn}
 use Rattle.vast_calls.specs.Written.{meaning}
@@ -26,21 +24,6 @@ pub record IsAnswering (tries : Tries) (dialect : VastFileType) (lines : List (L
   pub trial : is_some answering.trial ≡ is_again tries
   pub stopped : StopsAtFault answering
   pub built : IsAnswered tries dialect lines answering
-
--- The lines of a list that stand after the first that is no comment.
-pub begins :
-    (lines first rest : List (ℕ × Bor (List ℕ))) (n : ℕ) (line : ℕ × Bor (List ℕ)) (behind : List (ℕ × Bor (List ℕ))) (dialect : VastFileType) → first ≡ lines → rest ≡ lines →
-    All (λ (l : List ℕ). line_kind l ≡ Passed) (line_texts (take n first)) → take (length rest - n) (drop n rest) ≡ line ∷ behind → without_return line.1.now ≡ dialect_word dialect →
-    BeginsWithDialect (line_texts lines) dialect (line_texts behind)
-begins lines first rest n line behind dialect f r passed left word =
-    let all : take (length lines - n) (drop n lines) ≡ drop n lines = take_all (length lines - n) (drop n lines) (omega (arith, length-drop n lines)) in
-    let begun : drop n lines ≡ line ∷ behind = sym all ∙ subst (λ (ls : List (ℕ × Bor (List ℕ))). take (length ls - n) (drop n ls) ≡ line ∷ behind) r left in (
-      line_texts (take n lines),
-      line.1.now,
-      subst (λ (ls : List (ℕ × Bor (List ℕ))). All (λ (l : List ℕ). line_kind l ≡ Passed) (line_texts (take n ls))) f passed,
-      word,
-      ap line_texts (sym (take-append-drop n lines) ∙ ap (λ (rest : List (ℕ × Bor (List ℕ))). take n lines ++ rest) begun) ∙ map-append (λ (l : ℕ × Bor (List ℕ)). l.1.now) (take n lines) (line ∷ behind),
-    )
 
 pub without_title :
     (title : Option (Bor (List ℕ))) (answering : ListRun) (verdict : Verdict) (output : List ℕ) → title ≡ None → IsDesign answering output → IsFinished title answering verdict output
@@ -75,15 +58,6 @@ pub packed_text :
     IsTextOf (tree now.file) text → IsPackedText input text
 packed_text input calls dialect first last now text is new runs same t =
     (dialect, calls, runs.0, first, last, is, new, runs.1, subst (λ (file : Bench). IsTextOf (tree file) text) same t)
-
--- The lines up to one more.
-pub texts-more : (lines : List (ℕ × Bor (List ℕ))) (i : ℕ) (line : ℕ × Bor (List ℕ)) → i < length lines → line ≡ get_or lines i line → line_texts (take (i + 1) lines) ≡ line_texts (take i lines) ++ line.1.now ∷ []
-texts-more lines i line l at = rw (take_more lines i line l, ← at) (map-append (λ (x : ℕ × Bor (List ℕ)). x.1.now) (take i lines) (line ∷ []))
-
-pub passed-more :
-    (lines : List (ℕ × Bor (List ℕ))) (i : ℕ) (line : ℕ × Bor (List ℕ)) → i < length lines → line ≡ get_or lines i line → All (λ (l : List ℕ). line_kind l ≡ Passed) (line_texts (take i lines)) →
-    line_kind line.1.now ≡ Passed → All (λ (l : List ℕ). line_kind l ≡ Passed) (line_texts (take (i + 1) lines))
-passed-more lines i line l at h k = rw (texts-more lines i line l at) (All-push (λ (l : List ℕ). line_kind l ≡ Passed) (line_texts (take i lines)) line.1.now h k)
 
 pub lines-next :
     (again : Bool) (dialect : VastFileType) (lines : List (ℕ × Bor (List ℕ))) (i : ℕ) (line : ℕ × Bor (List ℕ)) (old new : Session) → i < length lines → line ≡ get_or lines i line →

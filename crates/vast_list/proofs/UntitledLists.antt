@@ -7,7 +7,7 @@ use Rattle.std.specs.Prelude.{IfOk, IfSome, OnOk, is_some}
 use Rattle.std.specs.declared.alloc.AllocError.{AllocError}
 use Rattle.vast_literal.specs.declared.kind.VastFileType.{VastFileType}
 use Rattle.vast_list.specs.declared.answering.ListRun.{ListRun}
-use Rattle.vast_list.specs.declared.fault.LineFault.{LineFault}
+use Rattle.vast_session.specs.declared.fault.LineFault.{LineFault}
 use Rattle.vast_list.specs.declared.output.ListOutput.{ListOutput}
 use Rattle.vast_list.specs.declared.untitled.Stage.{Stage}
 use Rattle.vast_list.specs.declared.untitled.Stage.TheVariants.{Before, Behind, Astray}

@@ -12,16 +12,16 @@ use Rattle.vast_calls.specs.declared.line.Call.TheVariants.{Step as StepCall}
 use Rattle.vast_calls.specs.declared.names.Named.{Named}
 use Rattle.vast_calls.specs.declared.names.Named.TheVariants.{Handle}
 use Rattle.vast_calls.specs.declared.questions.Question.{Question}
-use Rattle.vast_list.specs.declared.questions.answered.Value.{Value}
-use Rattle.vast_list.specs.declared.session.Session.{Session}
+use Rattle.vast_session.specs.declared.questions.answered.Value.{Value}
+use Rattle.vast_session.specs.declared.session.Session.{Session}
 use Rattle.vast_calls.specs.CallArguments.{call_pieces}
 use Rattle.vast_calls.specs.CallNames.{call_name}
 use Rattle.vast_calls.specs.Lines.{BeginsWithDialect, LineKind, Passed, Asked, Helped, Stepped, call_words, line_arguments, line_kind, line_name, line_word}
 use Rattle.vast_calls.specs.Names.{IsEntered}
-use Rattle.vast_list.specs.Names.{value_named}
-use Rattle.vast_list.specs.Questions.{Asks}
+use Rattle.vast_session.specs.Names.{value_named}
+use Rattle.vast_session.specs.Questions.{Asks}
 use Rattle.vast_calls.specs.Questions.{IsQuestionOf}
-use Rattle.vast_list.specs.Session.{Calls, IsTextOf}
+use Rattle.vast_session.specs.Session.{Calls, IsTextOf}
 use Rattle.vast_calls.specs.Written.{AreWritten, meaning}
 
 -- Between two calls the file is the same; where lines are taken again that were refused memory, it may have nodes and

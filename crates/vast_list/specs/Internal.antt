@@ -1,9 +1,6 @@
 pub mod Output
-pub mod Session
-pub mod PackedCalls
 pub mod Built
 pub mod JsonLine
 pub mod PlainLists
 pub mod Origins
 pub mod Untitled
-pub mod Replies

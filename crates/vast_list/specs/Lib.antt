@@ -1,14 +1,8 @@
 pub mod Output
-pub mod Helpers
-pub mod Names
-pub mod Questions
-pub mod Session
-pub mod PackedCalls
 pub mod PackedLists
 pub mod Built
 pub mod JsonLine
 pub mod PlainLists
-pub mod Replies
 pub mod Origins
 pub mod Untitled
 pub mod Internal

@@ -1,35 +1,13 @@
 -- Packed lists: the form's version, the dialect, and calls.
-use Rattle.std.specs.Prelude.{◌≡◌, ◌==◌, ◌⊎◌, ℕ, zero, suc, Bool, false, List, [], ◌∷◌, ◌++◌, codes}
+use Rattle.std.specs.Prelude.{◌≡◌, ◌==◌, ℕ, Bool, false, List, [], ◌∷◌, ◌++◌, codes}
 use Rattle.std.specs.List.{starts_with}
 use Rattle.vast_core.specs.FileTree.{tree}
 use Rattle.vast_literal.specs.declared.kind.VastFileType.{VastFileType}
 use Rattle.vast_literal.specs.declared.kind.VastFileType.TheVariants.{Verilog, SystemVerilog}
-use Rattle.vast_list.specs.declared.session.LineResult.{LineResult}
-use Rattle.vast_list.specs.declared.session.Session.{Session}
+use Rattle.vast_session.specs.declared.session.Session.{Session}
+use Rattle.vast_session.specs.PackedFronts.{RunsPacked}
+use Rattle.vast_session.specs.Session.{IsNew, IsTextOf}
 use Rattle.vast_list.specs.Built.{IsListText}
-use Rattle.vast_list.specs.declared.fault.Fault.{Fault}
-use Rattle.vast_list.specs.PackedCalls.{GivesPacked, IsToldOfPacked}
-use Rattle.vast_list.specs.Session.{IsNew, IsTextOf}
-use Rattle.vast_calls.specs.PackedCalls.{IsCallSplit}
-
--- The call at the front gave this, and that stands after it.
-abbrev pub GivesFront : (old new : Session) → (bytes : List ℕ) → LineResult → (behind : List ℕ) → Type 0
-GivesFront old new bytes given behind = (call : List ℕ) × IsCallSplit bytes call behind × GivesPacked old new call given
-
--- The call at the front gave something, and this stands after it.
-abbrev pub GaveFront : (old new : Session) → (bytes behind : List ℕ) → Type 0
-GaveFront old new bytes behind = (given : LineResult) × GivesFront old new bytes given behind
-
--- What is told of the call at the front; or of no bytes, where none stands there.
-abbrev pub IsToldOfFront : (old new : Session) → (number : ℕ) → (bytes : List ℕ) → Fault → Type 0
-IsToldOfFront old new number bytes fault =
-    ((call : List ℕ) × (behind : List ℕ) × IsCallSplit bytes call behind × IsToldOfPacked old new number call fault) ⊎ IsToldOfPacked old new number [] fault
-
--- So many calls stand at the front, one after another, and this after them; they lead a session from this to that.
-abbrev pub RunsPacked : ℕ → (old new : Session) → (bytes behind : List ℕ) → Type 0
-RunsPacked zero old new bytes behind = (behind ≡ bytes) × (new ≡ old)
-RunsPacked (suc n) old new bytes behind =
-    (rest : List ℕ) × (next : Session) × (given : LineResult) × GivesFront old next bytes given rest × RunsPacked n next new rest behind
 
 -- Zero and `vast`: no list of text begins so.
 abbrev pub packed_sign : List ℕ

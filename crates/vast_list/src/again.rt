@@ -5,14 +5,13 @@
 ghost use Rattle.std.specs.Prelude.{OnOk, true};
 ghost use Rattle.vast_list.specs.Internal.Built.{TakesLine};
 
-use crate::fault::Fault;
-use crate::session::{LineResult, Session};
 use crate::tried;
 use crate::tries::Tries;
 use std::alloc::{AllocError, Global};
 use std::str;
 use vast_literal::VastFault;
 use vast_script::Answer;
+use vast_session::{Fault, LineResult, Session};
 use xlsynth_vast::{VastFile, VastFileType, VastModule};
 
 /// What can be seen of a file.

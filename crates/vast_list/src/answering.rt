@@ -7,15 +7,13 @@ ghost use Rattle.vast_list.specs.Output.{is_again, is_made};
 ghost use Rattle.vast_list.specs.Internal.Output.{Prints, TakesOn};
 
 use crate::again::Rerun;
-use crate::fault::{Fault, LineFault};
 use crate::output::{ListOutput, MOST_FAULTS, Verdict};
-use crate::questions::answered::Value;
-use crate::session::{LineResult, Session};
 use crate::tried;
 use crate::tries::Tries;
 use std::alloc::{AllocError, Global};
 use vast_calls::is_step;
 use vast_script::StepFault;
+use vast_session::{Fault, LineFault, LineResult, Session, Value};
 use xlsynth_vast::VastFileType;
 
 /// A list whose lines are taken one by one.

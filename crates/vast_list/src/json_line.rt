@@ -6,18 +6,17 @@ ghost use Rattle.vast_list.specs.JsonLine.{EndsWithText, IsListJson};
 ghost use Rattle.vast_list.specs.Internal.JsonLine.{AnswersOn, AreAnswers, EndsWithSession, maybe_json};
 ghost use Rattle.vast_calls.specs.Lines.{line_texts};
 ghost use Rattle.vast_list.specs.Output.{is_made};
-ghost use Rattle.vast_list.specs.Session.{IsTextOf};
+ghost use Rattle.vast_session.specs.Session.{IsTextOf};
 
 use crate::answering::ListReport;
-use crate::fault::{Fault, LineFault};
-use crate::lines::ListLines;
-use crate::output::{Verdict, dialect_line};
-use crate::reply::{push_fault, push_given};
-use crate::session::{LineResult, Session};
+use crate::output::Verdict;
 use crate::tries::Tries;
 use std::alloc::{AllocError, Global};
 use std::fmt::Write;
 use vast_calls::push_json_text;
+use vast_session::{
+    Fault, LineFault, LineResult, ListLines, Session, dialect_line, push_fault, push_given,
+};
 use xlsynth_vast::VastFileType;
 
 /// A list in the answering.
@@ -150,7 +149,7 @@ fn push_taken(text: &mut String, answers: &Answers) -> Result<(), AllocError> {
 }
 
 /// The file's text; `None` where anything was at fault, as the text may be itself.
-#[tactic(auto, using(crate::proofs::Sessions::emitted))]
+#[tactic(auto, using(vast_session::proofs::Sessions::emitted))]
 fn printed(session: &Session, told: &mut ListReport) -> Result<Option<String>, AllocError>
     ensures made { IfOk result (λ printed. IsTrue (is_made told.new.verdict) →
         IsTrue (is_made told.old.verdict)) }

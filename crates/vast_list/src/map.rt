@@ -7,15 +7,13 @@ ghost use Rattle.vast_list.specs.Internal.Output.{IsAnswered};
 ghost use Rattle.vast_list.specs.Internal.Origins.{IsMapOfFile};
 
 use crate::answering::ListRun;
-use crate::fault::Fault;
-use crate::lines::ListLines;
 use crate::origins::Origins;
-use crate::output::{Verdict, dialect_line};
-use crate::session::Session;
+use crate::output::Verdict;
 use crate::tries::Tries;
 use std::alloc::{AllocError, Global};
 use vast_calls::{split_line, text_of};
 use vast_literal::VastFault;
+use vast_session::{Fault, ListLines, Session, dialect_line};
 use xlsynth_vast::VastFileType;
 
 /// The lines of the file's text, each with the number of the line of the list whose call wrote it, and how the list was

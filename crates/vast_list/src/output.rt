@@ -1,23 +1,19 @@
 //! What is printed of a list.
 
-ghost use Rattle.std.specs.Prelude.{◌≡◌, ◌≤◌, ◌++◌, IfOk, IfSome, IsTrue, None, OnOk, Some, false, is_some, length, take, string_bytes, All};
+ghost use Rattle.std.specs.Prelude.{◌≡◌, ◌++◌, IfOk, IfSome, IsTrue, None, OnOk, Some, false, is_some, string_bytes};
 ghost use Rattle.vast_core.specs.FileTree.{tree};
-ghost use Rattle.vast_calls.specs.Lines.{BeginsWithDialect, Passed, line_kind, line_texts};
+ghost use Rattle.vast_calls.specs.Lines.{BeginsWithDialect, line_texts};
 ghost use Rattle.vast_list.specs.Output.{header_line, is_again, is_made, IsOutput, IsPrinted};
 ghost use Rattle.vast_list.specs.Internal.Output.{EndsWithFile, IsAnswered, IsDesign, IsFinished, IsReport};
-ghost use Rattle.vast_list.specs.Session.{IsTextOf};
+ghost use Rattle.vast_session.specs.Session.{IsTextOf};
 
 use crate::again::Rerun;
 use crate::answering::{ListReport, ListRun, append};
-use crate::fault::{Fault, LineFault};
-use crate::line::{dialect_missing, dialect_of};
-use crate::lines::{HEADER, ListLines};
-use crate::session::Session;
 use crate::tried;
 use crate::tries::Tries;
 use std::alloc::{AllocError, Global};
 use std::mem::replace;
-use vast_calls::is_empty_line;
+use vast_session::{Fault, HEADER, LineFault, ListLines, Session, dialect_line};
 use xlsynth_vast::VastFileType;
 
 /// How a list was taken.
@@ -90,43 +86,7 @@ pub(crate) fn titled_output(
     }
 }
 
-/// How many of the first lines are blank or comments.
-fn empty_lines(lines: &[(usize, &[u8])]) -> usize
-    ensures bound { result ≤ length lines.now }
-    ensures passed { All (λ line. line_kind line ≡ Passed) (line_texts (take result lines.now)) }
-{
-    let mut count = 0usize;
-    for (_, line) in lines {
-        if !is_empty_line(line) {
-            return count;
-        }
-        count += 1;
-    }
-    count
-}
-
-/// The dialect, and the lines after the one that names it, which is the first that is neither blank nor a comment.
-///
-/// # Errors
-/// Where that line names none or there is no such line, and out of memory.
-pub fn dialect_line<'l, 'a>(
-    alloc: Global,
-    list: &'l ListLines<'a>,
-) -> Result<(VastFileType, &'l [(usize, &'a [u8])]), Fault>
-    ensures { IfOk result (λ found.
-        BeginsWithDialect (line_texts list.now.lines.items) found.0 (line_texts found.1.now)) }
-{
-    let lines = &list.lines[empty_lines(&list.lines)..];
-    match lines.split_first() {
-        Some(((number, line), behind)) => {
-            let dialect = dialect_of(alloc, *number, line)?;
-            Ok((dialect, behind))
-        }
-        None => Err(dialect_missing(alloc, list.number)),
-    }
-}
-
-/// The same, once more where memory was refused and the tries allow it.
+/// What [`dialect_line`] finds, once more where memory was refused and the tries allow it.
 fn dialect_again<'l, 'a>(
     alloc: Global,
     tries: Tries,

@@ -5,14 +5,12 @@ ghost use Rattle.vast_calls.specs.Lines.{line_texts};
 ghost use Rattle.vast_list.specs.Output.{IsPrinted};
 ghost use Rattle.vast_list.specs.PackedLists.{IsPackedText, IsTwin};
 
-use crate::fault::{Fault, misread};
-use crate::lines::ListLines;
-use crate::output::{ListOutput, at_fault, dialect_line, packed_bytes, titled_output};
+use crate::output::{ListOutput, at_fault, packed_bytes, titled_output};
 use crate::packed_list::{packed_front, packed_output};
-use crate::session::Session;
 use crate::tries::Tries;
 use std::alloc::{AllocError, Global};
-use vast_calls::{Misfit, Problem, is_empty_line, pack_line, push_number};
+use vast_calls::{Problem, is_empty_line, pack_line, push_number};
+use vast_session::{Fault, ListLines, Session, dialect_line, problem_fault};
 
 /// The list in packed form, where its file's text is printed; else what is told of the list.
 ///
@@ -41,10 +39,7 @@ fn twin_of(alloc: Global, list: &ListLines<'_>, text: &Vec<u8>) -> Result<Vec<u8
     let packed = packed_output(alloc, &bytes)?;
     match &packed.output {
         Some(built) if is_same(built, text) => Ok(bytes),
-        _ => {
-            let problem = Problem::OtherFile;
-            Err(misread(alloc, list.number, "", "", Misfit { left: 0, problem }))
-        }
+        _ => { Err(problem_fault(alloc, list.number, Problem::OtherFile)) }
     }
 }
 
@@ -68,7 +63,7 @@ fn packed_lines(alloc: Global, list: &ListLines<'_>) -> Result<Vec<u8>, Fault> {
         if !is_empty_line(line) {
             call.clear();
             if let Err(misfit) = pack_line(session.known(), line, &mut call) {
-                return Err(misread(alloc, *number, "", "", misfit));
+                return Err(problem_fault(alloc, *number, misfit.problem));
             }
             push_number(&mut bytes, call.len())?;
             bytes.extend_from_slice(&call)?;

@@ -5,12 +5,11 @@ ghost use Rattle.vast_list.specs.Output.{IsPrinted};
 ghost use Rattle.vast_list.specs.PackedLists.{IsPackedText, is_packed_list, packed_front};
 
 use crate::answering::ListReport;
-use crate::fault::{Fault, mispacked};
 use crate::output::{ListOutput, at_fault, printed};
-use crate::session::Session;
 use crate::tries::Tries;
 use std::alloc::{AllocError, Global};
-use vast_calls::{Misfit, Problem};
+use vast_calls::Problem;
+use vast_session::{Fault, Session, problem_fault};
 use xlsynth_vast::VastFileType;
 
 /// What a packed list begins with; the version of its form and its dialect stand after it, a byte each.
@@ -41,11 +40,7 @@ pub fn packed_output(alloc: Global, input: &[u8]) -> Result<ListOutput, AllocErr
     ensures printed { IfOk result IsPrinted }
 {
     let Some((dialect, calls)) = packed_dialect(input) else {
-        let misfit = Misfit {
-            left: input.len(),
-            problem: Problem::NoVersion,
-        };
-        return match mispacked(alloc, 0, input.len(), "", misfit) {
+        return match problem_fault(alloc, 0, Problem::NoVersion) {
             Fault::Memory => Err(AllocError),
             Fault::Line(fault) => at_fault(alloc, Tries::Once, fault),
         };

@@ -9,15 +9,13 @@ ghost use Rattle.vast_list.specs.Untitled.{HasAnswered};
 ghost use Rattle.vast_list.specs.Internal.PlainLists.{IsToldNotPlain, IsToldPlain};
 
 use crate::answering::{ListReport, ListRun};
-use crate::fault::{Fault, write_on_a_line};
-use crate::lines::ListLines;
 use crate::map::may_write;
-use crate::output::{Verdict, dialect_line};
-use crate::session::Session;
+use crate::output::Verdict;
 use std::alloc::{AllocError, Global};
 use std::fmt;
 use std::fmt::Write;
 use vast_calls::{split_line, text_of};
+use vast_session::{Fault, ListLines, Session, dialect_line, write_on_a_line};
 use xlsynth_vast::VastFileType;
 
 /// Whether a list's file is plain (`VastFile::is_plain`).

@@ -7,12 +7,11 @@ ghost use Rattle.vast_list.specs.Untitled.{GoesOnTo, HasTaken, IsPrintedOf};
 ghost use Rattle.vast_list.specs.Internal.Untitled.{LeadsTo};
 
 use crate::answering::ListRun;
-use crate::fault::{Fault, LineFault};
-use crate::line::{dialect_missing, dialect_of};
 use crate::output::{ListOutput, at_fault, finished};
 use crate::tries::Tries;
 use std::alloc::{AllocError, Global};
-use vast_calls::is_empty_line;
+use vast_calls::{Problem, is_empty_line};
+use vast_session::{Fault, LineFault, dialect_of, problem_fault};
 
 /// A list without a title whose lines are taken as they come, and not kept: what is printed and told of it in the end is
 /// what [`list_output`](crate::list_output) prints and tells of all of them, with `Tries::Once`.
@@ -71,7 +70,7 @@ impl UntitledList {
     {
         let UntitledList { alloc, stage } = self;
         match stage {
-            Stage::Before => match dialect_missing(alloc, 1) {
+            Stage::Before => match problem_fault(alloc, 1, Problem::NoDialect) {
                 Fault::Memory => Err(AllocError),
                 Fault::Line(fault) => at_fault(alloc, Tries::Once, fault),
             },

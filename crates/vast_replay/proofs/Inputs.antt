@@ -14,7 +14,7 @@ use Rattle.vast_list.specs.PackedLists.{IsPackedText}
 use Rattle.vast_list.specs.Untitled.{GoesOnTo, HasTaken, IsPrintedOf}
 use Rattle.vast_list.specs.declared.output.ListOutput.{ListOutput}
 use Rattle.vast_list.specs.declared.untitled.UntitledList.{UntitledList}
-use Rattle.vast_list.proofs.EndedLines.{first_of_left, line_ended, none_in_both}
+use Rattle.vast_session.proofs.EndedLines.{first_of_left, line_ended, none_in_both}
 use Rattle.vast_replay.specs.declared.input.InputLines.{InputLines}
 use Rattle.vast_replay.specs.declared.input.ReadInput.{ReadInput}
 use Rattle.vast_replay.specs.declared.input.ReadInput.TheVariants.{Bytes, List as OneList}

@@ -11,9 +11,8 @@ ghost use Rattle.vast_replay.specs.Internal.Input.{GivesTextOf, HasRead, ReadsIn
 use std::alloc::{AllocError, Global};
 use std::io;
 use std::io::{Error, ErrorKind, Read};
-use vast_list::{
-    HEADER, ListLines, ListOutput, UntitledList, ended_line, is_packed_list, packed_output,
-};
+use vast_list::{ListOutput, UntitledList, is_packed_list, packed_output};
+use vast_session::{HEADER, ListLines, ended_line};
 
 /// What is read of an input.
 #[derive(Drop)]

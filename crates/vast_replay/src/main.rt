@@ -15,7 +15,8 @@ use outcome::Outcome;
 use session::answer_lines;
 use std::io::{BufReader, ErrorKind};
 use std::process::ExitCode;
-use vast_list::{Tries, calls_json, calls_text, tried};
+use vast_calls::{calls_json, calls_text};
+use vast_list::{Tries, tried};
 use vast_shell::{Failure, WordFault, ended, tell, with_words, write_whole};
 use words::{Request, requested};
 

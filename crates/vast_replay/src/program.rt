@@ -13,9 +13,10 @@ use std::fmt::Write as _;
 use std::io;
 use std::io::{Read, Write};
 use vast_list::{
-    ListLines, ListOutput, Plainness, Tries, Verdict, is_packed_list, json_with_map, list_json,
-    list_origins, list_output, list_plainness, pack_list, tried,
+    ListOutput, Plainness, Tries, Verdict, is_packed_list, json_with_map, list_json, list_origins,
+    list_output, list_plainness, pack_list, tried,
 };
+use vast_session::ListLines;
 use vast_shell::{Failure, ended, tell, write_whole};
 use vast_talk::{LineWarning, json_with_warnings, list_warnings};
 

@@ -1,13 +1,13 @@
 -- What is replied.
 use Rattle.std.proofs.Common.{◌≡◌, ℕ, List, [], ◌++◌, Option, Some, None, Result, Ok, Err, inl, inr, refl, ap, ◌∙◌, Bool, false, IsTrue, sym, ◌↔◌, append_assoc}
 use Rattle.std.specs.Prelude.{IfErr, IfOk, codes}
-use Rattle.vast_list.specs.declared.fault.Fault.{Fault}
-use Rattle.vast_list.specs.declared.fault.Fault.TheVariants.{Line, Memory}
-use Rattle.vast_list.specs.declared.session.LineResult.{LineResult}
-use Rattle.vast_list.specs.declared.session.Session.{Session}
+use Rattle.vast_session.specs.declared.fault.Fault.{Fault}
+use Rattle.vast_session.specs.declared.fault.Fault.TheVariants.{Line, Memory}
+use Rattle.vast_session.specs.declared.session.LineResult.{LineResult}
+use Rattle.vast_session.specs.declared.session.Session.{Session}
 use Rattle.vast_calls.specs.Lines.{HasKind, NamesDialect, Passed}
-use Rattle.vast_list.specs.Replies.{AddsGiven, fault_object, line_front}
-use Rattle.vast_list.specs.Session.{IsCausedBy, IsGivenBy, IsNumbered, IsOfLine, NamesCall, Takes}
+use Rattle.vast_session.specs.Replies.{AddsGiven, fault_object, line_front}
+use Rattle.vast_session.specs.Session.{IsCausedBy, IsGivenBy, IsNumbered, IsOfLine, NamesCall, Takes}
 use Rattle.vast_talk.specs.Replies.{AsksForWarnings, IsTaken, RepliesLinted, RepliesToFirst, RepliesToLine}
 use Rattle.vast_talk.specs.Internal.Replies.{AddsAnswer, AddsReply, AddsFault}
 use Rattle.vast_talk.specs.Internal.Warnings.{AddsWarningList}

@@ -2,7 +2,7 @@
 use Rattle.std.specs.Prelude.{◌≡◌, ℕ, length, Option, Some, None, Bool, true, false, ⊤}
 use Rattle.vast_lint.specs.Lint.{counted}
 use Rattle.vast_talk.specs.declared.linted.SessionLint.{SessionLint}
-use Rattle.vast_list.specs.declared.session.Session.{Session}
+use Rattle.vast_session.specs.declared.session.Session.{Session}
 use Rattle.vast_talk.specs.declared.repl.Repl.{Repl}
 
 -- The lint has counted so many answers, and has a name of a call for each.

@@ -3,15 +3,15 @@ use Rattle.std.specs.Prelude.{◌≡◌, ◌⊎◌, ℕ, ◌==◌, List, ◌++�
 use Rattle.std.specs.List.{starts_with}
 use Rattle.std.specs.Str.Lossy.{utf8_lossy}
 use Rattle.vast_literal.specs.declared.kind.VastFileType.{VastFileType}
-use Rattle.vast_list.specs.declared.fault.Fault.{Fault}
-use Rattle.vast_list.specs.declared.fault.Fault.TheVariants.{Line, Memory}
-use Rattle.vast_list.specs.declared.fault.LineFault.{LineFault}
-use Rattle.vast_list.specs.declared.session.LineResult.{LineResult}
-use Rattle.vast_list.specs.declared.session.Session.{Session}
+use Rattle.vast_session.specs.declared.fault.Fault.{Fault}
+use Rattle.vast_session.specs.declared.fault.Fault.TheVariants.{Line, Memory}
+use Rattle.vast_session.specs.declared.fault.LineFault.{LineFault}
+use Rattle.vast_session.specs.declared.session.LineResult.{LineResult}
+use Rattle.vast_session.specs.declared.session.Session.{Session}
 use Rattle.vast_talk.specs.declared.warnings.LineWarning.{LineWarning}
 use Rattle.vast_calls.specs.Lines.{HasKind, NamesDialect, Passed, dialect_word, without_return}
-use Rattle.vast_list.specs.Replies.{IsGivenObject, fault_object, line_front, text_member}
-use Rattle.vast_list.specs.Session.{IsCausedBy, IsGivenBy, IsNew, IsNumbered, NamesCall, Takes}
+use Rattle.vast_session.specs.Replies.{IsGivenObject, fault_object, line_front, text_member}
+use Rattle.vast_session.specs.Session.{IsCausedBy, IsGivenBy, IsNew, IsNumbered, NamesCall, Takes}
 use Rattle.vast_talk.specs.Warnings.{IsWarningList}
 use Rattle.vast_talk.specs.declared.repl.Repl.{Repl}
 

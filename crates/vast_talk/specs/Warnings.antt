@@ -1,7 +1,7 @@
 -- What a lint tells of calls, as JSON. A text is a list of bytes.
 use Rattle.std.specs.Prelude.{◌≡◌, ℕ, ◌≢◌, ◌⊎◌, List, [], ◌∷◌, ◌++◌, codes, Option, Some, None, String, string_bytes}
 use Rattle.std.specs.declared.alloc.Global.{Global}
-use Rattle.vast_list.specs.Replies.{line_front, text_member}
+use Rattle.vast_session.specs.Replies.{line_front, text_member}
 use Rattle.vast_talk.specs.declared.warnings.LineWarning.{LineWarning}
 
 -- The text that shows a warning, if one does.

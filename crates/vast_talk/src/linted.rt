@@ -2,17 +2,18 @@
 
 ghost use Rattle.std.specs.Prelude.{◌≡◌, ◌+◌, IfErr, OnOk, false, length};
 ghost use Rattle.vast_lint.specs.Lint.{counted};
-ghost use Rattle.vast_list.specs.Session.{IsOfLine};
+ghost use Rattle.vast_session.specs.Session.{IsOfLine};
 ghost use Rattle.vast_talk.specs.Linted.{HasCounted, IsLevel};
 ghost use Rattle.vast_talk.specs.Replies.{IsTaken};
 ghost use Rattle.vast_talk.specs.Internal.Linted.{is_memory};
 
 use crate::LineWarning;
 use std::alloc::{AllocError, Global};
+use vast_calls::name_of_call;
 use vast_lint::{Lint, Warning};
-use vast_list::{Fault, LineResult, Session, name_of_call};
 use vast_literal::VastFault;
 use vast_script::{Step, one};
+use vast_session::{Fault, LineResult, Session};
 use xlsynth_vast::{Expr, VastFileType};
 
 /// What is kept of the calls of a session, to tell what they print that is no SystemVerilog or Verilog, or that a tool

@@ -13,9 +13,8 @@ use crate::linted::{SessionLint, take_linted};
 use crate::warnings::{push_last, push_warnings};
 use std::alloc::{AllocError, Global};
 use std::fmt::Write;
-use vast_list::{
-    Fault, HEADER, Session, dialect_of, is_empty_line, push_fault, push_given, push_json_text,
-};
+use vast_calls::{is_empty_line, push_json_text};
+use vast_session::{Fault, HEADER, Session, dialect_of, push_fault, push_given};
 use xlsynth_vast::VastFileType;
 
 /// What a session with a lint is asked for what its end would tell.

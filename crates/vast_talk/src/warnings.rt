@@ -9,10 +9,9 @@ use crate::linted::{SessionLint, take_linted};
 use std::alloc::{AllocError, Global};
 use std::fmt;
 use std::fmt::Write;
+use vast_calls::{is_step, push_json_text};
 use vast_lint::Rule;
-use vast_list::{
-    Fault, ListLines, Session, dialect_line, is_step, push_json_text, write_on_a_line,
-};
+use vast_session::{Fault, ListLines, Session, dialect_line, write_on_a_line};
 
 /// A form that a line's call prints, which is no SystemVerilog or Verilog, or which a tool refuses.
 #[derive(Drop)]

@@ -1,6 +1,6 @@
 use Rattle.std.proofs.Common.{◌≡◌, ℤ, T, w32, to_z, of_z, Some, sym, ap, subst, ◌∙◌}
 use Rattle.std.specs.Prelude.{Option, is_none, unwrap_or}
-use Rattle.vast_list.specs.Session.{IsSame}
+use Rattle.vast_session.specs.Session.{IsSame}
 use Rattle.vast_c.specs.Seen.{IsSameTree, status_of}
 use Rattle.vast_c.specs.declared.kept.Cause.{Cause}
 use Rattle.vast_c.specs.declared.kept.Cause.TheVariants.{Memory}

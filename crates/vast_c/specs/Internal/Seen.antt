@@ -1,7 +1,7 @@
 -- Beside `specs/Seen.antt`: what private contracts and proofs say, and no public one.
 use Rattle.std.specs.Prelude.{◌≡◌, Option, None, Some}
-use Rattle.vast_list.specs.Session.{IsSame}
-use Rattle.vast_list.specs.declared.session.Session.{Session}
+use Rattle.vast_session.specs.Session.{IsSame}
+use Rattle.vast_session.specs.declared.session.Session.{Session}
 use Rattle.vast_c.specs.declared.kept.Cause.{Cause}
 use Rattle.vast_c.specs.declared.kept.Cause.TheVariants.{Refused, Condition, Form, Memory}
 use Rattle.vast_c.specs.declared.kept.ToldFault.{ToldFault}

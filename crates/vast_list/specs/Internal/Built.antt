@@ -1,8 +1,8 @@
 -- Beside `specs/Built.antt`: what private contracts and proofs say, and no public one.
 use Rattle.std.specs.Prelude.{◌≡◌, ℕ, Bool, List}
-use Rattle.vast_list.specs.declared.session.LineResult.{LineResult}
-use Rattle.vast_list.specs.declared.session.Session.{Session}
-use Rattle.vast_list.specs.Session.{Gives, IsGivenBy, IsSameKnown}
+use Rattle.vast_session.specs.declared.session.LineResult.{LineResult}
+use Rattle.vast_session.specs.declared.session.Session.{Session}
+use Rattle.vast_session.specs.Session.{Gives, IsGivenBy, IsSameKnown}
 use Rattle.vast_list.specs.Built.{Between}
 
 -- One line is taken; where memory was refused it, once more.

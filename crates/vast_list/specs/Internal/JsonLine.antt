@@ -6,12 +6,12 @@ use Rattle.vast_literal.specs.declared.kind.VastFileType.{VastFileType}
 use Rattle.vast_list.specs.declared.json_line.Answers.{Answers}
 use Rattle.vast_list.specs.declared.output.Verdict.{Verdict}
 use Rattle.vast_list.specs.declared.output.Verdict.TheVariants.{Made, Refused, NotInForm}
-use Rattle.vast_list.specs.declared.session.Session.{Session}
+use Rattle.vast_session.specs.declared.session.Session.{Session}
 use Rattle.vast_list.specs.Built.{HasBuilt}
 use Rattle.vast_list.specs.Internal.Built.{TakesLine}
 use Rattle.vast_calls.specs.Json.{json_text}
 use Rattle.vast_list.specs.Output.{is_made}
-use Rattle.vast_list.specs.Session.{IsTextOf}
+use Rattle.vast_session.specs.Session.{IsTextOf}
 use Rattle.vast_list.specs.JsonLine.{EndsWithText}
 
 -- A text as JSON has it, or null.

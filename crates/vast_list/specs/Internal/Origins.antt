@@ -8,7 +8,7 @@ use Rattle.vast_list.specs.declared.origins.TextLine.{TextLine}
 use Rattle.vast_list.specs.declared.output.Verdict.{Verdict}
 use Rattle.vast_list.specs.Origins.{text_of}
 use Rattle.vast_list.specs.Output.{is_made}
-use Rattle.vast_list.specs.Session.{IsTextOf}
+use Rattle.vast_session.specs.Session.{IsTextOf}
 
 -- One of the lines has this origin.
 abbrev pub IsOriginIn : (lines : List TextLine) → (origin : ℕ) → Type 0

@@ -5,11 +5,11 @@ use Rattle.vast_core.specs.FileTree.{tree}
 use Rattle.vast_literal.specs.declared.kind.VastFileType.{VastFileType}
 use Rattle.vast_list.specs.declared.answering.ListRun.{ListRun}
 use Rattle.vast_list.specs.declared.output.Verdict.{Verdict}
-use Rattle.vast_list.specs.declared.session.Session.{Session}
+use Rattle.vast_session.specs.declared.session.Session.{Session}
 use Rattle.vast_list.specs.declared.tries.Tries.{Tries}
 use Rattle.vast_list.specs.Built.{HasBuilt}
 use Rattle.vast_list.specs.Internal.Built.{TakesLine}
-use Rattle.vast_list.specs.Session.{IsTextOf}
+use Rattle.vast_session.specs.Session.{IsTextOf}
 use Rattle.vast_list.specs.Output.{StopsAtFault, header_line, is_again, is_made}
 
 -- What is printed and told goes on; the session is the same, and what was at fault stays so.

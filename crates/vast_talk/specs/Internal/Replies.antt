@@ -1,8 +1,8 @@
 -- Beside `specs/Replies.antt`: what private contracts and proofs say, and no public one.
 use Rattle.std.specs.Prelude.{◌≡◌, ℕ, List, ◌++◌, Result, Ok, Err, ⊤}
-use Rattle.vast_list.specs.declared.fault.Fault.{Fault}
-use Rattle.vast_list.specs.declared.fault.Fault.TheVariants.{Line, Memory}
-use Rattle.vast_list.specs.Replies.{fault_object}
+use Rattle.vast_session.specs.declared.fault.Fault.{Fault}
+use Rattle.vast_session.specs.declared.fault.Fault.TheVariants.{Line, Memory}
+use Rattle.vast_session.specs.Replies.{fault_object}
 use Rattle.vast_talk.specs.Replies.{IsWarned, IsWarningsAnswer}
 
 -- The text grew by an object that tells this; or it is as before, and the fault's object tells it.

@@ -3,7 +3,7 @@ use Rattle.std.proofs.lemmas.Option.{IfSome_then}
 use Rattle.std.proofs.lemmas.Result.{IfOk-weaker}
 use Rattle.vast_core.specs.FileTree.{tree}
 use Rattle.vast_list.specs.PackedLists.{IsPackedText}
-use Rattle.vast_list.specs.Session.{IsTextOf}
+use Rattle.vast_session.specs.Session.{IsTextOf}
 use Rattle.vast_list.specs.declared.output.ListOutput.{ListOutput}
 use Rattle.vast_list.proofs.Outputs.{packed_text}
 use Rattle.vast_list.proofs.packed_list.packed_output.Goals as goal

@@ -1,6 +1,6 @@
 use Rattle.std.proofs.Common.{ℕ, sym, subst}
-use Rattle.vast_list.specs.PackedLists.{IsToldOfFront}
-use Rattle.vast_list.specs.declared.session.Session.{Session}
+use Rattle.vast_session.specs.PackedFronts.{IsToldOfFront}
+use Rattle.vast_session.specs.declared.session.Session.{Session}
 use Rattle.vast_c.specs.Internal.Seen.{LeftBy}
 use Rattle.vast_c.specs.Seen.{more_lines}
 use Rattle.vast_c.proofs.PackedSteps.{told_packed}

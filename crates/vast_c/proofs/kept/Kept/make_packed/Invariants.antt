@@ -1,5 +1,5 @@
 use Rattle.std.proofs.Common.{◌≡◌, ◌+◌, ◌≤◌, None, length}
-use Rattle.vast_list.specs.PackedLists.{RunsPacked}
+use Rattle.vast_session.specs.PackedFronts.{RunsPacked}
 use Rattle.vast_c.specs.Seen.{more_lines}
 use Rattle.vast_c.proofs.kept.Kept.make_packed.Given as goal
 

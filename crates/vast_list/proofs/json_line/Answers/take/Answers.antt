@@ -3,7 +3,7 @@ use Rattle.std.specs.Prelude.{IsTrue, OnOk}
 use Rattle.std.specs.declared.alloc.AllocError.{AllocError}
 use Rattle.vast_list.specs.declared.answering.ListReport.{ListReport}
 use Rattle.vast_list.specs.declared.json_line.Answers.{Answers}
-use Rattle.vast_list.specs.declared.session.Session.{Session}
+use Rattle.vast_session.specs.declared.session.Session.{Session}
 use Rattle.vast_list.specs.Internal.Built.{TakesLine}
 use Rattle.vast_list.specs.Internal.JsonLine.{AnswersOn}
 use Rattle.vast_list.specs.Output.{is_made}
