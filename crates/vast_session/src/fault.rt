@@ -103,6 +103,7 @@ pub(crate) fn misread(alloc: Global, line: usize, text: &str, call: &str, misfit
 }
 
 /// The fault of a line, or of a list that begins there, of which no more is told than the problem.
+#[tactic(auto, using(crate::proofs::Sessions::dialects))]
 pub fn problem_fault(alloc: Global, line: usize, problem: Problem) -> Fault
     ensures { IsOfLine line result }
 {
