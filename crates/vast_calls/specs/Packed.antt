@@ -43,6 +43,10 @@ module _ (skipped : List ℕ) where
   ArePacked [] bytes = bytes ≡ []
   ArePacked (piece ∷ pieces) bytes = (front : List ℕ) × (more : List ℕ) × IsPacked piece front × ArePacked pieces more × (bytes ≡ front ++ more)
 
+-- The number was appended.
+abbrev pub EndsWithNumber : (old new : List ℕ) → ℕ → Type 0
+EndsWithNumber old new n = (digits : List ℕ) × IsPackedNumber digits n × (new ≡ old ++ digits)
+
 -- The number stands at the front, and this after it.
 abbrev pub IsNumberFront : (bytes : List ℕ) → ℕ → (behind : List ℕ) → Type 0
 IsNumberFront bytes n behind = (front : List ℕ) × IsPackedNumber front n × (bytes ≡ front ++ behind)

@@ -1,7 +1,7 @@
 //! Numbers, texts and words of packed calls.
 
-ghost use Rattle.std.specs.Prelude.{◌≡◌, ◌<◌, IfSome, map};
-ghost use Rattle.vast_calls.specs.Packed.{IsFolded, choice_words, IsNumberFront};
+ghost use Rattle.std.specs.Prelude.{◌≡◌, ◌<◌, IfSome, OnOk, map};
+ghost use Rattle.vast_calls.specs.Packed.{EndsWithNumber, IsFolded, choice_words, IsNumberFront};
 
 use crate::problem::Problem;
 use std::alloc::AllocError;
@@ -140,25 +140,25 @@ pub(crate) fn unfolded(number: usize) -> i64
 }
 
 /// What the number with a sign is as one without.
-pub(crate) fn folded(number: i64) -> usize {
-    let twice = (number.unsigned_abs() as usize).wrapping_mul(2);
+pub(crate) fn folded(number: i64) -> usize
+    ensures { IsFolded number result }
+{
     if number < 0 {
-        twice.wrapping_sub(1)
+        (number.unsigned_abs() - 1) as usize * 2 + 1
     } else {
-        twice
+        number as usize * 2
     }
 }
 
-/// Appends the number.
-pub fn push_number(bytes: &mut Vec<u8>, number: usize) -> Result<(), AllocError> {
+/// Appends the number, in as few digits as it has.
+pub fn push_number(bytes: &mut Vec<u8>, number: usize) -> Result<(), AllocError>
+    ensures { OnOk result (EndsWithNumber bytes.old.items bytes.new.items number) }
+{
     let mut left = number;
-    for _ in 1..MOST_DIGITS {
-        if left < 128 {
-            break;
-        }
+    while left >= 128 {
         bytes.push((left % 128) as u8 + 128)?;
         left /= 128;
     }
-    bytes.push((left % 128) as u8)?;
+    bytes.push(left as u8)?;
     Ok(())
 }

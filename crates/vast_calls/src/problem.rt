@@ -1,5 +1,8 @@
 //! Why a line is not in the form.
 
+ghost use Rattle.std.specs.Prelude.{◌≡◌};
+ghost use Rattle.vast_calls.specs.declared.problem.Problem.TheVariants.{Memory};
+
 use std::alloc::{AllocError, AllocFailed};
 use std::fmt;
 
@@ -107,6 +110,8 @@ pub struct Misfit {
 }
 
 impl From<AllocError> for Misfit {
+    ghost from_gives = { λ _ misfit. misfit ≡ record { left = 0; problem = Memory } };
+
     fn from(_error: AllocError) -> Misfit {
         Misfit {
             left: 0,
@@ -116,6 +121,8 @@ impl From<AllocError> for Misfit {
 }
 
 impl<T: Drop> From<AllocFailed<T>> for Misfit {
+    ghost from_gives = { λ _ misfit. misfit ≡ record { left = 0; problem = Memory } };
+
     fn from(_failed: AllocFailed<T>) -> Misfit {
         Misfit {
             left: 0,
