@@ -13,6 +13,7 @@ use Rattle.vast_list.specs.PackedLists.{IsPackedText, packed_front}
 use Rattle.vast_session.specs.Session.{IsNew, IsTextOf}
 use Rattle.vast_session.specs.PackedFronts.{RunsAll}
 use Rattle.vast_list.specs.Internal.Built.{TakesLine}
+use Rattle.vast_session.proofs.Dialects.{texts-more}
 use Rattle.vast_list.proofs.Built.{lines-more}
 use Rattle.vast_calls.specs.Lines.{BeginsWithDialect, line_texts}
 use Rattle.vast_list.specs.Output.{IsOutput, StopsAtFault, is_again, is_made}

@@ -14,7 +14,7 @@ use Rattle.vast_list.specs.Untitled.{HasAnswered}
 use Rattle.vast_list.specs.Internal.Output.{TakesOn}
 use Rattle.vast_list.specs.Internal.PlainLists.{IsMadePlain, IsToldNotPlain, IsToldPlain}
 use Rattle.vast_calls.specs.Written.{meaning}
-use Rattle.vast_list.proofs.Outputs.{texts-more}
+use Rattle.vast_session.proofs.Dialects.{texts-more}
 use Rattle.vast_list.proofs.UntitledLists.{answered-more, answered_first}
 
 -- Lines that were taken, with nothing at fault, build what there is.

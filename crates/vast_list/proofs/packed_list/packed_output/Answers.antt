@@ -18,5 +18,5 @@ returns-in-Ok-clause-text c =
     (λ (made : ListOutput). IfSome made.output (λ output. IsPackedText input output.items))
     (λ made printed. IfSome_then made.output printed
     (λ output is. packed_text input c.in-Some.calls.now c.in-Some.dialect c.new-session.result c.packed_calls.new.self left output.items c.in-Some.ensures (new.file, new.answers, new.names, new.skipped)
-    c.in-Ok.ensures c.forget_answers.ensures is))
+    c.in-Ok.ensures c.forget_answers.ensures.file is))
     c.printed.ensures.text
