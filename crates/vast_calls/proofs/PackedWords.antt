@@ -10,7 +10,7 @@ use Rattle.vast_calls.specs.declared.arguments.Known.{Known}
 use Rattle.vast_calls.specs.declared.arguments.Rest.TheVariants.{Packed}
 use Rattle.vast_calls.specs.declared.packed.Choice.{Choice}
 use Rattle.vast_calls.specs.CallArguments.{Count, Items, Number, Piece, Place, Text, Word}
-use Rattle.vast_calls.specs.Packed.{ArePacked, EndsWithNumber, IsFolded, IsPacked, IsPackedNumber, choice_words, IsNumberFront}
+use Rattle.vast_calls.specs.Packed.{ArePacked, IsFolded, IsPacked, IsPackedNumber, choice_words, IsNumberFront}
 use Rattle.vast_calls.specs.Written.{IsPlaceOf, meaning}
 use Rattle.vast_calls.specs.Internal.Written.{AreIn, Begins, GoesNumber, Reads, is_packed, rest_left}
 use Rattle.vast_calls.proofs.Words.{reads_word}
@@ -34,22 +34,6 @@ pub record IsWriting (old now : List ℕ) (number left : ℕ) : Type 0 where
   pub digits : List ℕ
   pub now_is : now ≡ old ++ digits
   pub number_is : (more : List ℕ) → IsPackedNumber more left → IsPackedNumber (digits ++ more) number
-
-pub writing-none : (old : List ℕ) (number : ℕ) → IsWriting old old number number
-writing-none old number = record { digits = []; now_is = sym (append-nil old); number_is = λ more h. h }
-
-pub writing-more :
-    (old now next : List ℕ) (number left byte rest : ℕ) → IsWriting old now number left → 128 ≤ byte → left ≡ (byte - 128) + 128 * rest → next ≡ now ++ byte ∷ [] →
-    IsWriting old next number rest
-writing-more old now next number left byte rest w b l e = record {
-  digits = w.digits ++ byte ∷ [];
-  now_is = e ∙ ap (λ (xs : List ℕ). xs ++ byte ∷ []) w.now_is ∙ append_assoc old w.digits (byte ∷ []);
-  number_is = λ more h. subst (λ (xs : List ℕ). IsPackedNumber xs number) (sym (append_assoc w.digits (byte ∷ []) more)) (w.number_is (byte ∷ more) (inr (rest, b, h, l)));
-}
-
-pub writing-last : (old now next : List ℕ) (number left : ℕ) → IsWriting old now number left → left < 128 → next ≡ now ++ left ∷ [] → EndsWithNumber old next number
-writing-last old now next number left w b e =
-    (w.digits ++ left ∷ [], w.number_is (left ∷ []) (inl (b, refl, refl)), e ∙ ap (λ (xs : List ℕ). xs ++ left ∷ []) w.now_is ∙ append_assoc old w.digits (left ∷ []))
 
 one_packed : (skipped : List ℕ) (p : Piece) (bytes : List ℕ) → IsPacked skipped p bytes → ArePacked skipped (p ∷ []) bytes
 one_packed skipped p bytes h = (bytes, [], h, refl, sym (append-nil bytes))
